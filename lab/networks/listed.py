@@ -2,7 +2,7 @@
 import difflib
 import re
 import unicodedata
-from collections.abc import Iterable
+from collections.abc import Collection
 from dataclasses import dataclass, field
 from functools import lru_cache
 
@@ -85,13 +85,13 @@ def note_alike(found: Listed) -> None:
             return
 
 
-def nearest(name: str, known: Iterable[str]) -> str:
+def nearest(name: str, known: Collection[str]) -> str:
     """The known name that is written most alike, as a question."""
     alike = difflib.get_close_matches(name, known, n=1, cutoff=0.7)
     return f", is it {shown(alike[0])}?" if alike else ""
 
 
-def known_nodes(found: Listed, known: set[str], path: str, table: str) -> None:
+def known_nodes(found: Listed, known: Collection[str], path: str, table: str) -> None:
     """Refuses a node of a text that isn't a site of a table."""
     named = [(end, where) for where, *ends in found.edges for end in ends]
     for node, where in named if found.nodes is None else found.nodes.items():

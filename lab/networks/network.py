@@ -19,7 +19,7 @@ from lab.networks.numbering import renumbered
 from lab.networks.options import commands_for, stated_by
 from lab.networks.plan_text import clashes, read_plan
 from lab.networks.reading import form_read, listed_of, made_of
-from lab.networks.stated import Elsewhere, Unsaid, decoded
+from lab.networks.stated import Unsaid, decoded
 from lab.networks.texts import text_of
 from lab.words import bytes_at, in_words, one_line, source_of, text_at, write
 from lab.wrong import Wrong
@@ -202,7 +202,7 @@ def main(words):
     doers = {"read": was_read, "tell": was_told, "number": was_numbered, "names": was_named}
     try:
         text = doers[given.command](given) if given.command in doers else made(given)
-    except (Unsaid, Elsewhere) as why:
+    except Unsaid as why:
         raise Wrong(commands_for(why, ["network", words[0]], words[1:])) from None
     write(given, text)
     return 0

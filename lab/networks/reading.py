@@ -25,10 +25,9 @@ def listed_of(data: bytes, name: str, form: str, stated: Stated = Stated()) -> L
 
 def dimacs_of(data: bytes, name: str, stated: Stated) -> Network:
     """The network of a text in the DIMACS format, of which nothing is mended, not even its line ends."""
-    encoding = stated.encoding
-    if encoding is None:
+    if stated.encoding is None:
         return network_of(data, name)
-    return read_network(letters_of(data, name, encoding, encoding), name)
+    return read_network(letters_of(data, name, stated.encoding), name)
 
 
 def listed_in(network: Network, name: str) -> Listed:

@@ -25,18 +25,18 @@ TITLES = {
     "y_m": ("y_m", "northing"),
 }
 # What may be between the fields of a row.
-MARKS = {",": "commas", ";": "semicolons", "\t": "tabs"}
-COLUMNS = ("column", "columns")
+MARKS = ",;\t"
 NUMBER = re.compile(r"-?[0-9]{1,20}(?:[.,][0-9]{1,20})?(?:[eE][+-]?[0-9]{1,2})?")
 # No coordinate is as great, in metres or kilometres.
 FARTHEST = 1e9
 Row = tuple[int, list[str]]
+# The line of the first row, the titles of the columns, and the mark between the fields.
+Begin = tuple[int, list[str], str]
 
 
 def rows_of(text: str, name: str, mark: str) -> Iterator[Row]:
     """(line, fields) of each row in which something is; blanks around a field don't belong to it."""
-    lines = io.StringIO(text)
-    reader = csv.reader(lines, delimiter=mark, strict=True, skipinitialspace=True)
+    reader = csv.reader(io.StringIO(text), delimiter=mark, strict=True, skipinitialspace=True)
     line = 1
     try:
         for row in reader:
@@ -48,11 +48,18 @@ def rows_of(text: str, name: str, mark: str) -> Iterator[Row]:
         raise wrong_line(name, line, f"no row of a table: {why}") from None
 
 
+def words_of(columns: dict[str, str]) -> list[str]:
+    """The words of a command line that state what columns are called."""
+    text = io.StringIO()
+    csv.writer(text, lineterminator="").writerow(f"{one}={title}" for one, title in columns.items())
+    return ["--columns", text.getvalue()]
+
+
 class Table:
     """The rows of a table, as (line, {column: field}).
 
     Each of the `wanted` columns has to be there, each of the `others` may be. The mark between the fields is the one
-    with which the first row has all wanted columns. `notes` names the columns that aren't read.
+    with which the first row has all wanted columns.
     """
 
     def __init__(
@@ -64,174 +71,135 @@ class Table:
         others: tuple[str, ...] = (),
     ):
         self.name, self.stated = name, stated
-        self.wanted, self.others = wanted, others
-        firsts = self.first_rows(text)
-        self.mark = self.mark_of(firsts)
-        line, first = firsts[self.mark]
-        self.first, self.heading = first, line
-        self.columns = self.single_columns(line, first)
-        rows = list(rows_of(text, name, self.mark))
-        if stated.has_heading:
-            rows.pop(0)
-        if not rows:
-            raise wrong_line(name, line, "it has no row below its heading")
-        self.rows = [self.read(row, len(first)) for row in rows]
-        self.notes = self.notes_of(first)
+        self.wanted, self.named = wanted, stated.columns
+        if not stated.has_heading and not set(wanted) & self.named.keys():
+            self.named = {column: str(at) for at, column in enumerate(wanted, 1)} | self.named
+        self.line, self.titles, self.mark = self.begin(text)
+        self.columns = {}
+        for column in (*wanted, *others):
+            places = self.places_of(column, self.titles)
+            if len(places) > 1:
+                raise self.doubled(column, [self.titles[at] for at in places])
+            if places:
+                self.columns[column] = places[0]
+            elif column in self.named:
+                raise self.missing(self.line, column)
+        rows = islice(rows_of(text, name, self.mark), int(stated.has_heading), None)
+        self.rows = [self.read(row) for row in rows]
+        if not self.rows:
+            raise self.wrong(self.line, "it has no row below its heading")
 
     def wrong(self, line: int, what: str) -> Wrong:
         return wrong_line(self.name, line, what)
 
-    # Columns.
+    def begin(self, text: str) -> Begin:
+        """The first row with the mark with which it has all wanted columns."""
+        firsts = self.first_rows(text)
+        fits = [first for first in firsts if self.has_wanted(first[1])]
+        if len(fits) > 1:
+            what = "several marks may be between the fields: put a heading above"
+            raise self.wrong(fits[0][0], what)
+        if not fits:
+            line, titles, _ = max(firsts, key=lambda first: len(first[1]))
+            raise self.unsaid(line, titles)
+        return fits[0]
 
-    def first_rows(self, text: str) -> dict[str, Row]:
-        """The first row of the text with each mark that is in its first line, and with which it is a row."""
-        begin = text.lstrip("\n ").partition("\n")[0]
-        marks = [mark for mark in MARKS if mark in begin] or [","]
-        firsts: dict[str, Row] = {}
-        fault = Wrong(f"{self.name}: it has no row")
-        for mark in marks:
+    def first_rows(self, text: str) -> list[Begin]:
+        """The first row with each mark that is in the first line, and with which it is a row."""
+        first_line = text.lstrip("\n ").partition("\n")[0]
+        found, fault = [], Wrong(f"{self.name}: it has no row")
+        for mark in [mark for mark in MARKS if mark in first_line] or [","]:
             try:
-                firsts.update((mark, row) for row in islice(rows_of(text, self.name, mark), 1))
+                for line, first in islice(rows_of(text, self.name, mark), 1):
+                    found.append((line, self.titles_of(line, first), mark))
             except Wrong as why:
                 fault = why
-        if not firsts:
+        if not found:
             raise fault
-        return firsts
+        return found
 
-    def places_of(self, column: str, first: list[str]) -> list[int]:
-        """Where a column is, by its title or, without a heading, by its number."""
-        if not self.stated.has_heading:
-            number = self.number_of(column)
-            return [number - 1] if 1 <= number <= len(first) else []
-        stated = self.stated.columns.get(column)
-        if stated in first:
-            return [at for at, title in enumerate(first) if title == stated]
-        titles = TITLES[column] if stated is None else (stated.strip().casefold(),)
-        return [at for at, title in enumerate(first) if title.casefold() in titles]
+    def has_wanted(self, titles: list[str]) -> bool:
+        return all(self.places_of(column, titles) for column in self.wanted)
 
-    def number_of(self, column: str) -> int:
-        """Which column of a table without a heading it is, from 1; 0 if it is none."""
-        stated = self.stated.columns.get(column)
-        if stated is not None:
-            return int(stated) if re.fullmatch("[0-9]{1,4}", stated) else 0
-        if self.are_numbered() or column in self.others:
-            return 0
-        return self.wanted.index(column) + 1
-
-    def are_numbered(self) -> bool:
-        """Whether the user states which column is which of a table without a heading."""
-        return any(column in self.stated.columns for column in self.wanted)
-
-    def mark_of(self, firsts: dict[str, Row]) -> str:
-        """The mark with which the first row has all wanted columns."""
-        fitting = [
-            mark
-            for mark, (_, first) in firsts.items()
-            if all(self.places_of(column, first) for column in self.wanted)
-        ]
-        if len(fitting) == 1:
-            return fitting[0]
-        if fitting:
-            line, _ = firsts[fitting[0]]
-            marks = in_words(MARKS[mark] for mark in fitting)
-            raise self.wrong(line, f"{marks} may be between the fields: put a heading above")
-        raise self.unsaid(max(firsts.values(), key=lambda row: len(row[1])))
-
-    def single_columns(self, line: int, first: list[str]) -> dict[str, int]:
-        """Where each column is that the table has."""
-        if not self.stated.has_heading and self.is_heading(first):
+    def titles_of(self, line: int, first: list[str]) -> list[str]:
+        """The titles of the columns; without a heading their numbers."""
+        if self.stated.has_heading:
+            return first
+        small = [title.casefold() for title in first]
+        if all(any(title in small for title in TITLES[column]) for column in self.wanted):
             raise self.wrong(line, "it is a heading, and --no-heading says that there is none")
-        columns: dict[str, int] = {}
-        for column in (*self.wanted, *self.others):
-            places = self.places_of(column, first)
-            if len(places) > 1:
-                raise self.doubled(line, column, [first[at] for at in places])
-            if places:
-                columns[column] = places[0]
-            elif column in self.stated.columns:
-                raise self.missing(line, column)
-        for column, at in columns.items():
-            names = [other for other in columns if columns[other] == at]
-            if names[0] != column:
-                raise self.wrong(line, f"one column is stated as {in_words(names)}")
-        return columns
+        return [str(at) for at in range(1, len(first) + 1)]
+
+    def places_of(self, column: str, titles: list[str]) -> list[int]:
+        """Where a column may be."""
+        named = self.named.get(column)
+        if named in titles:
+            return [at for at, title in enumerate(titles) if title == named]
+        known = TITLES[column] if named is None else (named.strip().casefold(),)
+        return [at for at, title in enumerate(titles) if title.casefold() in known]
+
+    # What is refused.
 
     def missing(self, line: int, column: str) -> Wrong:
-        title = shown(self.stated.columns[column])
-        return self.wrong(line, f"there is no column `{title}`, which is stated as {column}")
+        return self.wrong(
+            line, f"there is no column {shown(self.named[column])}, which is {column}"
+        )
 
-    def title_of(self, column: str) -> str:
-        """What a column is called here, as --columns has it."""
-        at = self.columns[column]
-        return self.first[at] if self.stated.has_heading else str(at + 1)
-
-    def is_heading(self, first: list[str]) -> bool:
-        """Whether a row has a standard title of each wanted column."""
-        titles = [title.casefold() for title in first]
-        return all(any(title in titles for title in TITLES[column]) for column in self.wanted)
-
-    def doubled(self, line: int, column: str, titles: list[str]) -> Wrong:
+    def doubled(self, column: str, titles: list[str]) -> Wrong:
         """The refusal of a heading with two columns that may be meant."""
         if len(set(titles)) < len(titles):
-            return self.wrong(line, f"two columns are called {shown(titles[0])}: rename one")
-        what = self.wrong(line, f"{in_words(map(shown, titles))} may each be the column {column}")
+            return self.wrong(self.line, f"two columns are called {shown(titles[0])}: rename one")
+        what = f"{in_words(map(shown, titles))} may each be the column {column}"
         choices = [
-            ({"columns": {column: title}}, f"the column {column} is {shown(title)}")
+            (words_of({column: title}), f"the column {column} is {shown(title)}")
             for title in titles
         ]
-        return Unsaid(str(what), choices)
+        return Unsaid(str(self.wrong(self.line, what)), choices)
 
-    def unsaid(self, row: Row) -> Wrong:
+    def unsaid(self, line: int, first: list[str]) -> Wrong:
         """The refusal of a first row that doesn't have all wanted columns."""
-        line, first = row
-        wanted = f"{COLUMNS[len(self.wanted) > 1]} {in_words(self.wanted)}"
-        named = [column for column in self.wanted if column in self.stated.columns]
-        for column in named:
-            if not self.places_of(column, first):
+        columns = in_words(self.wanted)
+        for column in self.wanted:
+            if column in self.named and not self.places_of(column, first):
                 return self.missing(line, column)
         if not self.stated.has_heading:
-            has = "--columns has to have the numbers of the" if named else "too few fields for the"
-            return self.wrong(line, f"{has} {wanted}")
-        what = self.wrong(line, f"no heading with the {wanted}: `{shown(','.join(first))}`")
-        titles = tuple(title for title in first if title and first.count(title) == 1)
-        if named or len(titles) < len(self.wanted):
+            return self.wrong(line, f"--columns has to have the number of each of {columns}")
+        what = self.wrong(line, f"no heading with {columns}: `{shown(','.join(first))}`")
+        titles = [title for title in first if title and first.count(title) == 1]
+        if len(titles) < len(self.wanted) or set(self.wanted) & self.named.keys():
             return what
-        return Unsaid(str(what), self.headings(titles, wanted), self.wanted, titles)
-
-    def headings(self, titles: tuple[str, ...], wanted: str) -> list[tuple[dict, str]]:
-        """What a first row without standard titles may be."""
-        columns = dict(zip(self.wanted, titles))
-        said = in_words(f"{column} is {shown(title)}" for column, title in columns.items())
-        return [
-            ({"columns": columns}, f"it is a heading, in which {said}"),
-            ({"has_heading": False}, f"it is a row, and begins with the {wanted}"),
+        meant = dict(zip(self.wanted, titles))
+        said = in_words(f"{column} is {shown(title)}" for column, title in meant.items())
+        choices = [
+            (words_of(meant), f"it is a heading, in which {said}"),
+            (["--no-heading"], f"it is a row, and begins with {columns}"),
         ]
+        return Unsaid(str(what), choices, self.wanted, titles)
 
     # Rows.
 
-    def read(self, row: Row, width: int) -> tuple[int, dict[str, str]]:
+    def read(self, row: Row) -> tuple[int, dict[str, str]]:
         line, fields = row
-        if fields == self.first and self.stated.has_heading:
+        if fields == self.titles and self.stated.has_heading:
             raise self.wrong(line, "the heading a second time")
-        if len(fields) != width:
-            raise self.wrong(
-                line, f"{counted(len(fields), 'field')}, and the first row has {width}"
-            )
+        if len(fields) != len(self.titles):
+            count = counted(len(fields), "field")
+            raise self.wrong(line, f"{count}, and the first row has {len(self.titles)}")
         return line, {column: fields[at] for column, at in self.columns.items()}
 
-    def notes_of(self, first: list[str]) -> list[str]:
-        """What is said of columns that aren't read."""
-        read = self.columns.values()
-        titles = first if self.stated.has_heading else [""] * len(first)
+    def unread(self, read: set[str] | None = None) -> list[str]:
+        """A note of the columns that aren't read."""
+        places = {at for column, at in self.columns.items() if read is None or column in read}
         left = [
-            shown(title) or f"column {at + 1}" for at, title in enumerate(titles) if at not in read
+            shown(title) if self.stated.has_heading and title else f"column {at + 1}"
+            for at, title in enumerate(self.titles)
+            if at not in places
         ]
         return [f"columns that aren't read: {', '.join(left)}"] if left else []
 
     def number(self, line: int, field: str) -> float:
         """A number with a point, or with a comma if commas don't separate the fields."""
-        has_comma = "," in field
-        if not NUMBER.fullmatch(field) or has_comma and self.mark == ",":
+        if not NUMBER.fullmatch(field) or self.mark == "," in field:
             raise self.wrong(line, f"no number, or one with thousands: `{shown(field)}`")
         number = float(field.replace(",", "."))
         if abs(number) >= FARTHEST:

@@ -1,13 +1,15 @@
 """The calls on networks: what there is, examples, files, networks that are made, and layouts."""
 import base64
 import os
+from argparse import ArgumentParser
 from math import isqrt
 
 from lab.definitions.programs import PROGRAMS
 from lab.networks.kinds import KINDS
 from lab.networks.network_text import read_network, stem
+from lab.networks.options import add_form, add_stated, stated_by
 from lab.networks.reading import read_any
-from lab.networks.stated import FORMS, Stated, Unsaid, form_of
+from lab.networks.stated import Unsaid, form_of
 from lab.networks.texts import text_of
 from lab.pictures.pages import net_of
 from lab.pictures.places import places_of
@@ -64,24 +66,35 @@ def example(asked, _tell):
 
 
 def file_read(asked, _tell):
-    """A file that was dropped on the page, or the page's question if something of it isn't stated."""
+    """A file that was dropped on the page, or the page's question if something of it isn't stated.
+
+    What is stated are the words of a command line.
+    """
     name = str(asked["name"])[:MOST_NAME]
-    stated = stated_asked(asked.get("stated") or {})
     try:
+        words = map(str, asked.get("stated") or [])
+        stated = stated_by(command_line().parse_args(list(words)))
         form = form_of(name, name, stated)
         return shown(*read_any(base64.b64decode(asked["data"]), name, form, stated))
     except Unsaid as why:
-        choices = [{"stated": choice, "means": means} for choice, means in why.choices]
-        return {"unsaid": why.what, "choices": choices, "wanted": why.wanted, "titles": why.titles}
+        choices = [{"stated": words, "means": means} for words, means in why.choices]
+        asks = {"choices": choices, "wanted": why.wanted, "titles": why.titles}
+        return {"unsaid": str(why), **asks}
 
 
-def stated_asked(said) -> Stated:
-    """What the page states of a file."""
-    form, encoding = said.get("form"), said.get("encoding")
-    if form not in (None, *FORMS):
-        raise Wrong("the page states a form that isn't read")
-    columns = {str(column): str(title) for column, title in (said.get("columns") or {}).items()}
-    return Stated(form, columns, said.get("has_heading") is not False, encoding and str(encoding))
+class Options(ArgumentParser):
+    """A parser that ends no process."""
+
+    def error(self, message):
+        raise Wrong(message)
+
+
+def command_line():
+    """The options that state what a file is."""
+    options = Options(add_help=False)
+    add_form(options)
+    add_stated(options)
+    return options
 
 
 def make(asked, _tell):

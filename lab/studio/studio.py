@@ -11,7 +11,7 @@ from lab.definitions.programs import PROGRAMS, program_at
 from lab.networks.named import network_bytes
 from lab.networks.options import commands_for
 from lab.networks.reading import form_read, read_any
-from lab.networks.stated import Elsewhere, Stated, Unsaid
+from lab.networks.stated import Stated, Unsaid
 from lab.studio.asked import OPENED
 from lab.studio.building import are_built
 from lab.studio.networks import shown
@@ -121,7 +121,7 @@ def opened(path):
     try:
         form = form_read(path, Stated())
         return read_any(network_bytes(path), called(path), form, Stated())
-    except (Unsaid, Elsewhere) as why:
+    except Unsaid as why:
         raise Wrong(
             commands_for(why, ["network", "read"], [path], " | forestlab studio -")
         ) from None

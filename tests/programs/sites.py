@@ -21,9 +21,8 @@ SITES = "site,lat,lon\nUlm,48.4,10\nAue,48.41,10\nHof,,\n"
 TABLES = (
     ("site\nUlm\nUlm\n", "", "line 3: a second site Ulm"),
     ("name,id\na,b\n", "", "line 1: name and id may each be the column site"),
-    ("site,lat\nUlm,1\n", "", "line 1: places are in lat and lon, and no column is lon"),
+    ("site,lat\nUlm,1\n", "", "no site has a place, so --reach joins none"),
     ("site,x,y\nUlm,1,2\n", "", "no site has a place"),
-    ("site,x_km,y_km,lat,lon\nUlm,1,2,3,4\n", "", "line 1: places are in lat and lon, or in x_km"),
     ("site,lat,lon\nUlm,100.5,48\n", "", "line 2: no latitude and longitude in degrees"),
     ("site,lat,lon\nUlm,48.1,\n", "", "line 2: no number"),
     ('site,x_m,y_m\nUlm,"1,234",0\n', "", "line 2: no number, or one with thousands"),
@@ -82,7 +81,7 @@ class Sites(Case):
             "what is said",
             [line.partition(f"{sites}: ")[2] for line in said.decode().split("\n")[1:-1]],
             [
-                f"the places of {sites} are by lat and lon, and 1.11 km across",
+                "places are by lat and lon, and 1.11 km across",
                 "1 pair of sites less than 3 km apart, and 1 site without a place",
                 f"1 bar of {bars} of a channel outside the licence",
             ],

@@ -27,11 +27,6 @@ ASKED = (
     ({"a.txt": "source,target\nUlm,Aue\n", "s.csv": "Ort\nUlm\nAue\n"}, "a.txt --sites s.csv", 1),
     ({"s.csv": "Ort,x_m,y_m\nUlm,0,0\nAue,9,9\n"}, "--sites s.csv --reach 1", 1),
     ({"s.csv": "name,id,x_m,y_m\nUlm,Aue,0,0\nAue,Ulm,9,9\n"}, "--sites s.csv --reach 1", 2),
-    (
-        {"s.csv": "site,x_m,y_m,lat,lon\nUlm,0,0,48,10\nAue,9,9,48,10\n"},
-        "--sites s.csv --reach 1",
-        2,
-    ),
     ({"a.csv": "source,target\nUlm,Aue\n", "b.csv": "Ort,Kanal\nUlm,3\n"}, "a.csv --bars b.csv", 1),
     (
         {"a.csv": "source,target\nUlm,Aue\n", "l.csv": "Kanal,Name\n6,x\n11,y\n"},

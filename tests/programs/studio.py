@@ -251,7 +251,7 @@ class Memory(Server):
 
 
 class Answers(Server):
-    def opened(self, name, text, **stated):
+    def opened(self, name, text, *stated):
         """What is answered to a file that is dropped on the page."""
         data = base64.b64encode(text.encode()).decode()
         return self.answer("read", name=name, data=data, stated=stated)
@@ -261,14 +261,14 @@ class Answers(Server):
         table = "a,b\nOslo,Ulm\n"
         asked = self.opened("x.txt", table)["answer"]
         self.same("its form is asked", len(asked["choices"]), 3)
-        asked = self.opened("x.txt", table, **asked["choices"][0]["stated"])["answer"]
+        asked = self.opened("x.txt", table, *asked["choices"][0]["stated"])["answer"]
         self.same("its columns are asked", asked["titles"], ["a", "b"])
-        columns = dict(zip(asked["wanted"], asked["titles"]))
-        got = self.opened("x.txt", table, form="pairs", columns=columns)["answer"]
+        words = ("--as", "pairs", "--columns", '"source=a","target=b"')
+        got = self.opened("x.txt", table, *words)["answer"]
         self.same("it is read", (got["edges"], got["nodes"][0]["name"]), ([[1, 2]], "Oslo"))
-        got = self.opened("x.csv", table, has_heading=False)["answer"]
+        got = self.opened("x.csv", table, "--no-heading")["answer"]
         self.same("without a heading", got["edges"], [[1, 2], [3, 4]])
-        got = self.opened("the text", TRIANGLE, form="dimacs")["answer"]
+        got = self.opened("the text", TRIANGLE, "--as", "dimacs")["answer"]
         self.same("the page's own text", got["edges"], [[1, 2], [1, 3], [2, 3]])
         for name, text, said in (
             ("x.col", "p edge 2 1\ne 1 3\n", "F5"),
@@ -277,9 +277,9 @@ class Answers(Server):
         ):
             got = self.opened(name, text)
             self.note(f"{name} is refused", said in got.get("wrong", ""), got)
-        for stated in ({"form": "text"}, {"columns": 7}, {"columns": {"x": 1}, "form": "json"}):
-            got = self.opened("x.csv", table, **stated)
-            self.note(f"stated as {stated}: an answer", set(got) & {"answer", "wrong"}, got)
+        for words in (["--as", "text"], ["--columns", "x=1"], ["--sites", "x"], [7]):
+            got = self.opened("x.csv", table, *words)
+            self.note(f"stated as {words}", "wrong" in got, got)
 
     def test_answers(self):
         lessons = self.answer("hello")["answer"]["lessons"]

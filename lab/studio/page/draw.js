@@ -135,8 +135,8 @@ tabs.draw = {
 };
 
 // Files.
-// `stated` is what is said of the file beside its ending; `name` is that of the network.
-export async function openFile(file, stated = {}, name = null) {
+// `stated` has the words of a command line that say what the file is; `name` is that of the network.
+export async function openFile(file, stated = [], name = null) {
   by("unsaid").hidden = true;
   if (file.size > 4e6) return wrong("That file is larger than the studio reads.");
   const bytes = new Uint8Array(await file.arrayBuffer());
@@ -152,12 +152,9 @@ export async function openFile(file, stated = {}, name = null) {
 }
 // Nothing is guessed: what isn't said of a file is asked. Of a table without standard titles any columns may be meant.
 function askWhat(file, stated, name, {unsaid, choices, wanted, titles}) {
-  const say = (means, more) => {
+  const say = (means, words) => {
     const button = html("button", means);
-    button.onclick = () => {
-      const said = more();
-      openFile(file, {...stated, ...said, columns: {...stated.columns, ...said.columns}}, name);
-    };
+    button.onclick = () => openFile(file, [...stated, ...words()], name);
     return button;
   };
   const columns = wanted.map(column => {
@@ -167,12 +164,13 @@ function askWhat(file, stated, name, {unsaid, choices, wanted, titles}) {
     label.append(choice);
     return label;
   });
-  const chosen = () => Object.fromEntries(columns.map(one => [one.lastChild.name, one.lastChild.value]));
+  const quoted = ({name, value}) => `"${(name + "=" + value).replaceAll('"', '""')}"`;
+  const chosen = () => ["--columns", columns.map(one => quoted(one.lastChild)).join(",")];
   if (seen.tab !== "draw") go("draw");
   by("unsaid").hidden = false;
   by("unsaidwhat").textContent = `${unsaid}. Say what it is:`;
   by("unsaidchoices").replaceChildren(...choices.map(({stated: more, means}) => say(means, () => more)));
-  if (columns.length) by("unsaidchoices").append(...columns, say("read these", () => ({columns: chosen()})));
+  if (columns.length) by("unsaidchoices").append(...columns, say("read these", chosen));
 }
 function download(words, name) {
   const link = html("a", null, {href: URL.createObjectURL(new Blob([words], {type: "text/plain"})), download: name});
@@ -212,7 +210,7 @@ by("tidy").onclick = () => asks("tidy", {network: text()}, "laying it out", ({no
   stage.fit();
   show();
 });
-by("apply").onclick = () => openFile(new File([by("text").value], "the text"), {form: "dimacs"}, net.name);
+by("apply").onclick = () => openFile(new File([by("text").value], "the text"), ["--as", "dimacs"], net.name);
 by("file").onchange = () => { if (by("file").files[0]) openFile(by("file").files[0]); by("file").value = ""; };
 by("save").onclick = () => download(text(), (net.name || "network") + ".col");
 
