@@ -49,9 +49,10 @@ between:
               in degrees, or x_km and y_km, or x_m (easting) and y_m (northing); identifier
   bars        site and channel
   channels    channel
---columns says which columns are meant if they are called otherwise. With --no-heading
-they are the first of those named here, or those whose numbers --columns has. In a form of
-networkx --columns site=KEY is the key by which nodes are named.
+Of places the first two columns of this list that are there count. --columns says which
+columns are meant if they are called otherwise. With --no-heading they are the first ones,
+in the order of this list, or those whose numbers --columns has. Nodes of a form of networkx
+are named by their label, if each has one of its own, or by their name, or by their id.
 
 With a table of sites the nodes are its sites, in its order, and each end of a pair has to
 be one of them.""",

@@ -10,7 +10,6 @@ from lab.networks.channels import channels_asked, file_in, is_stated
 from lab.networks.codes import code_of, tell_code
 from lab.networks.command_line import command_line
 from lab.networks.describe import facts, warnings
-from lab.networks.foreign import READERS
 from lab.networks.kinds import KINDS
 from lab.networks.listed import Listed
 from lab.networks.named import network_at, network_bytes, path_of
@@ -112,8 +111,6 @@ def refuse_options(given, form):
     columns = set()
     if form == "pairs":
         columns.update(tables.PAIRS)
-    if form in READERS:
-        columns.add("site")
     for path, more in (
         (given.sites, tables.SITES),
         (given.bars, tables.BARS),
@@ -123,7 +120,7 @@ def refuse_options(given, form):
     others = sorted(given.stated.columns.keys() - columns)
     if others:
         given.refuse(f"--columns: nothing that is read here has a column {in_words(others)}")
-    if not given.stated.has_heading and not columns - {"site"}:
+    if not given.stated.has_heading and not columns:
         given.refuse("--no-heading: no table is read here")
 
 
