@@ -7,32 +7,29 @@ from lab.networks.table import NUMBER, TITLES
 from lab.words import counted
 from lab.wrong import Wrong, wrong_line
 
-BLANKS = " \t"
-BETWEEN = re.compile("[ \t]+")
-DATA = re.compile(r"\{.*\}")
 TABLE = "a table is read --as pairs"
 NO_NAME = re.compile('[,;"]')
+BETWEEN = re.compile("[ \t]+")
+# Two nodes, and after them nothing, a number, or data in braces.
+EDGE = re.compile(rf"([^ \t]+)[ \t]+([^ \t]+)(?:[ \t]+(?:({NUMBER.pattern})|(\{{.*\}})))?")
 
 
-def rows_below_comments(
-    text: str, name: str, begins_free: bool = False
-) -> tuple[list[tuple[int, str]], list[str]]:
-    """(line, what it has) of the lines in which something is, and a note of the comments, which come before them.
+def rows_below(text: str, name: str, comment: str) -> tuple[list[tuple[int, str]], list[str]]:
+    """(line, what it has) of the lines in which something is, and a note of the comments before them.
 
-    A comment is `#`, alone or with a blank after it. With `begins_free` the first line may have anything after it.
+    A comment is `#`, alone or with a blank after it; in the first line it is what fits `comment`.
     """
     rows: list[tuple[int, str]] = []
     comments = 0
     for line, raw in enumerate(text.split("\n"), 1):
-        row = raw.strip(BLANKS)
+        row = raw.strip(" \t")
         if not row.startswith("#"):
             rows += [(line, row)] if row else []
-        elif rows:
-            raise wrong_line(name, line, f"comments come before all rows: `{shown(row)}`")
-        elif row == "#" or row.startswith("# ") or line == 1 and begins_free:
-            comments += 1
+        elif rows or not re.fullmatch(comment if line == 1 else "#( .*)?", row):
+            what = "a comment comes before all rows, and has a blank after its #"
+            raise wrong_line(name, line, f"{what}: `{shown(row)}`")
         else:
-            raise wrong_line(name, line, f"a comment has a blank after its #: `{shown(row)}`")
+            comments += 1
     if not rows:
         raise Wrong(f"{name}: it has no row")
     said = counted(comments, "line that begins", "lines that begin")
@@ -46,41 +43,27 @@ def node_of(word: str, name: str, line: int) -> str:
     return name_of(word, name, line)
 
 
-def shape_of(more: str) -> str:
-    """What comes after two nodes."""
-    if NUMBER.fullmatch(more):
-        return "a number"
-    if DATA.fullmatch(more):
-        return "data in braces"
-    return "more" if more else "nothing"
-
-
 def edges(text: str, name: str) -> Listed:
     """Two nodes a line, and after them nothing, a number, or data in braces, as after the first."""
-    rows, notes = rows_below_comments(text, name)
+    rows, notes = rows_below(text, name, "#( .*)?")
     found = Listed("edges", notes=notes)
-    first_shape = None
+    shapes = set()
     for line, row in rows:
-        one, other, more = (BETWEEN.split(row, 2) + ["", ""])[:3]
-        shape = shape_of(more)
-        first_shape = first_shape or shape
-        if not other or shape == "more":
-            raise wrong_line(
-                name, line, f"no two nodes, maybe with a number or {{data}}: `{shown(row)}`"
-            )
-        if shape != first_shape:
-            what = f"{shape} after two nodes, and {first_shape} in the first row: `{shown(row)}`"
-            raise wrong_line(name, line, what)
-        if not found.edges and is_heading(one, other):
+        parts = EDGE.fullmatch(row)
+        if not parts:
+            what = "no two nodes, maybe with a number or {data}"
+            raise wrong_line(name, line, f"{what}: `{shown(row)}`")
+        one, other, number, data = parts.groups()
+        shapes.add((number is None, data is None))
+        if len(shapes) > 1:
+            raise wrong_line(name, line, f"not as many words as in the rows before: `{shown(row)}`")
+        is_heading = one.casefold() in TITLES["source"] and other.casefold() in TITLES["target"]
+        if is_heading and not found.edges:
             raise wrong_line(name, line, f"it is a heading, and lines of nodes have none; {TABLE}")
         found.edges.append((line, node_of(one, name, line), node_of(other, name, line)))
-    if first_shape != "nothing":
-        found.notes.append(f"{first_shape} after each edge not read")
+    if number or data:
+        found.notes.append("numbers or data after the nodes aren't read")
     return found
-
-
-def is_heading(one: str, other: str) -> bool:
-    return one.casefold() in TITLES["source"] and other.casefold() in TITLES["target"]
 
 
 def adjacency(text: str, name: str) -> Listed:
@@ -88,9 +71,9 @@ def adjacency(text: str, name: str) -> Listed:
 
     networkx writes the words of its script after the `#` of the first line.
     """
-    rows, notes = rows_below_comments(text, name, begins_free=True)
+    rows, notes = rows_below(text, name, "#.*")
     nodes: dict[str, Where] = {}
-    found = Listed("adjacency", notes=notes)
+    found = Listed("adjacency", nodes=nodes, notes=notes)
     for line, row in rows:
         first, *others = BETWEEN.split(row)
         node = node_of(first.removesuffix(":"), name, line)
@@ -101,5 +84,4 @@ def adjacency(text: str, name: str) -> Listed:
     for where, _, other in found.edges:
         if other not in nodes:
             raise wrong_at(name, where, f"{shown(other)} has no line of its own: is the text cut?")
-    found.nodes = nodes
     return found

@@ -52,16 +52,12 @@ REFUSED = (
     ("edges", "", "it has no row"),
     ("edges", "# a b\n", "it has no row"),
     ("edges", "Upper Hill Mill\n", "line 1: no two nodes"),
-    (
-        "edges",
-        "2 3\nUlm Site 1\n",
-        "line 2: a number after two nodes, and nothing in the first row",
-    ),
+    ("edges", "2 3\nUlm Site 1\n", "line 2: not as many words as in the rows before"),
     ("edges", "1 : 2\n", "line 1: no name of a node: `:`"),
     ("edges", "source target\na b\n", "line 1: it is a heading"),
-    ("edges", "#c d\na b\n", "line 1: a comment has a blank after its #"),
-    ("adjacency", "#x.py\n#a b\nb\n", "line 2: a comment has a blank after its #"),
-    ("edges", "a b\n# c d\n", "line 2: comments come before all rows"),
+    ("edges", "#c d\na b\n", "line 1: a comment comes before all rows, and has a blank"),
+    ("adjacency", "#x.py\n#a b\nb\n", "line 2: a comment comes before all rows, and has a blank"),
+    ("edges", "a b\n# c d\n", "line 2: a comment comes before all rows"),
     ("edges", "2 Mill,\n", "line 1: no name of a node: `Mill,`; a table is read --as pairs"),
     ("edges", "A\u00a0B 3\n", "line 1: no name of a node: `A\\xa0B`"),
     ("edges", '"a" "b"\n', "a table is read --as pairs"),
@@ -233,7 +229,7 @@ class Reading(Case):
         self.same(
             "edges",
             said[1:],
-            ["2 lines that begin with # left out", "a number after each edge not read"],
+            ["2 lines that begin with # left out", "numbers or data after the nodes aren't read"],
         )
         said = read(
             "a,b,c\nd,e,f\n", "pairs", columns={"source": "3", "target": "1"}, has_heading=False

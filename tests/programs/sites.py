@@ -203,7 +203,7 @@ class Channels(Case):
             ("Kanal,MHz\n36,1\n40,2\n", ["--columns", "channel=kanal"], done),
             ("x,36\ny,40\n", ["--no-heading", "--columns", "channel=2"], done),
             ("36\n40\n", ["--no-heading"], done),
-            ("Frequency\n5180\n", [], "line 1: no heading with the column channel"),
+            ("Frequency\n5180\n", [], "line 1: no heading with channel"),
             ("channel,power\n36,1\nforty,1\n", [], "line 3: no channel: `forty`"),
             ("channel,power\n36,1\n36,2\n", [], "names a channel twice"),
             ("channel\n", [], "line 1: it has no row below its heading"),

@@ -90,10 +90,10 @@ class Stated(Case):
             os.mkdir(self.folder)
             for name, data in files.items():
                 self.file(name, data)
-            if "isn't read" in self.shell(f"forestlab network read {words}")[2]:
-                needed = "igraph" if ".net" in words else "networkx"
-                if not has_package(needed) or not shutil.which("gv2gml"):
-                    continue
+            needed = {".net": "igraph", ".gv": "networkx", ".dot": "networkx"}
+            package = next((needed[end] for end in needed if end in words), None)
+            if package and not has_package(package):
+                continue
             found = self.networks(words)
             good = [text for text in found if pairs_in(text)[0] == EDGE]
             self.note(f"{files} {words}", len(good) == count, found)
