@@ -78,7 +78,8 @@ The forests depend on the numbers, and so does the plan.""",
   barred      how many channels are barred, if any is
   forests     the greatest number of neighbours of a node with a greater identifier
   payloads    the messages of the rounds: every run of `plan` has just these. If they
-              may be many, a bound is printed, unless --payloads has forestplay count them
+              may be many, a bound is printed, which is proved, unless --payloads has
+              forestplay count them
   wires       what all links of such a run carry: the payloads, as many
               acknowledgements, a safe of each pulse and a closing mark
   transcript  what `transcript` prints of it

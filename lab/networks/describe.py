@@ -73,7 +73,8 @@ def payloads_by_program(network):
 
 
 def most_payloads(network):
-    """A greeting both ways, a label and ten colours of each edge; and in each merge both ends of each edge choose."""
+    """A greeting both ways, a label and ten colours of each edge; and in each merge both ends of each edge choose.
+    No run sends more: clause `by_forest` of the law `colouring_is_bounded` (crates/bound_laws)."""
     forests = network.forest_count
     merged = sum(forests - f for parents in network.higher.values() for f in range(len(parents)))
     return 13 * len(network.edges) + 2 * merged

@@ -1,19 +1,16 @@
 -- The run of a program that is followed is composed: up to the cut by `same_run`, and then pulse by pulse.
-use Rattle.std.proofs.Common.{◌≡◌, ℕ, zero, suc, ◌+◌, ◌-◌, ◌<◌, ◌≤◌, List, [], ◌∷◌, refl, ap, sym, ◌∙◌, arith, subst}
+use Rattle.std.proofs.Common.{◌≡◌, ℕ, zero, suc, ◌+◌, ◌-◌, ◌≤◌, List, [], ◌∷◌, refl, ap, ◌∙◌, arith}
 use Rattle.std.specs.Prelude.{map, Option, Result, Ok, Err}
-use native.Mathlib.Decide.{dec_lt}
-use Prim.{yes, no}
 use Rattle.interference.specs.Net.{Net, IsNetwork, IsVertex, degree_of, neighbour_of, neighbours, port_to}
 use Rattle.node_api.specs.Boxes.{at_port}
-use Rattle.node_api.specs.Program.{Program, own_of, sizes_of}
-use Rattle.node_api.specs.Run.{after, inbox_from, node_at, outbox_at, sent_at, state_at}
+use Rattle.node_api.specs.Program.{Program, sizes_of}
+use Rattle.node_api.specs.Run.{after, inbox_from, node_at, sent_at, state_at}
 use Rattle.node_api.specs.declared.program.Refused.{Refused}
 use Rattle.node_api.proofs.Inboxes.{map-members}
 use Rattle.node_api.proofs.Runs.{node_at-more}
-use Rattle.std.proofs.lemmas.Simd.{map-map}
 use Rattle.followed.specs.declared.said.Said.{Said}
-use Rattle.followed.specs.Said.{said, told_by}
-use Rattle.followed.specs.Followed.{Both, IsCut, Sequel, beside_of, followed, followed_next, keeping, with_beside}
+use Rattle.followed.specs.Said.{said}
+use Rattle.followed.specs.Followed.{Both, IsCut, Sequel, beside_of, followed, keeping}
 use Rattle.followed.specs.Lemmas.{goes_on, same_run}
 use Rattle.followed_laws.specs.Composition.{IsComposition, cut_on, run_after, sequel_at}
 

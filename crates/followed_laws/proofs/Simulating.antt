@@ -1,11 +1,11 @@
 -- Nodes that simulate a program that is followed simulate both, since its run is composed.
-use Rattle.std.proofs.Common.{◌≡◌, ℕ, suc, ◌+◌, ◌-◌, ◌<◌, ◌≤◌, List, ap, sym, ◌∙◌, arith}
+use Rattle.std.proofs.Common.{◌≡◌, ℕ, suc, ◌+◌, ◌-◌, ◌≤◌, List, ap, sym, ◌∙◌, arith}
 use Rattle.std.specs.Prelude.{map, Option}
 use Rattle.std.proofs.lemmas.Simd.{map-map}
 use Rattle.interference.specs.Net.{Net, IsNetwork, IsVertex, neighbours, neighbour_of, port_to}
 use Rattle.node_api.specs.Boxes.{at_port}
-use Rattle.node_api.specs.Program.{Program, own_of}
-use Rattle.node_api.specs.Run.{inbox_at, inbox_from, node_at, state_at}
+use Rattle.node_api.specs.Program.{Program}
+use Rattle.node_api.specs.Run.{inbox_at, node_at, state_at}
 use Rattle.node_api.specs.declared.program.Refused.{Refused}
 use Rattle.node_api.proofs.Inboxes.{map-members}
 use Rattle.alpha_core.specs.declared.wire.Wire.{Wire}

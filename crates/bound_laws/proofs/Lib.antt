@@ -1,0 +1,9 @@
+mod Apart
+mod ColouringSent
+mod FewSteps
+mod LayersSent
+mod MatchingSent
+mod RecolouringSent
+mod Sent
+mod SequelSent
+mod SetSent

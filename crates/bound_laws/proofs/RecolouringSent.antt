@@ -1,0 +1,117 @@
+-- After the colouring a node of the recolouring sends once a pass at most: at the pulse of the colour that it came with.
+use Rattle.std.proofs.Common.{◌≡◌, ◌≢◌, ℕ, zero, suc, ◌+◌, ◌-◌, ◌*◌, ◌%◌, ◌<◌, ◌≤◌, ◌==◌, ◌&&◌, Bool, true, false, List, refl, ap, sym, ◌∙◌, arith, subst}
+use Rattle.std.specs.Prelude.{if◌then◌else◌, nat_le, nat_lt, Option, Some, None}
+use Rattle.std.specs.FinSet.{FinSet}
+use Rattle.std.specs.Ordering.{nat_cmp}
+use Rattle.std.proofs.lemmas.Bool.{le-leb, ne_eqb}
+use Rattle.interference.specs.Net.{IsEdge, IsNetwork, IsVertex, Net, forest_count_of, port_to, span_of}
+use Rattle.interference.proofs.Neighbours.{both-ways, neighbour-is_vertex}
+use Rattle.node_api.specs.Boxes.{at_port}
+use Rattle.node_api.specs.Program.{last_pulse_on, sizes_of}
+use Rattle.node_api.specs.Run.{inbox_from}
+use Rattle.node_api.proofs.Slots.{at_port-nothing}
+use Rattle.alpha_core.specs.Program.{sends}
+use Rattle.colour_rules.specs.Node.{Node, ports, steps}
+use Rattle.followed.specs.Followed.{Both, beside_of}
+use Rattle.recolouring.specs.Knowing.{Recoloured, Wire, class_next, colour_after, entering, is_turn, ready, recolouring, recolours, told, with_anew}
+use Rattle.recolouring.specs.Lawful.{at, at-pass, class-of, coloured, cut, has_greatest, ready-as, recolours_cut}
+use Rattle.bound_laws.proofs.Sent.{no-less, once, over, sent_below}
+use Rattle.bound_laws.proofs.SequelSent.{both-before}
+
+told-none : (node : Node) (b : Bool) (c k : ℕ) → b ≡ false → at_port (told node b c) k ≡ None
+told-none node b c k e = ap (λ (d : Bool). at_port (told node d c) k) e ∙ at_port-nothing (ports node) k
+
+false-and : (a b : Bool) → a ≡ false → (a && b) ≡ false
+false-and a b e = ap (λ (c : Bool). c && b) e
+
+-- a node enters a pass at its first pulse alone
+stays-ready : (node : Node) (s : Recoloured) (k q : ℕ) → suc q ≤ s.greatest → ready node s (k * (s.greatest + 1) + suc q) ≡ s
+stays-ready node s k q h =
+    let class : (k * (s.greatest + 1) + suc q) % (s.greatest + 1) ≡ suc q = class-of s.greatest k (suc q) h in
+    ap (λ (b : Bool). if b then entering node s (k * (s.greatest + 1) + suc q) else s)
+    (ap (λ (n : ℕ). n == 0) class ∙ ne_eqb (suc q) 0 (λ e. omega (arith, e)))
+
+module _ (again : ℕ) (net : Net) (ok : IsNetwork net) where
+  abbrev pulse_of : ℕ → ℕ → ℕ
+  pulse_of k q = k * (span_of net + 1) + q
+
+  abbrev before_pass : ℕ → ℕ → ℕ → Recoloured
+  before_pass k q v = (at again net ok (cut net ok + pulse_of k q) v).0.beside
+
+  -- a node at pulse q of pass k, when it has entered the pass
+  abbrev in_pass : ℕ → ℕ → ℕ → Recoloured
+  in_pass k q v = ready (coloured net ok v) (before_pass k q v) (pulse_of k q)
+
+  abbrev heard : ℕ → ℕ → ℕ → FinSet nat_cmp
+  heard k q v = with_anew (in_pass k q v).chosen (inbox_from net (at again net ok (cut net ok + pulse_of k q)) v)
+
+  knows : (k q v : ℕ) → (in_pass k q v).greatest ≡ span_of net
+  knows k q v =
+      ready-as (λ t. t.greatest) (pulse_of k q % ((before_pass k q v).greatest + 1) == 0) (before_pass k q v)
+      (entering (coloured net ok v) (before_pass k q v) (pulse_of k q)) refl
+      ∙ has_greatest again net ok (cut net ok + pulse_of k q) v
+
+  -- it comes with one colour into all pulses of a pass
+  one-colour : (k q v : ℕ) → IsVertex net v → q ≤ span_of net → (in_pass k q v).before ≡ (in_pass k 0 v).before
+  one-colour k zero v is_vertex h = refl
+  one-colour k (suc q) v is_vertex h =
+      let s : Recoloured = before_pass k (suc q) v in
+      let greatest : s.greatest ≡ span_of net = has_greatest again net ok (cut net ok + pulse_of k (suc q)) v in
+      let same : ready (coloured net ok v) s (pulse_of k (suc q)) ≡ s =
+      subst (λ (n : ℕ). ready (coloured net ok v) s (k * (n + 1) + suc q) ≡ s) greatest
+      (stays-ready (coloured net ok v) s k q (omega (arith, greatest, h))) in
+      let e : cut net ok + pulse_of k (suc q) ≡ suc (cut net ok + pulse_of k q) = omega arith in
+      ap (λ (t : Recoloured). t.before) same
+      ∙ (ap (λ (n : ℕ). (at again net ok n v).0.beside.before) e
+      ∙ (ap (λ (node : Both Node Recoloured × List (Option Wire)). node.0.beside.before) (at-pass again net ok k q v is_vertex (omega (arith, h)))
+      ∙ one-colour k q v is_vertex (omega (arith, h))))
+
+  not-turn : (k q v : ℕ) → IsVertex net v → q ≤ span_of net → q ≢ span_of net - (in_pass k 0 v).before
+      → is_turn (in_pass k q v).before (in_pass k q v).greatest q ≡ false
+  not-turn k q v is_vertex h other =
+      let b : ℕ = (in_pass k 0 v).before in
+      ap (λ (n : ℕ). is_turn n (in_pass k q v).greatest q) (one-colour k q v is_vertex h)
+      ∙ (ap (λ (n : ℕ). is_turn b n q) (knows k q v)
+      ∙ (ap (λ (c : Bool). c && (b == span_of net - q)) (le-leb q (span_of net) h)
+      ∙ ne_eqb b (span_of net - q) (λ e. other (omega (arith, e, h)))))
+
+  slot-none : (k q v w : ℕ) → IsVertex net v → q ≤ span_of net → q ≢ span_of net - (in_pass k 0 v).before
+      → sends (recolouring again) net v w (suc (cut net ok) + k * (span_of net + 1) + q) ≡ None
+  slot-none k q v w is_vertex h other =
+      let s : Recoloured = in_pass k q v in
+      let turn : Bool = is_turn s.before s.greatest q in
+      ap (λ (n : ℕ). at_port (at again net ok n v).1 (port_to net v w))
+      (let e : suc (cut net ok) + k * (span_of net + 1) + q ≡ suc (cut net ok + pulse_of k q) = omega arith in e)
+      ∙ (ap (λ (node : Both Node Recoloured × List (Option Wire)). at_port node.1 (port_to net v w)) (at-pass again net ok k q v is_vertex h)
+      ∙ told-none (coloured net ok v) (turn && nat_lt q s.greatest) (colour_after s (heard k q v) turn) (port_to net v w)
+      (false-and turn (nat_lt q s.greatest) (not-turn k q v is_vertex h other)))
+
+  passes : (k v w : ℕ) → IsVertex net v → sent_below (sends (recolouring again) net v w) (suc (cut net ok) + k * (span_of net + 1))
+      ≤ sent_below (sends (recolouring again) net v w) (suc (cut net ok)) + k
+  passes zero v w is_vertex = let e : suc (cut net ok) + zero * (span_of net + 1) ≡ suc (cut net ok) = omega arith in rw e (omega arith)
+  passes (suc k) v w is_vertex =
+      let g : ℕ → Option Wire = sends (recolouring again) net v w in
+      let size : ℕ = span_of net + 1 in
+      let from : ℕ = suc (cut net ok) + k * size in
+      let e : suc (cut net ok) + suc k * size ≡ from + size = omega arith in
+      let one : sent_below g (from + size) ≤ sent_below g from + 1 = once g from size (span_of net - (in_pass k 0 v).before)
+      (λ q below other. slot-none k q v w is_vertex (omega (arith, below)) other) in
+      subst (λ (n : ℕ). sent_below g n ≤ sent_below g (suc (cut net ok)) + suc k) (sym e) (omega (arith, one, passes k v w is_vertex))
+
+  pub recolouring-over : (v w : ℕ) → IsEdge net v w
+      → over (recolouring again) net ok v w + over (recolouring again) net ok w v ≤ 13 + 2 * forest_count_of net + 2 * (again + 1)
+  recolouring-over v w edge =
+      let back : IsEdge net w v = (neighbour-is_vertex net ok v w edge.0 edge.1, both-ways net ok v w edge.0 edge.1) in
+      let end : ℕ = suc (cut net ok) + (again + 1) * (span_of net + 1) in
+      let low : last_pulse_on (recolouring again) net ≤ end = omega arith in
+      let early : sent_below (sends (recolouring again) net v w) (suc (cut net ok)) + sent_below (sends (recolouring again) net w v) (suc (cut net ok))
+      ≤ 13 + 2 * forest_count_of net =
+      both-before (recolours again) (recolours_cut again) net ok (forest_count_of net) v w (omega arith) (omega arith) edge in
+      omega (
+        arith,
+        early,
+        no-less (sends (recolouring again) net v w) (last_pulse_on (recolouring again) net) end low,
+        no-less (sends (recolouring again) net w v) (last_pulse_on (recolouring again) net) end low,
+        passes (again + 1) v w edge.0,
+        passes (again + 1) w v back.0,
+      )

@@ -1,0 +1,21 @@
+-- How many wires runs of workers put on their links.
+use Rattle.std.specs.Prelude.{◌≡◌, ℕ, ◌+◌, ◌*◌, ◌≤◌, Bool, true}
+use Rattle.interference.specs.Counts.{edge_count_of}
+use Rattle.interference.specs.Net.{IsNetwork, Net}
+use Rattle.node_api.specs.Program.{Program, last_pulse_on}
+use Rattle.alpha_laws.specs.Counts.{payloads_sent}
+use Rattle.gather_laws.specs.Counts.{wires_put}
+use Rattle.gather_laws.specs.Outcome.{IsOutcome, Outcome, is_whole}
+
+-- The synchronous run sends at most so many payloads over each edge, both directions together.
+abbrev pub SendsAtMost : {S M E : Type 0} → Program S M E → Net → ℕ → Type 0
+SendsAtMost program net each = payloads_sent program net ≤ edge_count_of net * each
+
+-- Then every whole outcome has put at most so many wires: each payload and its acknowledgement, and over each direction
+-- of each edge a safe for each pulse before the last, and Close.
+abbrev pub WholeOutcomesPutFew : {S M E : Type 0} → Program S M E → Net → Type 0
+WholeOutcomesPutFew {S} {M} program net =
+    (each : ℕ) → SendsAtMost program net each
+    → (capacity : ℕ) (transcript : Bool) (outcome : Outcome S M)
+    → IsOutcome program net capacity transcript outcome → is_whole outcome ≡ true
+    → wires_put outcome ≤ edge_count_of net * (2 * (each + last_pulse_on program net + 1))
