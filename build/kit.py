@@ -63,12 +63,10 @@ def sum_of(*parts):
 
 def sum_of_texts(folder):
     """A sum of what a crate is proved from: each file's path in the crate, and what it says."""
-    files = [
-        os.path.join(at, name)
-        for part in PARTS
-        for at, _, names in os.walk(os.path.join(folder, part))
-        for name in names
-    ]
+    files = []
+    for part in PARTS:
+        for at, _, names in os.walk(os.path.join(folder, part)):
+            files += [os.path.join(at, name) for name in names]
     parts = []
     for file in sorted(files):
         with open(file, "rb") as text:

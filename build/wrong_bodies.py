@@ -10,11 +10,11 @@ out/build/wrong-bodies.log.
 With --since REV, the crates are those whose sources or wrong bodies differ from the commit REV, and those that list in
 crates.txt a crate whose contracts or definitions (src/, specs/) differ from it.
 
-An edit is to be refused by a goal of the contract. Two refusals say little of that; such an edit counts as refused, and is
-printed as WEAK. A proof of the right body may name a value or a goal that the edit takes away: change the edit so that it
-keeps the name. Or a proof that is written by hand doesn't fit the edited code, and another proof might: read the contract.
-If it lets the edit through, make it stronger; if it doesn't, say in the edit's file which clause refuses it, by a line
-`clause: NAME`, or `clause: NAME of WHAT` of another function, type or record.
+An edit is to be refused by a goal of the contract. Two refusals say little of that; such an edit counts as refused,
+and is printed as WEAK. A proof of the right body may name a value or a goal that the edit takes away: change the edit
+so that it keeps the name. Or a proof that is written by hand doesn't fit the edited code, and another proof might:
+read the contract. If it lets the edit through, make it stronger; if it doesn't, say in the edit's file which clause
+refuses it, by a line `clause: NAME`, or `clause: NAME of WHAT` of another function, type or record.
 
 The last line is 'N refused, W of them WEAK, M PROVED, K not run'. Status: 0 every edit was tried and refused, 1 one was
 proved or not run, 2 the command line is refused, 3 all were refused, some of them WEAK. It takes about 20 seconds an
@@ -93,13 +93,17 @@ def tell(said, edits):
         if verdict == "refused" and is_weak(os.path.join(TOP, path), why):
             verdict = "WEAK"
             counts["WEAK"] += 1
+        if verdict == "NOT REFUSED":
+            verdict = "PROVED"
         if verdict != "refused":
-            print(f"{'PROVED' if verdict == 'NOT REFUSED' else verdict} {path}{why}", flush=True)
+            print(f"{verdict} {path}{why}", flush=True)
     print(
         f"{counts['refused']} refused, {counts['WEAK']} of them WEAK, {counts['PROVED']} PROVED, "
         f"{counts['not run']} not run"
     )
-    return 1 if counts["PROVED"] + counts["not run"] else 3 if counts["WEAK"] else 0
+    if counts["PROVED"] + counts["not run"]:
+        return 1
+    return 3 if counts["WEAK"] else 0
 
 
 def main():

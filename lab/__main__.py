@@ -78,9 +78,8 @@ def command_of(name, words):
     # The script `forestplan` asks for `progress`.
     module = (COMMANDS | {"progress": "lab.progress"}).get(name)
     if module is None:
-        return lambda: refused(
-            f"{f'there is no command {name}' if name else 'a command is missing'}; try --help"
-        )
+        what = f"there is no command {name}" if name else "a command is missing"
+        return lambda: refused(f"{what}; try --help")
     if not is_there(module):
         return lambda: refused(
             f"{name} isn't in this folder of a class; your teacher's folder has it, and "

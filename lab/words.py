@@ -34,13 +34,9 @@ class Command(Parser):
 
 def one_line(words: str) -> str:
     """Words as they may be printed in one line: what is no letter of a line is escaped."""
-    return (
-        words
-        if words.isprintable()
-        else "".join(
-            letter if letter.isprintable() else letter.encode("unicode_escape").decode()
-            for letter in words
-        )
+    return "".join(
+        letter if letter.isprintable() else letter.encode("unicode_escape").decode()
+        for letter in words
     )
 
 
@@ -52,7 +48,8 @@ def in_words(things) -> str:
 
 def counted(count: int, one: str, more: str | None = None) -> str:
     """A number of things: `1 node`, `2,000 nodes`."""
-    return f"{count:,} {one if count == 1 else more or f'{one}s'}"
+    what = one if count == 1 else more or f"{one}s"
+    return f"{count:,} {what}"
 
 
 def duration(seconds: float) -> str:

@@ -135,10 +135,8 @@ def in_process(name, main, *words, data=b""):
         status = ended.code
     except (Fault, OSError) as why:
         status = 1
-        print(
-            f"{name}: {f'{why.filename}: {why.strerror}' if isinstance(why, OSError) else why}",
-            file=sys.stderr,
-        )
+        said = f"{why.filename}: {why.strerror}" if isinstance(why, OSError) else why
+        print(f"{name}: {said}", file=sys.stderr)
     finally:
         (_, out, errors), (sys.stdin, sys.stdout, sys.stderr) = (
             sys.stdin,

@@ -60,7 +60,7 @@ class Command:
     def usage(self):
         """Its usage as a refusal has it."""
         has_options = self.options or self.program == "forestplay"
-        return f"{self.program} {self.name}{' [OPTIONS]' if has_options else ''}"
+        return f"{self.program} {self.name}" + (" [OPTIONS]" if has_options else "")
 
 
 COMMANDS = (

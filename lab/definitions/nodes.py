@@ -272,14 +272,15 @@ class AlphaNode:
         """Whether a wire of a kind may come by a port that isn't closed: the 36 cells, as one condition for each kind.
         Which refusal it is isn't said."""
         p, expected = self.pulse_number, self.pulse_number + port.safes()
-        horizon = p + 1 if self.said and p < self.last else p
+        # The pulse to which a neighbour may have come.
+        horizon = min(p + 1, self.last) if self.said else p
         if kind == "Payload":
-            return q == expected and q <= horizon and q < self.last and not port.paid()
+            return q == expected <= horizon and q < self.last and not port.paid()
         if kind == "Ack":
             return q == p and port.waits
         if kind == "Safe":
-            return q == expected and q <= horizon and q < self.last
-        return expected == self.last and (p == self.last or p == self.last - 1 and self.said)
+            return q == expected <= horizon and q < self.last
+        return expected == self.last == horizon
 
     def on_wire(self, at: int, wire: Wire):
         """It takes a wire by a port."""
@@ -371,22 +372,25 @@ def missing_words(state: NetState, kind: str, v: int, port: int | None = None) -
     the out-list or the link that is empty."""
     if v not in state.nodes or port is not None and port >= len(state.nodes[v].ports):
         return ""
-    node, neighbours = state.nodes[v], state.neighbours[v]
-    if kind != "Pulse":
-        return (
-            f": list of {v} for {neighbours[port]}"
-            if kind == "Put"
-            else f": link from {neighbours[port]} to {v}"
-        )
+    node = state.nodes[v]
+    if port is not None:
+        w = state.neighbours[v][port]
+        return f": list of {v} for {w}" if kind == "Put" else f": link from {w} to {v}"
     if node.pulse_number == node.last:
         return f": pulse {node.last} is the last"
-    lacks = [
-        ("ack", [w for w, port in zip(neighbours, node.ports) if port.waits]),
-        ("safe", [w for w, port in zip(neighbours, node.ports) if not port.safe]),
-    ]
-    return ": " + "; ".join(
-        f"{word} {node.pulse_number} of {in_words(names)}" for word, names in lacks if names
-    )
+    return f": {lacks_words(node.pulse_number, *lacks_of(state, v))}"
+
+
+def lacks_of(state: NetState, v: int) -> tuple[list[int], list[int]]:
+    """The neighbours whose acknowledgements, and those whose safes, are still to come in a node's pulse."""
+    ports = list(zip(state.neighbours[v], state.nodes[v].ports))
+    return [w for w, port in ports if port.waits], [w for w, port in ports if not port.safe]
+
+
+def lacks_words(pulse: int, acks: list[int], safes: list[int]) -> str:
+    """`ack 0 of 2; safe 0 of 2 and 3`."""
+    lacks = [("ack", acks), ("safe", safes)]
+    return "; ".join(f"{word} {pulse} of {in_words(names)}" for word, names in lacks if names)
 
 
 def event_of(state: NetState, entry) -> Event:

@@ -108,19 +108,19 @@ class Rounds:
 
     def pulse(self, p: int, nodes: dict[int, Colouring], puts: list[Put]) -> Pulse:
         """What all nodes have done in a pulse, after which they are these nodes."""
-        is_end_of_merge = p >= LAST_COLOUR and (p - LAST_COLOUR) % (3 * self.width) == 0
-        if is_end_of_merge:
+        merged, step = divmod(p - LAST_COLOUR, 3 * self.width)
+        if merged >= 0 and step == 0:
             self.merged.append({v: node.merged for v, node in nodes.items()})
         if p >= FIRST_MERGE:
-            step = merge_step(self.network, p)
-            chosen = {v: node.merged for v, node in nodes.items() if node.has_turn(step)}
-            self.turns |= {(step[0], v): p for v in chosen}
-            return Pulse(p, puts, "merge", step, chosen=chosen)
+            turn = merge_step(self.network, p)
+            chosen = {v: node.merged for v, node in nodes.items() if node.has_turn(turn)}
+            self.turns |= {(turn[0], v): p for v in chosen}
+            return Pulse(p, puts, "merge", turn, chosen=chosen)
         colours = {}
         if p >= SEED:
-            for f, of_pulse in enumerate(self.colours):
-                of_pulse[p] = {v: node.colours[f] for v, node in nodes.items()}
             colours = {(v, f): c for v, node in nodes.items() for f, c in enumerate(node.colours)}
+        for (v, f), colour in colours.items():
+            self.colours[f].setdefault(p, {})[v] = colour
         return Pulse(p, puts, phase_words(self.network, p), colours=colours)
 
     def lines(self) -> Iterator[str]:

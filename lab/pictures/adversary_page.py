@@ -80,6 +80,6 @@ def transcript_words(network, space):
         f"check {name}.col list.transcript{program} accepts it. forestlab picture run and watch draw it, halted "
         "or not."
     )
-    return words + " An event that can happen here alone is refused there, with its line." * bool(
-        space.without
-    )
+    if space.without:
+        words += " An event that can happen here alone is refused there, with its line."
+    return words

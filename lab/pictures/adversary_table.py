@@ -119,23 +119,29 @@ def links_of(space, wires):
         }
 
 
-def table_of(space):
-    wires, events, sentences, faults = Numbered(), Numbered(), Numbered(), {}
-    nodes, links = list(nodes_of(space)), list(links_of(space, wires))
-    steps = [
-        [
-            (
-                events.number((int(event.kind == "take"), event.v, event.port or 0, event.place)),
-                0 if target is None else target - s,
-            )
-            for event, target in space.steps(s)
-        ]
-        for s in range(space.expanded)
-    ]
-    flat = [step for row in steps for step in row]
-    least = min((by for _, by in flat), default=0)
+def steps_of(space, s, events):
+    """(number of the event, by how much the number of the state is more after it) of each step of a state; 0 if it
+    leads to none."""
+    for event, target in space.steps(s):
+        number = events.number((int(event.kind == "take"), event.v, event.port or 0, event.place))
+        yield number, 0 if target is None else target - s
+
+
+def faults_of(space, sentences):
+    """The number of the sentence of each step of a state that goes wrong, or under -1 of the state itself."""
+    faults = {}
     for (s, e), sentence in space.faults.items():
         faults.setdefault(s, {})[-1 if e is None else e] = sentences.number(quoted(sentence))
+    return faults
+
+
+def table_of(space):
+    wires, events, sentences = Numbered(), Numbered(), Numbered()
+    nodes, links = list(nodes_of(space)), list(links_of(space, wires))
+    steps = [list(steps_of(space, s, events)) for s in range(space.expanded)]
+    flat = [step for row in steps for step in row]
+    least = min((by for _, by in flat), default=0)
+    faults = faults_of(space, sentences)
     return {
         "digits": DIGITS,
         "phases": [phase_words(space.phase(p)) for p in range(space.last + 1)],

@@ -3,31 +3,39 @@ from lab.definitions.nodes import bit_step
 from lab.pictures.marks import colour_square
 from lab.pictures.palette import INK, PAPER, SOFT, digits
 from lab.pictures.svg import Svg
+from lab.words import counted
 from lab.wrong import Wrong
 
 RING = "#D55E00"
 FIRST, LAST = 2, 6
 LEFT, TOP, STEP = 150, 106, 84
-LONG, LONGER = 40, 80
+# How wide a digit is drawn, of numbers of more digits than these.
+CELLS = ((80, 7), (40, 11), (8, 18), (0, 26))
+
+
+def child_asked(rounds, forest, vertex):
+    """The vertex that is asked for, or else the first one that has a parent in a forest."""
+    network = rounds.network
+    children = [v for v in network.vertices if (v, forest) in rounds.parents]
+    if vertex is None and children:
+        return children[0]
+    if vertex not in children:
+        whom = f"node {vertex}" if vertex else "any node"
+        raise Wrong(f"{network.name}: forest {forest} gives no parent to {whom}")
+    return vertex
 
 
 def draw(rounds, forest=0, vertex=None):
     network = rounds.network
     rounds.asked_forests((forest, forest))
-    if vertex is None:
-        vertex = next((v for v in network.vertices if (v, forest) in rounds.parents), None)
-    if (vertex, forest) not in rounds.parents:
-        raise Wrong(
-            f"{network.name}: forest {forest} gives no parent to "
-            + (f"node {vertex}" if vertex else "any node")
-        )
+    vertex = child_asked(rounds, forest, vertex)
     parent = rounds.parents[vertex, forest]
     pairs = [
         (rounds.pulses[p].colours[vertex, forest], rounds.pulses[p].colours[parent, forest])
         for p in range(FIRST, LAST + 1)
     ]
     most = max(digits(number) for pair in pairs for number in pair)
-    cell = 7 if most > LONGER else 11 if most > LONG else 18 if most > 8 else 26
+    cell = next(size for more, size in CELLS if most > more)
     lengths = ", ".join(str(max(map(digits, pair))) for pair in pairs)
     is_short = all(rounds.network.identifiers[v] == v for v in network.vertices)
     said = (
@@ -92,13 +100,7 @@ def draw_pair(svg, top, pulse, child, parent, most, cell):
         bold=True,
         mark="next",
     )
-    svg.text(
-        x,
-        top + 39,
-        f"{length} digit{'' if length == 1 else 's'} → at most {2 * (length - 1) + 1}",
-        11,
-        SOFT,
-    )
+    svg.text(x, top + 39, f"{counted(length, 'digit')} → at most {2 * (length - 1) + 1}", 11, SOFT)
 
 
 def digit_box(svg, x, y, cell, digit, is_ringed):

@@ -20,14 +20,20 @@ from lab.wrong import Wrong, at_most
 MOST_DRAWN, OVER, LEAST_WIDTH = 40, 48, 620
 
 
+def kind_of(rounds):
+    """What draws where rounds go wrong: the end of a sequel, a forest or a merge."""
+    if isinstance(rounds, RuledSequel):
+        return OfEnd
+    return OfForest if rounds.clash.pulse else OfMerge
+
+
 def draw(network, without, program=Colouring):
     """Of a network, or of a smallest one on which the rounds of a program go wrong."""
     rounds, where = looked_at(network, without, program)
     left_out = " and ".join(f"‘{rule}’" for rule in without)
     if rounds is None:
         raise Wrong(f"{where} without {','.join(without)}")
-    kind = OfEnd if isinstance(rounds, RuledSequel) else OfForest if rounds.clash.pulse else OfMerge
-    picture = kind(rounds, ruled(program)(rounds.net, ()))
+    picture = kind_of(rounds)(rounds, ruled(program)(rounds.net, ()))
     width, (right, down) = max(picture.width, LEAST_WIDTH), picture.step
     said = [
         f"{line[0].upper()}{line[1:]}.".replace("'", "’")

@@ -1,6 +1,6 @@
 """The forest sheet: one column a forest; above, its edges and three colours; below, the channels once it is merged."""
 from lab.definitions.rounds import LAST_COLOUR
-from lab.pictures.marks import LARGE, SMALL, Map, alone_chip, channel_circle, colour_square
+from lab.pictures.marks import LARGE, Map, alone_chip, by_size, channel_circle, colour_square
 from lab.pictures.palette import INK, PAPER, SOFT, WRONG
 from lab.pictures.places import OF_SQUARES, box_height, places_of
 from lab.pictures.rounds_picture import left_out_of
@@ -17,9 +17,7 @@ class Panel(Map):
 
     def __init__(self, network):
         self.is_large = network.nodes > LARGE
-        radius, least = (
-            (4.5, 3) if self.is_large else (10, 7) if network.nodes > SMALL else (13, 10)
-        )
+        radius, least = by_size(network, (4.5, 3), (10, 7), (13, 10))
         places, margin = places_of(network), 14 if self.is_large else 34
         self.height = box_height(places, PANEL, margin, 100)
         super().__init__(network, places, PANEL, self.height, margin, radius, least, OF_SQUARES)
@@ -48,27 +46,35 @@ class Panel(Map):
         """The channels once the forests up to `last` are merged: edges of forest `now` in ink, of others in grey; red
         is what has one channel."""
         drawn, thin = self.at(left, top), 0.6 if self.is_large else 1
-        wrong = {
-            e for e in self.network.edges if forest_of[e] <= last and merged[e[0]] == merged[e[1]]
-        }
+        wrong = {(v, w) for v, w in self.network.edges if merged[v] == merged[w]}
+        wrong = {e for e in wrong if forest_of[e] <= last}
         for e in sorted(self.network.edges, key=lambda e: (forest_of[e] <= last, forest_of[e])):
-            hue, width, mark = (
-                (WRONG, 3.4, "wrong")
-                if e in wrong
-                else (FAINT, 1, "edge")
-                if forest_of[e] > last
-                else (INK, 1.8, "edge")
-                if forest_of[e] == now
-                else (BEFORE, 1.3, "edge")
-            )
-            drawn.edge(svg, *e, hue, width * thin, mark=mark)
+            hue, width = (WRONG, 3.4) if e in wrong else style_of(forest_of[e], last, now)
+            drawn.edge(svg, *e, hue, width * thin, mark="wrong" if e in wrong else "edge")
         drawn.numbers(svg, 8.5, 3)
+        self.circles(svg, drawn, {v for edge in wrong for v in edge}, merged, thin)
+
+    def circles(self, svg, drawn, ends, merged, thin):
+        """The channels; `ends` are those of the edges in red."""
         for v, (x, y) in sorted(drawn.places.items()):
-            if any(v in edge for edge in wrong):
+            if v in ends:
                 svg.circle(x, y, self.radius + 3.6, PAPER, WRONG, 2.2)
             else:
                 svg.circle(x, y, self.radius + 1.4 * thin, PAPER)
             channel_circle(svg, x, y, self.radius, merged[v] + 1)
+
+
+def style_of(forest, last, now):
+    """The colour and the width of an edge once the forests up to `last` are merged."""
+    if forest > last:
+        return FAINT, 1
+    return (INK, 1.8) if forest == now else (BEFORE, 1.3)
+
+
+def merged_words(forest, forests):
+    if forest == forests - 1:
+        return "all merged: the plan"
+    return f"merged: forests 0 to {forest}" if forest else "merged: forest 0"
 
 
 def draw(rounds, asked=None):
@@ -96,16 +102,7 @@ def draw(rounds, asked=None):
             panel.colours(
                 svg, left, upper, parents, {v: three[v, forest] for v in network.vertices}
             )
-        title(
-            svg,
-            left,
-            lower,
-            "all merged: the plan"
-            if forest == rounds.forests - 1
-            else "merged: forest 0"
-            if forest == 0
-            else f"merged: forests 0 to {forest}",
-        )
+        title(svg, left, lower, merged_words(forest, rounds.forests))
         with svg.group("merged", f"after forest {forest}"):
             panel.channels(
                 svg, left, lower, rounds.forest_of, forest, forest, rounds.merged[forest + 1]

@@ -2,7 +2,7 @@
 pictures that have words beside the circles."""
 from lab.pictures.marks import (
     LARGE,
-    SMALL,
+    by_size,
     Map,
     bar_row,
     bars_width,
@@ -107,9 +107,7 @@ def box_of(network, vertices, least, top):
 def draw_map(svg, network, vertices, box, edge, draw_more=None, left=0):
     """The map in a box: its edges in a colour and a width, on them what else is drawn, and the vertices."""
     width, height, beside, top = box
-    radius, least = (
-        (8.5, 6.5) if network.nodes > LARGE else (14, 9) if network.nodes > SMALL else (17, 11)
-    )
+    radius, least = by_size(network, (8.5, 6.5), (14, 9), (17, 11))
     drawn = Map(
         network,
         places_of(network),

@@ -21,8 +21,15 @@ from lab.pictures.places import OF_CIRCLES, bends, label_places, middle, moved, 
 SMALL, LARGE = 12, 40
 
 
+def by_size(network, large, middling, small):
+    """What is chosen for a network of so many nodes."""
+    if network.nodes > LARGE:
+        return large
+    return middling if network.nodes > SMALL else small
+
+
 def width_of_map(network):
-    return 900 if network.nodes > LARGE else 560 if network.nodes > SMALL else 420
+    return by_size(network, 900, 560, 420)
 
 
 def channel_circle(svg, x, y, radius, channel, mark="channel"):

@@ -563,13 +563,18 @@ def progress(states, events):
     note(f"{states:,} states, up to {events} events")
 
 
-def drawn(given):
-    """The picture that the command line asks for."""
-    stored = given.stored or []
+def check_texts(given, stored):
+    """Refuses more texts than there is room for, and standard input for two of them."""
     if given.kind == "watch" and len(stored) > 2:
         raise Wrong("a page has room for two runs")
     if [given.network, *(path for _, path in stored)].count("-") > 1:
         raise Wrong("standard input has one text: name a file for each other one")
+
+
+def drawn(given):
+    """The picture that the command line asks for."""
+    stored = given.stored or []
+    check_texts(given, stored)
     asked = Asked(**vars(given) | {"progress": progress if sys.stderr.isatty() else None})
     if given.network is None:
         asked.program = program_asked("picture", given)

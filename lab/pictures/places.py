@@ -1,5 +1,5 @@
 """Where the vertices of a network are drawn: at given places, on a circle, or laid out by the edges (layout.py)."""
-from math import cos, pi, sin, sqrt
+from math import cos, inf, pi, sin, sqrt
 
 from lab.pictures.layout import laid_out
 
@@ -152,31 +152,47 @@ def label_places(places, edges, bend, distance, boxes, radius):
         half_wide, half_high = boxes[v]
         aside = half_wide - SHORT if half_wide > SHORT + LITTLE else 0
         reach = near + half_wide
-        others = [
-            p
-            for w, p in places.items()
-            if w != v and abs(p[0] - x) < reach and abs(p[1] - y) < reach
-        ]
-        points = [
-            p for e in edges for p in drawn[e] if abs(p[0] - x) < reach and abs(p[1] - y) < reach
-        ]
-        best = None
-        for k in (2, 14, 1, 15, 3, 13, 0, 4, 12, 6, 10, 5, 11, 7, 9, 8):
-            dx, dy = turned(k / 16)
-            spot = x + dx * distance + aside * max(-1, min(1, 2 * dx)), y + dy * distance
-            room = min(
-                [gap(spot, p) for p in points]
-                + [gap(spot, p) - 0.45 * distance for p in others + [at for at, _ in taken]]
-                + [near]
-            )
-            room -= 100 * covers(
-                (spot, boxes[v]), [*others, (x, y)] if aside else others, radius, taken
-            )
-            if best is None or room > best[0] + 1:
-                best = room, spot
-        found[v] = best[1]
-        taken.append((best[1], boxes[v]))
+        others = near_to((x, y), reach, (p for w, p in places.items() if w != v))
+        points = near_to((x, y), reach, (p for e in edges for p in drawn[e]))
+        circles = [*others, (x, y)] if aside else others
+        texts = others + [at for at, _ in taken]
+
+        def room_at(spot):
+            to_texts = least_gap(spot, texts, 2 * near) - 0.45 * distance
+            room = min(least_gap(spot, points, near), to_texts, near)
+            return room - 100 * covers((spot, boxes[v]), circles, radius, taken)
+
+        found[v] = most_room(spots_around((x, y), distance, aside), room_at)
+        taken.append((found[v], boxes[v]))
     return found
+
+
+def most_room(spots, room_at):
+    """The spot with most room; a later one has to have a pixel more."""
+    best, most = None, -inf
+    for spot in spots:
+        room = room_at(spot)
+        if room > most + 1:
+            best, most = spot, room
+    return best
+
+
+def spots_around(place, distance, aside):
+    """16 places around one, upper ones first; those on its sides are farther away by `aside`."""
+    x, y = place
+    for k in (2, 14, 1, 15, 3, 13, 0, 4, 12, 6, 10, 5, 11, 7, 9, 8):
+        dx, dy = turned(k / 16)
+        yield x + dx * distance + aside * max(-1, min(1, 2 * dx)), y + dy * distance
+
+
+def least_gap(place, points, most):
+    return min((gap(place, p) for p in points), default=most)
+
+
+def near_to(place, reach, points):
+    """The points in a square around a place."""
+    x, y = place
+    return [p for p in points if abs(p[0] - x) < reach and abs(p[1] - y) < reach]
 
 
 def covers(box, circles, radius, boxes):

@@ -37,18 +37,9 @@ def draw(network, plan):
         said_of(network),
         used + ("; crossed out: barred" if network.bars else ""),
     )
+    edge = ("#B9B9B9", 0.9) if network.nodes > SMALL else ("#9A9A9A", 1.6)
     is_dense = len(network.edges) > 5 * network.nodes
-    draw_map(
-        svg,
-        network,
-        vertices,
-        box,
-        ("#D0D0D0", 0.7)
-        if is_dense
-        else ("#B9B9B9", 0.9)
-        if network.nodes > SMALL
-        else ("#9A9A9A", 1.6),
-    )
+    draw_map(svg, network, vertices, box, ("#D0D0D0", 0.7) if is_dense else edge)
     return svg.document()
 
 
@@ -56,8 +47,8 @@ def said_of(network):
     """What there is, and what to look for."""
     if not network.edges:
         return f"{counted(network.nodes, 'transmitter')}, and no pair interferes"
+    verb = "interferes" if len(network.edges) == 1 else "interfere"
     return (
-        f"{counted(network.nodes, 'transmitter')}, {counted(len(network.edges), 'pair')} that "
-        f"{'interferes' if len(network.edges) == 1 else 'interfere'}, at most "
+        f"{counted(network.nodes, 'transmitter')}, {counted(len(network.edges), 'pair')} that {verb}, at most "
         f"{counted(network.greatest_degree, 'neighbour')}: on each line two different numbers"
     )

@@ -30,34 +30,49 @@ def draw(rounds):
 
 
 def film_of(rounds):
-    """The rounds as the page plays them; of another program than the colouring each node's result in words."""
-    vertices, pulses, is_colouring = rounds.network.vertices, [], isinstance(rounds, Rounds)
-    for pulse in rounds.pulses:
-        title, said = (caption if is_colouring else caption_of_program)(rounds, pulse.number)
-        row = {
-            "caption": title,
-            "said": said,
-            "step": pulse.step,
-            "chosen": pulse.chosen,
-            "colours": None,
-            "puts": [[v, w, word, number(sent)] for v, w, word, sent in pulse.puts],
-        }
-        if pulse.colours:
-            row["colours"] = [
-                [number(pulse.colours[v, f]) for f in range(rounds.forests)] for v in vertices
-            ]
-        if not is_colouring:
-            row["results"], row["drawn"] = [pulse.results[v] for v in vertices], pulse.drawn
-            row["new"] = [v for v in vertices if pulse.number and is_new(rounds, pulse, v)]
-        pulses.append(row)
+    """The rounds as the page plays them."""
+    is_colouring = isinstance(rounds, Rounds)
+    pulse_of = pulse_of_colouring if is_colouring else pulse_of_program
     parents = sorted(rounds.parents.items()) if is_colouring else []
     return {
         "last": rounds.last,
         "forests": rounds.forests,
-        "pulses": pulses,
+        "pulses": [pulse_of(rounds, pulse) for pulse in rounds.pulses],
         "first": list(rounds.first.values()),
         "channels": not is_colouring and issubclass(rounds.program, Recolouring),
         "parents": [[v, f, w] for (v, f), w in parents],
+    }
+
+
+def pulse_of_colouring(rounds, pulse):
+    row = pulse_row(pulse, *caption(rounds, pulse.number))
+    if pulse.colours:
+        forests = range(rounds.forests)
+        row["colours"] = [
+            [number(pulse.colours[v, f]) for f in forests] for v in rounds.network.vertices
+        ]
+    return row
+
+
+def pulse_of_program(rounds, pulse):
+    """Of another program than the colouring each node's result, in words."""
+    row, vertices = (
+        pulse_row(pulse, *caption_of_program(rounds, pulse.number)),
+        rounds.network.vertices,
+    )
+    row["results"], row["drawn"] = [pulse.results[v] for v in vertices], pulse.drawn
+    row["new"] = [v for v in vertices if pulse.number and is_new(rounds, pulse, v)]
+    return row
+
+
+def pulse_row(pulse, title, said):
+    return {
+        "caption": title,
+        "said": said,
+        "step": pulse.step,
+        "chosen": pulse.chosen,
+        "colours": None,
+        "puts": [[v, w, word, number(sent)] for v, w, word, sent in pulse.puts],
     }
 
 
@@ -102,8 +117,9 @@ def caption_of_program(rounds, number):
         else ("Nothing is sent.")
     )
     if found:
-        named = ", ".join(map(str, found[:12])) + " .." * (len(found) > 12)
-        said += f" Something new is found by {named}."
+        named = ", ".join(map(str, found[:12]))
+        more = " .." if len(found) > 12 else ""
+        said += f" Something new is found by {named}{more}."
     if number == rounds.last and rounds.wrong:
         said += f" It isn't right: {rounds.wrong}."
     return f"pulse {number} of {rounds.last} · {rounds.program.name}", said

@@ -8,6 +8,22 @@ MOST_COLUMNS = 60
 LEFT, TOP, ROW, SIZE = 64, 112, 46, 11
 
 
+def left_out_words(shown, pulses):
+    if shown == pulses:
+        return ""
+    return (
+        f"{pulses - shown} of {pulses} pulses aren't drawn: nothing is sent in them and nothing found, or they "
+        "aren't asked for."
+    )
+
+
+def draw_columns(svg, x_of, width, height):
+    for k, (pulse, x) in enumerate(x_of.items()):
+        svg.rect(x, TOP - 20, width, height + 14, "#FFFFFF" if k % 2 else BAND)
+        svg.text(x + 5, TOP - 26, f"pulse {pulse}", 11.5, PULSE, bold=True, mark="pulse")
+        svg.line(x, TOP - 20, x, TOP + height - 6, BORDER, 1)
+
+
 def draw(rounds, pulses=None):
     """All pulses at which something is sent or found, or those of A to B."""
     network, shown = rounds.network, columns_of(rounds, pulses)
@@ -19,14 +35,6 @@ def draw(rounds, pulses=None):
         "fewer pulses (--pulses A..B)",
     )
     words = [result for pulse in rounds.pulses for result in pulse.results.values()]
-    missing = (
-        ""
-        if len(shown) > rounds.last
-        else (
-            f"{rounds.last + 1 - len(shown)} of {rounds.last + 1} pulses aren't drawn: nothing is sent in them and "
-            "nothing found, or they aren't asked for."
-        )
-    )
     column = max(88, max(text_width(result, SIZE) for result in words) + 22)
     svg = Svg(
         max(LEFT + len(shown) * column + 24, 760),
@@ -37,15 +45,11 @@ def draw(rounds, pulses=None):
         f"{network.name}: {rounds.program.name}, pulse by pulse to pulse {rounds.last}",
         "Left in a column is what the node has found after the pulse, where it is new; an arrow is a message, "
         "read in the next pulse.",
-        missing,
+        left_out_words(len(shown), rounds.last + 1),
         f"It isn't right at the end: {rounds.wrong}." if rounds.wrong else "",
     )
     x_of = {pulse.number: LEFT + k * column for k, pulse in enumerate(shown)}
-    for k, pulse in enumerate(shown):
-        x = x_of[pulse.number]
-        svg.rect(x, TOP - 20, column, network.nodes * ROW + 14, BAND if k % 2 == 0 else "#FFFFFF")
-        svg.text(x + 5, TOP - 26, f"pulse {pulse.number}", 11.5, PULSE, bold=True, mark="pulse")
-        svg.line(x, TOP - 20, x, TOP + network.nodes * ROW - 6, BORDER, 1)
+    draw_columns(svg, x_of, column, network.nodes * ROW)
     for v in network.vertices:
         svg.line(LEFT - 8, row(v), LEFT + len(shown) * column, row(v), "#B0B0B0", 1)
         svg.text(LEFT - 16, row(v) + 5, v, 13, INK, "end", bold=True)

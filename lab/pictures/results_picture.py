@@ -37,16 +37,13 @@ class Found(Vertex):
             f", was channel {self.before + 1}" if is_new else ""
         )
         # Words of its result only as far as the marks don't show them.
-        said = (
-            f"was {self.before + 1}"
-            if is_new
-            else ""
-            if self.has_channel or is_shown and (self.colour, self.other) != (None, None)
-            else self.result
-        )
-        self.words = " ".join(
-            filter(None, [str(v) * self.has_channel, short_name(rounds.network, v), said])
-        )
+        said = self.result
+        if is_new:
+            said = f"was {self.before + 1}"
+        elif self.has_channel or is_shown and (self.colour, self.other) != (None, None):
+            said = ""
+        number = str(v) if self.has_channel else ""
+        self.words = " ".join(filter(None, [number, short_name(rounds.network, v), said]))
 
 
 def found_in(rounds):
@@ -93,7 +90,7 @@ def legend(found):
         said.append("in the circle is its channel")
     elif filled := {one.result for one in found.values() if one.colour is not None}:
         said.append("filled: " + (f"`{filled.pop()}`" if len(filled) == 1 else "by its colour"))
-    return "".join(f"{'; ' if k else ': '}{words}" for k, words in enumerate(said))
+    return f": {'; '.join(said)}" if said else ""
 
 
 def counts(found, network):

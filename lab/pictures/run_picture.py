@@ -4,6 +4,8 @@ What is drawn is what is true. No cut through all ticks of one pulse is consiste
 a band goes from tick p to tick p + 1 of each node, and wires may cross its border backwards; the payloads that do are
 counted in words.
 A pale bar goes from where a payload is taken to the tick at which it is read, and that tick is p + 1's."""
+import math
+
 from lab.pictures.marks import dash_of, short_name, wire_arrow
 from lab.pictures.palette import BAND, BORDER, INK, PAPER, PULSE, SOFT, WIRES, WRONG
 from lab.pictures.svg import Svg, text_width, wrapped
@@ -86,11 +88,15 @@ def left_of(network, size):
     return LEFT + max(names, default=-6) + 6
 
 
+# How high a node's row is above and below, of runs of up to so many nodes.
+ROWS = ((3, 88, 46), (5, 74, 46), (math.inf, 50, 30))
+
+
 def draw(run, shown, kinds=None, is_wrong_drawn=False, stopped=None):
     """The picture; what is wrong is in it if that is asked for."""
     kinds = kinds or (KINDS if run.network.nodes <= MOST_NODES_OF_ALL_KINDS else ("payload",))
     nodes = run.network.nodes
-    row, lower_row = 88 if nodes <= 3 else 74 if nodes <= 5 else 50, 46 if nodes <= 5 else 30
+    row, lower_row = next(rows for most, *rows in ROWS if nodes <= most)
     window = Window(run, shown, TOP, row, 9.0)
     at_most(
         "run",

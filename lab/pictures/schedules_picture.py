@@ -1,7 +1,8 @@
 """Every schedule of a tiny network as a lattice: a mark is a state, a line a step, a column an event. One run is bold,
 and what goes wrong is red."""
+import math
 from bisect import bisect_right
-from itertools import accumulate
+from itertools import accumulate, chain
 from statistics import mean
 
 from lab.pictures.palette import BAND, BORDER, INK, PAPER, PULSE, SOFT, WIRES, WRONG
@@ -106,37 +107,40 @@ def in_step(space):
     return found
 
 
+# Of up to so many columns each, each fifth or each tenth has its number.
+NUMBERED = ((12, 1), (60, 5), (math.inf, 10))
+
+
+def node_words(v, node):
+    stage = "has halted" if node.stage == "whole" else node.stage
+    return f"node {v} at pulse {node.pulse} {stage}"
+
+
 class Lattice:
     """`bold` are the steps of one run, which `is_given` or one of ours. A step ends at a state; one that is refused has
     an end of its own, (s, e)."""
 
     def __init__(self, network, space, low, high, bold, is_given):
-        self.network, self.space, self.low, self.high, self.is_given = (
-            network,
-            space,
-            low,
-            high,
-            is_given,
-        )
-        self.bold, self.passed = set(bold), {s for s, _ in bold} | {
-            space.steps(s)[e][1] for s, e in bold
-        } | {0}
+        self.network, self.space, self.is_given = network, space, is_given
+        self.low, self.high, self.bold = low, high, set(bold)
+        self.passed = {0, *(s for s, _ in bold), *(space.steps(s)[e][1] for s, e in bold)}
         self.columns = [[] for _ in range(low, high + 1)]
         for s in range(space.count):
             if low <= space.depth[s] <= high:
                 self.columns[space.depth[s] - low].append(s)
-        self.steps = [
-            (s, e, event, (s, e) if t is None else t)
-            for column in self.columns
-            for s in column
-            for e, (event, t) in enumerate(space.steps(s))
-            if space.depth[s] < high
-        ]
+        states = chain(*self.columns[:-1])
+        self.steps = [step for s in states for step in self.steps_of(s)]
         for s, _, _, end in self.steps:
             if isinstance(end, tuple):
                 self.columns[space.depth[s] + 1 - low].append(end)
-        self.columns = self.columns[: max(k for k, column in enumerate(self.columns) if column) + 1]
+        while not self.columns[-1]:
+            self.columns.pop()
         self.place()
+
+    def steps_of(self, s):
+        """(state, number of the step, event, where it ends)."""
+        for e, (event, target) in enumerate(self.space.steps(s)):
+            yield s, e, event, (s, e) if target is None else target
 
     def place(self):
         """Rows by the mean of a mark's neighbours to the left, so that lines cross little."""
@@ -179,11 +183,8 @@ class Lattice:
         bottom = top + 2 * self.radius + self.gap * (self.widest - 1) + 20
         svg = Svg(width, bottom + 46, f"every schedule of {self.network.name}")
         svg.heading(self.fact(), *lines)
-        for k in range(
-            0,
-            len(self.columns),
-            1 if len(self.columns) <= 12 else 5 if len(self.columns) <= 60 else 10,
-        ):
+        every = next(step for most, step in NUMBERED if len(self.columns) <= most)
+        for k in range(0, len(self.columns), every):
             svg.text(LEFT + k * self.step, bottom, self.low + k, 9, SOFT, "middle")
         svg.text(
             20,
@@ -206,7 +207,8 @@ class Lattice:
         space, title = self.space, title_of(self.network, self.space)
         if space.faults:
             listed = space.with_puts(space.path_to_fault())
-            return f"{title}: {events_words(listed)} {'is' if len(listed) == 1 else 'are'} enough to go wrong"
+            verb = "is" if len(listed) == 1 else "are"
+            return f"{title}: {events_words(listed)} {verb} enough to go wrong"
         return f"{title}: every schedule ends in " + (
             "one state" if len(space.ends) == 1 else f"one of {len(space.ends)} states"
         )
@@ -223,14 +225,15 @@ class Lattice:
         if (self.low, self.high) != (0, last := last_column(space)):
             said.append(f"Here are those after {self.low} to {self.high} of {last} events.")
         if any(self.low <= space.depth[s] < self.high for s, _ in self.bold):
-            said.append(
-                "Bold: the run that was given."
-                if self.is_given
-                else f"Bold: a shortest schedule that goes wrong: {fault_words(space)}."
-                if space.faults
-                else "Bold: the run in which all that is sent comes before a node makes its pulse."
-            )
+            said.append(f"Bold: {self.bold_words()}.")
         return wrapped(" ".join(said), width - 40)
+
+    def bold_words(self):
+        if self.is_given:
+            return "the run that was given"
+        if self.space.faults:
+            return f"a shortest schedule that goes wrong: {fault_words(self.space)}"
+        return "the run in which all that is sent comes before a node makes its pulse"
 
     def number_size(self):
         """How large the pulses inside a mark are: all as large as the longest ones may be."""
@@ -249,18 +252,11 @@ class Lattice:
             with svg.group("bold" if is_bold else "step", title):
                 if is_bold:
                     svg.line(x1, y1, x2, y2, INK, round(max(3.2, self.radius * 0.6), 1))
-                svg.line(
-                    x1,
-                    y1,
-                    x2,
-                    y2,
-                    WRONG if is_wrong else PULSE if kind == "pulse" else WIRES[kind],
-                    round(max(1.2, self.radius * 0.3), 1)
-                    if is_bold
-                    else 0.8
-                    if self.radius < 4
-                    else 1.4,
-                )
+                hue = PULSE if kind == "pulse" else WIRES[kind]
+                width = 0.8 if self.radius < 4 else 1.4
+                if is_bold:
+                    width = round(max(1.2, self.radius * 0.3), 1)
+                svg.line(x1, y1, x2, y2, WRONG if is_wrong else hue, width)
 
     def apart(self, s):
         """The most pulses that two neighbours are apart, three for all above."""
@@ -268,6 +264,11 @@ class Lattice:
         return min(
             3, max((abs(pulses[v - 1] - pulses[w - 1]) for v, w in self.space.links), default=0)
         )
+
+    def is_wrong(self, s):
+        """Whether a node has made a pulse without its inbox, or nothing is possible though some node waits."""
+        nodes = self.space.nodes(s).values()
+        return (s, None) in self.space.faults or any(node.wrong for node in nodes)
 
     def draw_state(self, svg, s):
         x, y = self.x(s), self.y(s)
@@ -284,24 +285,13 @@ class Lattice:
                     bold=True,
                 )
             return
-        # A node has made a pulse without its inbox, or nothing is possible though some node waits.
-        is_wrong = (s, None) in self.space.faults or any(
-            node.wrong for node in self.space.nodes(s).values()
-        )
-        words = ", ".join(
-            f"node {v} at pulse {node.pulse} {'has halted' if node.stage == 'whole' else node.stage}"
-            for v, node in self.space.nodes(s).items()
-        )
-        is_bold = s in self.passed
-        with svg.group("state wrong" if is_wrong else "state", words):
-            svg.circle(
-                x,
-                y,
-                self.radius,
-                WRONG if is_wrong else APART[self.apart(s)],
-                INK if is_bold else BORDER,
-                (1.8 if is_bold else 0.8) if self.radius > 4 else 0.5,
-            )
+        is_wrong, is_bold = self.is_wrong(s), s in self.passed
+        words = [node_words(v, node) for v, node in self.space.nodes(s).items()]
+        with svg.group("state wrong" if is_wrong else "state", ", ".join(words)):
+            hue = WRONG if is_wrong else APART[self.apart(s)]
+            width = 1.8 if is_bold else 0.8
+            border = INK if is_bold else BORDER
+            svg.circle(x, y, self.radius, hue, border, width if self.radius > 4 else 0.5)
             size = self.number_size()
             if size >= 5:
                 svg.text(

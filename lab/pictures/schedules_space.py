@@ -42,7 +42,8 @@ def quoted(words):
 def left_out_words(without):
     """The rules that are left out, as a sentence."""
     said = [f"that {ALL[rule].says}" for rule in without]
-    return f"Left out {'is the rule' if len(said) == 1 else 'are the rules'} {'; '.join(said)}."
+    what = "is the rule" if len(said) == 1 else "are the rules"
+    return f"Left out {what} {'; '.join(said)}."
 
 
 def title_of(network, space):

@@ -64,6 +64,12 @@ class Sheet:
             else f'<span class="{room}">&nbsp;</span>'
         )
 
+    def entry(self, entry, is_given):
+        """What is in a cell: nothing in that of an answer, but on a sheet of answers."""
+        if is_given:
+            return entry
+        return f"<b class=answer>{entry}</b>" if self.answers else ""
+
     def table(self, head, rows):
         """A row of vertices, and rows of (name, entries, whether they are given)."""
         lines = [
@@ -72,12 +78,7 @@ class Sheet:
             + "</tr>"
         ]
         for name, entries, is_given in rows:
-            cells = [
-                f"<td>{entry}</td>"
-                if is_given
-                else f'<td>{f"<b class=answer>{entry}</b>" if self.answers else ""}</td>'
-                for entry in entries
-            ]
+            cells = [f"<td>{self.entry(entry, is_given)}</td>" for entry in entries]
             lines.append(f"<tr><th>{escaped(name)}</th>{''.join(cells)}</tr>")
         return f"<table>{''.join(lines)}</table>"
 
@@ -186,10 +187,8 @@ class Sheet:
 
     def text(self, lessons):
         title = f"Sheet {escaped(self.name)}" + (", answers" if self.answers else "")
-        parts = [
-            f"<section><h1>{title}<small>{'' if self.answers else 'Name: ' + '_' * 28}</small></h1>",
-            self.map(),
-        ]
+        name = "" if self.answers else "Name: " + "_" * 28
+        parts = [f"<section><h1>{title}<small>{name}</small></h1>", self.map()]
         for lesson in LESSONS:
             questions = list(getattr(self, f"lesson_{lesson}")())
             if lesson in lessons:
@@ -232,8 +231,8 @@ def network_by(source):
 def draw(seed, count, answers, lessons):
     names = [seed] if count == 1 else [f"{seed}-{number}" for number in range(1, count + 1)]
     sheets = "\n".join(Sheet(name, answers).text(lessons) for name in names)
-    title = f"{'Answers to sheets' if answers else 'Sheets'} {escaped(seed)}"
-    return filled(text_of("sheet.html"), TITLE=title, SHEETS=sheets)
+    what = "Answers to sheets" if answers else "Sheets"
+    return filled(text_of("sheet.html"), TITLE=f"{what} {escaped(seed)}", SHEETS=sheets)
 
 
 def command_line():

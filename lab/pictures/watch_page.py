@@ -6,7 +6,7 @@ The page has no algorithm in it: what a node is after each entry is worked out h
 import json
 from collections import deque
 
-from lab.definitions.nodes import Colouring, NetState, make, wire_words
+from lab.definitions.nodes import Colouring, NetState, lacks_of, make, wire_words
 from lab.definitions.rounds import FIRST_MERGE
 from lab.pictures.pages import net_of, page
 from lab.pictures.transcripts import ordered, window_of
@@ -23,16 +23,8 @@ ORDER = (
 def look_of(state, v):
     """What is shown of a node: its pulse; of whom it awaits which wire; what it has taken for its next pulse, and what
     came a pulse early; and its channel, once it has chosen one."""
-    node, near = state.nodes[v], state.neighbours[v]
-    p, ports = node.pulse_number, list(zip(near, node.ports))
-    if node.drained():
-        waits = []
-    elif p == node.last:
-        waits = [("close", w) for w, port in ports if not port.closed]
-    else:
-        waits = [("ack", w) for w, port in ports if port.waits] + [
-            ("safe", w) for w, port in ports if not port.safe
-        ]
+    node = state.nodes[v]
+    p, ports = node.pulse_number, list(zip(state.neighbours[v], node.ports))
     has = [(payload_words(port.present), w) for w, port in ports if port.present]
     early = [(payload_words(port.early), w) for w, port in ports if port.early]
     early += [("safe", w) for w, port in ports if port.early_safe]
@@ -40,11 +32,21 @@ def look_of(state, v):
         "p": p,
         "s": int(node.said),
         "e": int(node.drained()),
-        "w": waits,
+        "w": waits_of(state, v),
         "h": has,
         "k": early,
         "c": found(node),
     }
+
+
+def waits_of(state, v):
+    """Of whom a node awaits which wire."""
+    node = state.nodes[v]
+    if node.pulse_number == node.last:
+        ports = zip(state.neighbours[v], node.ports)
+        return [("close", w) for w, port in ports if not port.closed]
+    acks, safes = lacks_of(state, v)
+    return [("ack", w) for w in acks] + [("safe", w) for w in safes]
 
 
 def found(node):

@@ -34,18 +34,25 @@ class Cone:
         """A fact and all those on which it depends."""
         found, left = {fact}, [fact]
         while left:
-            kind, *of = left.pop()
-            causes = (
-                self.causes_of_choice(*of)
-                if kind == "merged"
-                else self.causes_of_colour(*of)
-                if kind == "colour"
-                else ()
-            )
-            new = set(causes) - found
+            new = set(self.causes_of(*left.pop())) - found
             found |= new
             left += new
         return found
+
+    def choices(self):
+        """(vertex, forest) of each choice that mattered, the last one first."""
+        found = [fact[1:] for fact in self.facts if fact[0] == "merged"]
+        return sorted(found, key=lambda choice: (-self.rounds.turns[choice[1], choice[0]], choice))
+
+    def coloured(self):
+        """(vertex, forest) where a colour mattered, by forest."""
+        found = {(f, v) for kind, v, *more in self.facts if kind == "colour" for f in more[:1]}
+        return [(v, f) for f, v in sorted(found)]
+
+    def causes_of(self, kind, *fact):
+        if kind == "merged":
+            return self.causes_of_choice(*fact)
+        return self.causes_of_colour(*fact) if kind == "colour" else ()
 
     def causes_of_choice(self, v, f):
         """Its pair, which is its turn; and, for each lower colour, who had taken it first, if it isn't barred."""
@@ -130,19 +137,9 @@ def text(cone):
         f"why node {cone.vertex} of {cone.network.name} has channel {channel_of(cone)}",
         summary(cone),
     ]
-    choices = sorted(
-        (-cone.rounds.turns[f, v], v, f)
-        for kind, v, *of in cone.facts
-        if kind == "merged"
-        for f in of
-    )
-    lines += [line for _, v, f in choices for line in choice_lines(cone, v, f)]
-    lines += [
-        colour_line(cone, v, f)
-        for f in cone.forests()
-        for v in cone.network.vertices
-        if any(("colour", v, f, p) in cone.facts for p in range(SEED, LAST_COLOUR + 1))
-    ]
+    for v, f in cone.choices():
+        lines += choice_lines(cone, v, f)
+    lines += [colour_line(cone, v, f) for v, f in cone.coloured()]
     if cone.messages:
         lines.append("the messages that decided it, pulse by pulse:")
         lines += [message_words(cone, *message) for message in sorted(cone.messages)]
@@ -183,7 +180,8 @@ def colour_line(cone, v, f):
         str(cone.rounds.pulses[p].colours[v, f]) if ("colour", v, f, p) in cone.facts else "."
         for p in range(SEED, LAST_COLOUR + 1)
     )
-    return f"forest {f}, node {v}, {f'parent {parent}' if parent else 'a root'}, pulses 2 to 12: {said}"
+    above = f"parent {parent}" if parent else "a root"
+    return f"forest {f}, node {v}, {above}, pulses 2 to 12: {said}"
 
 
 def draw(cone):

@@ -52,6 +52,8 @@ POLICIES = {
     "late-acks": "acknowledgements wait",
     "late-safes": "safes wait",
 }
+# What the seed chooses, of policies by which something waits or comes first.
+CHOSEN = {"slow-link": "edge", "slow-node": "node", "fast-node": "node"}
 WAITS = {
     "slow-link": lambda step, edge: tuple(sorted(step.link)) == edge,
     "slow-node": lambda step, v: step.node == v,
@@ -77,7 +79,7 @@ class Policy:
     ):
         # Of a seed's generator only random() gives the same numbers in all versions of Python.
         self.name, self.source, self.last = name, random.Random(f"{seed} {name}"), ((0, 0), "")
-        among = edges if name == "slow-link" else vertices if name.endswith("-node") else ()
+        among = {"edge": edges, "node": vertices}.get(CHOSEN.get(name, ""), ())
         self.chosen = self.any_of(list(among)) if among else None
         self.slow, self.lazy = {tuple(sorted(edge)) for edge in slow}, set(lazy)
 
@@ -87,28 +89,31 @@ class Policy:
     def choose(self, steps: Sequence[Step]) -> Step:
         """One of the steps, of which there is at least one."""
         if self.slow or self.lazy:
-            steps = [
-                step
-                for step in steps
-                if not (step.node in self.lazy or tuple(sorted(step.link)) in self.slow)
-            ] or steps
+            steps = [step for step in steps if not self.is_held_up(step)] or steps
+        step = self.chosen_of(steps)
+        self.last = step.link, step.kind
+        return step
+
+    def is_held_up(self, step: Step) -> bool:
+        return step.node in self.lazy or tuple(sorted(step.link)) in self.slow
+
+    def chosen_of(self, steps: Sequence[Step]) -> Step:
+        """One of these steps, by the policy alone."""
         if self.name == "newest":
-            return max(
-                steps, key=lambda step: step.latest
-            )  # it pulls the older wires of its link with it
+            # It pulls the older wires of its link with it.
+            return max(steps, key=lambda step: step.latest)
         if self.name == "oldest":
             return min(steps, key=lambda step: step.since)
         if self.name == "in-turn":
-            step = min(
-                [step for step in steps if (step.link, step.kind) > self.last] or steps,
-                key=lambda step: (step.link, step.kind),
-            )
-        elif self.name == "bursts":
-            step = next((step for step in steps if step.link == self.last[0]), None) or self.any_of(
-                steps
-            )
-        else:
-            waits = WAITS.get(self.name, lambda step, chosen: False)
-            return self.any_of([step for step in steps if not waits(step, self.chosen)] or steps)
-        self.last = step.link, step.kind
-        return step
+            return self.next_in_turn(steps)
+        if self.name == "bursts":
+            same = [step for step in steps if step.link == self.last[0]]
+            return same[0] if same else self.any_of(steps)
+        if self.name in WAITS:
+            waits = WAITS[self.name]
+            steps = [step for step in steps if not waits(step, self.chosen)] or steps
+        return self.any_of(steps)
+
+    def next_in_turn(self, steps: Sequence[Step]) -> Step:
+        after = [step for step in steps if (step.link, step.kind) > self.last]
+        return min(after or steps, key=lambda step: (step.link, step.kind))

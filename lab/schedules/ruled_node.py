@@ -156,41 +156,60 @@ def program_refuses(program, pulse, inbox):
 def colouring_refuses(program, pulse, inbox):
     """Whether the colouring refuses an inbox: what is due and missing, or not due, or a value that can't be. (A role is
     None before pulse 2, or the way and the forest.)"""
-    kinds = {None if slot is None else slot[0] for slot in inbox}
     if pulse == 1:
-        numbers = [slot[1] for slot in inbox if slot]
-        higher = [number for number in numbers if number > program.id]
-        return (
-            bool(kinds - {"Hello"})
-            or len({*numbers, program.id}) <= len(numbers)
-            or len(higher) > program.forests
-        )
+        return names_refused(program, inbox)
     if pulse == 2:
-        return any(
-            slot is not None
-            if role
-            else slot is None or slot[0] != "Label" or slot[1] >= program.forests
-            for role, slot in zip(program.roles, inbox)
-        )
-    if pulse <= 12:
-        bound = {3: 2**128, 4: 255, 5: 15, 6: 7, 7: 5, 8: 5, 9: 4, 10: 4, 11: 3, 12: 3}[pulse]
-        return any(
-            slot is None
-            or slot[0] != "Colour"
-            or slot[1] > bound
-            or slot[1] == program.colours[role[1]]
-            if role[0] == "Up"
-            else slot is not None
-            for role, slot in zip(program.roles, inbox)
-        ) or (pulse >= 7 and max(program.colours, default=0) > bound)
+        return any(map(label_refused, [program.forests] * program.degree, program.roles, inbox))
+    if pulse > 12:
+        return choices_refused(program, pulse, inbox)
+    bound = BOUNDS[pulse]
+    if pulse >= 7 and max(program.colours, default=0) > bound:
+        return True
+    return any(colour_refused(program, bound, *pair) for pair in zip(program.roles, inbox))
+
+
+# The greatest colour of a parent, by the pulse in which a node hears it.
+BOUNDS = {3: 2**128, 4: 255, 5: 15, 6: 7, 7: 5, 8: 5, 9: 4, 10: 4, 11: 3, 12: 3}
+
+
+def names_refused(program, inbox):
+    """Each neighbour sends an identifier; they and the node's own differ, and not too many are higher."""
+    if any(slot is None or slot[0] != "Hello" for slot in inbox):
+        return True
+    numbers = [number for _, number in inbox]
+    higher = [number for number in numbers if number > program.id]
+    return len({*numbers, program.id}) <= len(numbers) or len(higher) > program.forests
+
+
+def label_refused(forests, role, slot):
+    """A child sends the label of a forest, and a parent nothing."""
+    if role:
+        return slot is not None
+    return slot is None or slot[0] != "Label" or slot[1] >= forests
+
+
+def colour_refused(program, bound, role, slot):
+    """A parent sends a colour other than the node's own, and a child nothing."""
+    way, forest = role
+    if way == "Down":
+        return slot is not None
+    if slot is None or slot[0] != "Colour":
+        return True
+    return slot[1] > bound or slot[1] == program.colours[forest]
+
+
+def choices_refused(program, pulse, inbox):
+    """In a merge neighbours in the forests merged so far send what they choose, but not before its first step; and a
+    node whose turn it is finds a colour that is free."""
     width = program.span + 1
     forest, step = divmod(pulse - 13, 3 * width)
-    chosen = {slot[1] for slot in inbox if slot}
-    if kinds - {"Chosen", None} or max(chosen, default=0) > program.span or chosen and step == 0:
+    heard = [(role, slot) for role, slot in zip(program.roles, inbox) if slot]
+    if heard and step == 0:
         return True
-    if any(slot and role[1] > forest for role, slot in zip(program.roles, inbox)):
-        return True
+    for (_, of_edge), (kind, number) in heard:
+        if kind != "Chosen" or number > program.span or of_edge > forest:
+            return True
+    chosen = {slot[1] for _, slot in heard}
     old, taken = (program.merged, chosen) if step == 0 else (program.old, program.chosen | chosen)
-    return (program.colours[forest], old) == divmod(step, width) and set(
-        range(width)
-    ) <= taken | program.barred
+    has_turn = (program.colours[forest], old) == divmod(step, width)
+    return has_turn and set(range(width)) <= taken | program.barred

@@ -77,12 +77,10 @@ class Stepwise(Player):
     def makes(self, kind, v, w, place):
         """Makes a step if it is possible now, and says whether it was; a take may overtake `place` wires."""
         own = [one for one in self.steps.get(v, ()) if (one.kind, one.neighbour) == (kind, w)]
-        if (
-            self.is_over
-            or not own
-            or place
-            and not ("fifo" in self.without and place < len(self.words_on(w, v)))
-        ):
+        if self.is_over or not own:
+            return False
+        may_overtake = "fifo" in self.without and place < len(self.words_on(w, v))
+        if place and not may_overtake:
             return False
         self.step(own[0], place)
         return True

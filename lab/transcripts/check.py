@@ -62,13 +62,9 @@ class Found:
         """What is wrong first, if something is: `fault` is that of a line after the entries, which comes before an
         entry that waits for a neighbour. If the entries are only a part, nodes may wait."""
         entry = self.first_refused()
-        if (
-            entry is None
-            or fault
-            and self.waits(entry)
-            or is_part
-            and set(self.refusals.values()) == {"LinkEmpty"}
-        ):
+        if entry is None or fault and self.waits(entry):
+            return fault
+        if is_part and set(self.refusals.values()) == {"LinkEmpty"}:
             return fault
         return refusal(self.state, entry, self.refusals[entry.vertex], self.entries, self.clock)
 

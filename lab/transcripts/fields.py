@@ -45,7 +45,8 @@ def first_line(nodes, program=COLOURING):
 def bound_of(program, word):
     """The bound of a payload's number."""
     words = PAYLOADS.get(program, {})
-    if word in words or not words and word.isalpha() and word.islower() and word.isascii():
+    is_word = word.isalpha() and word.islower() and word.isascii()
+    if word in words or is_word and not words:
         return words.get(word, 2**128)
     others = " or ".join(name for name, has in PAYLOADS.items() if word in has)
     has = f", which has {b', '.join(words).decode()}" if words else ""
@@ -81,4 +82,6 @@ def wire_of(program, *fields):
 
 def shown(field):
     text = field[:40].decode("utf-8", "replace")
-    return f"`{''.join(letter if letter.isprintable() else '?' for letter in text)}{'..' if len(field) > 40 else ''}`"
+    letters = "".join(letter if letter.isprintable() else "?" for letter in text)
+    more = ".." if len(field) > 40 else ""
+    return f"`{letters}{more}`"

@@ -46,8 +46,8 @@ class Head(NamedTuple):
 
 
 class Wrong(wrong.Wrong):
-    """Why a text isn't the transcript of a whole run that is right: its `line`, if it is one line's fault, the `code` of
-    the refusal, and `what` is wrong."""
+    """Why a text isn't the transcript of a whole run that is right: its `line`, if it is one line's fault, the `code`
+    of the refusal, and `what` is wrong."""
 
     def __init__(self, line, code, what):
         super().__init__(line, code, what)
@@ -108,12 +108,10 @@ def read_to_fault(text, program=COLOURING, stop=None):
 
 def head_of(lines, program):
     """The first line that has a field; that it names another program than the one asked for is its first fault."""
-    line, fields = next(
-        ((at, found) for at, found in enumerate(map(fields_of, lines), 1) if found), (1, [b""])
-    )
-    named = (
-        fields[2].decode("latin-1") if fields[:2] == [b"transcript", b"3"] and fields[2:] else ""
-    )
+    line, fields = first_with_fields(lines)
+    named = ""
+    if fields[:2] == [b"transcript", b"3"] and fields[2:]:
+        named = fields[2].decode("latin-1")
     is_name = name_in_texts(named) == named and not named.isdecimal() and named != ""
     if is_name and program is not None and named != name_in_texts(program):
         raise Wrong(
@@ -126,17 +124,26 @@ def head_of(lines, program):
             case [b"transcript", b"3", _, nodes] if is_name:
                 return Head(line, 3, number(nodes, "node"), named)
     what = (
-        "; this is a network: it is a file of its own, named before the transcript"
-        if fields[0] in NETWORK
-        else (
-            "; save it as UTF-8 without a byte order mark"
-            if not fields[0].isascii() or b"\0" in fields[0]
-            else ""
-        )
+        f"neither `transcript 1 N`, `transcript 2 N` nor `transcript 3 NAME N`{advice(fields[0])}"
     )
-    raise Wrong(
-        line, "X1", f"neither `transcript 1 N`, `transcript 2 N` nor `transcript 3 NAME N`{what}"
-    )
+    raise Wrong(line, "X1", what)
+
+
+def first_with_fields(lines):
+    """The first line that has a field, by its number, and its fields; line 1 if there is none."""
+    for line, fields in enumerate(map(fields_of, lines), 1):
+        if fields:
+            return line, fields
+    return 1, [b""]
+
+
+def advice(field):
+    """What to do about a text whose first field this is."""
+    if field in NETWORK:
+        return "; this is a network: it is a file of its own, named before the transcript"
+    if not field.isascii() or b"\0" in field:
+        return "; save it as UTF-8 without a byte order mark"
+    return ""
 
 
 def line_of(entry):

@@ -2,6 +2,8 @@
 say the same; they differ in how they name a link, by the port or by the neighbour."""
 from dataclasses import dataclass
 
+from lab.words import in_words
+
 # So many nodes are named that a run which is stuck waits for.
 MOST_OWING = 3
 
@@ -9,21 +11,36 @@ MOST_OWING = 3
 @dataclass
 class Standing:
     """Where a node is before an entry: its pulse, and its last one; `can_pulse`, whether it can make its next
-    pulse, and `lacks`, what it waits for otherwise, as `ack 0 of 2; safe 0 of 2 and 3`; `puts`, the wire that it
+    pulse, and otherwise the neighbours for whose acknowledgements and whose safes it waits; `puts`, the wire that it
     has to put now, by link; `link`, how a link is named, as `by port {}`."""
 
     pulse: int
     last: int
     can_pulse: bool
-    lacks: str
+    acks: list[int]
+    safes: list[int]
     puts: dict[int, str]
     link: str
 
+    @property
+    def lacks(self) -> str:
+        """What it waits for, as `ack 0 of 2; safe 0 of 2 and 3`."""
+        return "; ".join(filter(None, [self.lacked("ack", self.acks), self.lacked_safes()]))
+
+    def lacked_safes(self) -> str:
+        return self.lacked("safe", self.safes)
+
+    def lacked(self, wire: str, links: list[int]) -> str:
+        return f"{wire} {self.pulse} {self.whose(links)}" if links else ""
+
+    def whose(self, links: list[int], word: str = "of") -> str:
+        """Those from whom wires are to come."""
+        return f"{word} {in_words(links)}"
+
     def dues(self) -> list[str]:
         """What it can do."""
-        return [f"put {link} {wire}" for link, wire in self.puts.items()] + (
-            [f"pulse {self.pulse + 1}"] if self.can_pulse else []
-        )
+        puts = [f"put {link} {wire}" for link, wire in self.puts.items()]
+        return puts + ([f"pulse {self.pulse + 1}"] if self.can_pulse else [])
 
     def undone(self) -> str:
         """The same, of a node that doesn't do it."""
@@ -31,16 +48,11 @@ class Standing:
 
     def why_not_safe(self) -> str:
         """Why it can't have said safe yet; nothing if no acknowledgement is missing."""
-        acks = [
-            part.removeprefix("ack ") for part in self.lacks.split("; ") if part.startswith("ack ")
-        ]
-        if not acks:
+        if not self.acks:
             return ""
-        whose = acks[0].replace(" of ", " from ")
-        return f"it can't have said safe yet: it lacks the acknowledgement{'s' * (' and ' in whose)} of pulse {whose}"
-
-    def lacked_safes(self) -> str:
-        return "; ".join(part for part in self.lacks.split("; ") if not part.startswith("ack "))
+        lacked = "acknowledgements" if len(self.acks) > 1 else "acknowledgement"
+        whose = self.whose(self.acks, "from")
+        return f"it can't have said safe yet: it lacks the {lacked} of pulse {self.pulse} {whose}"
 
     def named(self, wire: str, link: int) -> str:
         return f"{wire} {self.link.format(link)}"
@@ -48,11 +60,8 @@ class Standing:
     def why_payload(self, link: int) -> str:
         """Why a payload is due there, or none."""
         right = self.puts.get(link, "")
-        return (
-            f"the rounds have {right} there"
-            if right.startswith("payload")
-            else "the rounds have no payload there"
-        )
+        due = right if right.startswith("payload") else "no payload"
+        return f"the rounds have {due} there"
 
     def owes(self, payloads: str) -> str:
         return f"in pulse {self.pulse} it has to send {payloads} first"
@@ -74,7 +83,9 @@ DUE = {
 def rules_of_dues(at: Standing) -> str:
     """Why it has to do what it can do."""
     rules = [DUE.get(wire.split(" ")[0]) or at.why_payload(link) for link, wire in at.puts.items()]
-    return "; ".join(dict.fromkeys([*rules, *[f"{PULSE}, and this node has"] * at.can_pulse]))
+    if at.can_pulse:
+        rules.append(f"{PULSE}, and this node has")
+    return "; ".join(dict.fromkeys(rules))
 
 
 def rule_of(at: Standing, words: str, says_lacks: bool = True) -> str:
@@ -88,8 +99,12 @@ def rule_of(at: Standing, words: str, says_lacks: bool = True) -> str:
         return f"pulse {at.last} is the last"
     if not at.lacks:
         return f"{PULSE}; it has too many wires that it hasn't put yet"
-    lacked = f"it lacks {at.lacked_safes()}" if says_lacks and at.lacked_safes() else ""
-    return "; ".join(filter(None, [PULSE, at.why_not_safe(), lacked]))
+    said = [PULSE]
+    if at.acks:
+        said.append(at.why_not_safe())
+    if says_lacks and at.safes:
+        said.append(f"it lacks {at.lacked_safes()}")
+    return "; ".join(said)
 
 
 def rule_of_put(at: Standing, link: int, wire: list[str]) -> str:
@@ -98,39 +113,36 @@ def rule_of_put(at: Standing, link: int, wire: list[str]) -> str:
     due = right.split(" ")[0]
     if due == "ack":
         return f"{DUE['ack']}, before anything else is put on that link"
+    if kind == "payload" and int(wire[1]) == at.pulse:
+        return at.why_payload(link)
     if kind == "payload":
-        return (
-            at.why_payload(link)
-            if int(wire[1]) == at.pulse
-            else (
-                f"the node is at pulse {at.pulse}, and a payload of pulse P is put after pulse P is made"
-            )
-        )
+        return f"the node is at pulse {at.pulse}, and a payload of pulse P is put after pulse P is made"
     if due == "payload":
         return at.owes(at.named(right, link))
+    if kind == "ack" and due == "safe":
+        return f"this link has to get {right} before: {DUE['safe']}"
     if kind == "ack":
-        return (
-            f"this link has to get {right} before: {DUE['safe']}"
-            if due == "safe"
-            else ("each payload is acknowledged once, with the payload's own pulse")
-        )
+        return "each payload is acknowledged once, with the payload's own pulse"
     if kind == "close":
-        return (
-            "close is put once on each link"
-            if at.pulse == at.last
-            else (
-                f"close is the last wire of a link, put as the node makes its last pulse, {at.last}; it is at pulse "
-                f"{at.pulse}"
-            )
-        )
+        return rule_of_close(at)
+    return rule_of_safe(at, link, wire)
+
+
+def rule_of_close(at: Standing) -> str:
+    if at.pulse == at.last:
+        return "close is put once on each link"
+    when = f"put as the node makes its last pulse, {at.last}; it is at pulse {at.pulse}"
+    return f"close is the last wire of a link, {when}"
+
+
+def rule_of_safe(at: Standing, link: int, wire: list[str]) -> str:
     if int(wire[1]) != at.pulse:
         return f"the node is at pulse {at.pulse}, and safe P is said in pulse P"
-    done = (
-        f"its pulse, {at.pulse}, is the last"
-        if at.pulse == at.last
-        else (f"it has put {at.named(' '.join(wire), link)} already")
-    )
-    return f"{SAFE}; {at.why_not_safe() or done}"
+    if at.acks:
+        return f"{SAFE}; {at.why_not_safe()}"
+    if at.pulse == at.last:
+        return f"{SAFE}; its pulse, {at.pulse}, is the last"
+    return f"{SAFE}; it has put {at.named(' '.join(wire), link)} already"
 
 
 def stuck_words(owing: list[tuple[int, Standing]]) -> str:

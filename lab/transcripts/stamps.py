@@ -1,7 +1,7 @@
 """Lamport's clock; and in words why an entry isn't possible, or a run not whole."""
 from collections import deque
 
-from lab.definitions.nodes import event_of, missing_words, wire_words
+from lab.definitions.nodes import event_of, lacks_of, wire_words
 from lab.transcripts.reading import Wrong, words
 from lab.transcripts.rules import Standing, rule_of, stuck_words
 
@@ -43,12 +43,9 @@ def standing(state, v):
     puts = {
         w: wire_words(port.out[0]) for w, port in zip(state.neighbours[v], node.ports) if port.out
     }
-    lacks = (
-        ""
-        if node.can_pulse() or node.pulse_number == node.last
-        else missing_words(state, "Pulse", v)[2:]
-    )
-    return Standing(node.pulse_number, node.last, node.can_pulse(), lacks, puts, "for {}")
+    is_at_the_end = node.pulse_number == node.last
+    lacks = ([], []) if is_at_the_end or node.can_pulse() else lacks_of(state, v)
+    return Standing(node.pulse_number, node.last, node.can_pulse(), *lacks, puts, "for {}")
 
 
 # What an entry lacks, of the refusals that say no more of it.
@@ -61,31 +58,32 @@ LACKED = {
 def refusal(state, entry, code, entries, clock):
     """Of an entry that isn't possible: what it lacks or what is due there, and the rule that a pulse or a put
     breaks."""
-    said, at = words(entry) + LACKED.get(code, ""), code != "NoSuch" and standing(
-        state, entry.vertex
-    )
+    said = words(entry) + LACKED.get(code, "")
+    if code == "NoSuch":
+        return Wrong(entry.line, code, said)
+    at = standing(state, entry.vertex)
     if code == "NotReady" and at.lacks:
         said += f", but it lacks {at.lacks}"
     elif code == "WrongWire":
         due = state.carried(*event_of(state, entry))
-        said += f", but the next one there is {due if entry.kind == 'Pulse' else wire_words(due)}"
+        said += f", but the next one there is {what_words(due)}"
     elif code == "LinkEmpty":
         said += why_link_empty(entry, entries)
     elif code == "WrongStamp":
-        due = clock.counters[entry.vertex]
-        said += f" with stamp {entry.stamp}, but " + (
-            f"the clock there gives {due}"
-            if entry.stamp != due
-            else "entries ascend by stamp, and then by node"
-        )
+        due, why = clock.counters[entry.vertex], "entries ascend by stamp, and then by node"
+        if entry.stamp != due:
+            why = f"the clock there gives {due}"
+        said += f" with stamp {entry.stamp}, but {why}"
     if code in ("NotReady", "NothingToPut", "WrongWire") and entry.kind != "Take":
-        what = (
-            f"pulse {entry.what}"
-            if entry.kind == "Pulse"
-            else f"put {entry.neighbour} {wire_words(entry.what)}"
-        )
+        what = "pulse" if entry.kind == "Pulse" else f"put {entry.neighbour}"
+        what += f" {what_words(entry.what)}"
         said += f"; {rule_of(at, what, says_lacks=False)}"
     return Wrong(entry.line, code, said)
+
+
+def what_words(what):
+    """What an event carries: a pulse, or a wire."""
+    return str(what) if isinstance(what, int) else wire_words(what)
 
 
 def why_link_empty(entry, entries):
@@ -97,11 +95,9 @@ def why_link_empty(entry, entries):
     )
     puts = [e for e in entries if e.kind == "Put" and (e.vertex, e.neighbour) == link][taken:]
     put = next((e for e in puts if e.what == entry.what), None)
-    return (
-        f"; it is put in line {put.line}, which can't have come before"
-        if put
-        else (f", and {entry.neighbour} never puts it (is the text cut?)")
-    )
+    if put:
+        return f"; it is put in line {put.line}, which can't have come before"
+    return f", and {entry.neighbour} never puts it (is the text cut?)"
 
 
 def unfinished(state):

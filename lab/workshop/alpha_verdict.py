@@ -38,6 +38,9 @@ class At(Standing):
     own: list[str]
     v: int
 
+    def whose(self, links: list[int], word: str = "of") -> str:
+        return f"by {listed('port', links)}"
+
     def why_payload(self, link: int) -> str:
         return Why(self.rounds, self.v).of(self.pulse, link)
 
@@ -83,8 +86,10 @@ def at_node(rounds: RightRounds, before: list[Entry], v: int) -> At:
     def refusal_of(words):
         return verdict_of(network, f"{text}{v} {words} {IMPOSSIBLE}\n", words_of(rounds.program))
 
-    def by_ports(found):
-        return " by " + listed("port", [ports[int(w)] for w in re.findall("[0-9]+", found[1])])
+    def ports_lacked(wire):
+        """The ports by which such wires are still to come."""
+        found = re.search(rf"{wire} [0-9]+ of ([0-9, and]+)", of_pulse.words)
+        return [ports[int(w)] for w in re.findall("[0-9]+", found[1])] if found else []
 
     of_pulse, of_puts = refusal_of("pulse"), {
         port: refusal_of(f"put {w} ack") for w, port in ports.items()
@@ -92,18 +97,14 @@ def at_node(rounds: RightRounds, before: list[Entry], v: int) -> At:
     can_pulse, own = of_pulse.name == "WrongWire", [
         with_port(rounds, v, words) for _, u, words in before if u == v
     ]
-    lacks = (
-        ""
-        if can_pulse
-        else re.sub(r" of ([0-9]+(?:(?:, | and )[0-9]+)*)", by_ports, of_pulse.words)
-    )
+    acks, safes = ([], []) if can_pulse else (ports_lacked("ack"), ports_lacked("safe"))
     puts = {
         port: put.words.removeprefix("expected ")
         for port, put in of_puts.items()
         if put.name == "WrongWire"
     }
     pulse = sum(words.startswith("pulse") for words in own)
-    return At(pulse, rounds.last, can_pulse, lacks, puts, "by port {}", rounds, own, v)
+    return At(pulse, rounds.last, can_pulse, acks, safes, puts, "by port {}", rounds, own, v)
 
 
 def with_port(rounds: RightRounds, v: int, words: str) -> str:

@@ -54,26 +54,32 @@ def due_of(net):
     return due, {v: node.merged for v, node in nodes.items()}
 
 
+def defines(lines):
+    return "".join(f"#define {line}\n" for line in lines)
+
+
 def header_of(net):
     vertices, (due, end) = net.vertices, due_of(net)
     assert end == colours(net)
-    joined = [f"(v == {v - 1} && w == {w - 1})" for v in vertices for w in net.neighbours[v]]
+    links = [(v - 1, w - 1) for v in vertices for w in net.neighbours[v]]
+    joined = [f"(v == {a} && w == {b})" for a, b in links]
     by_pulse = {}
     for (v, p, w), number in due.items():
         by_pulse.setdefault(p, []).append((f"v == {v - 1} && w == {w - 1}", number + 1))
-    links = [(v - 1, w - 1) for v in vertices for w in net.neighbours[v]]
     lower = " || ".join(f"({a} < v || {a} == v && {b} < w) && NEXT({a},{b})" for a, b in links)
-    return "".join(
-        f"#define {line}\n"
-        for line in [
+    degrees = [(f"v == {v - 1}", len(net.neighbours[v])) for v in vertices]
+    channels = [(f"v == {v - 1}", end[v]) for v in vertices]
+    messages = [(f"p == {p}", chain(items)) for p, items in sorted(by_pulse.items())]
+    return defines(
+        [
             f"N {len(vertices)}",
             f"DELTA {net.greatest_degree}",
             f"U {net.forest_count}",
             f"R {last_pulse(net)}",
             f"ADJ(v,w) ({' || '.join(joined)})",
-            f"DEGREE(v) {chain([(f'v == {v - 1}', len(net.neighbours[v])) for v in vertices])}",
-            f"CHANNEL(v) {chain([(f'v == {v - 1}', end[v]) for v in vertices])}",
-            f"DUE(v,p,w) {chain([(f'p == {p}', chain(items)) for p, items in sorted(by_pulse.items())])}",
+            f"DEGREE(v) {chain(degrees)}",
+            f"CHANNEL(v) {chain(channels)}",
+            f"DUE(v,p,w) {chain(messages)}",
             f"ANY_NEXT ({' || '.join(f'NEXT({a},{b})' for a, b in links)})",
             f"LOWER_NEXT(v,w) ({lower})",
         ]
@@ -127,11 +133,9 @@ def main():
         space = Space(net, [without] if without else [], MOST, puts, reduce=reduce)
         got = searched(net, without, puts, reduce)
         good = got == (space.count + 3, len(space.target) + 4, 0) and not space.faults
-        what = f"{name}{f' without {without}' if without else ''}{', puts apart' * puts}{', reduced' * reduce}"
-        print(
-            f"{'' if good else 'FAILED '}{what}: {space.count:,} states and {len(space.target):,} steps"
-            f"{'' if good else f', and Spin has {got}'}"
-        )
+        what = f"{name} without {without or 'nothing'}, puts apart {puts}, reduced {reduce}"
+        found = f"{space.count:,} states and {len(space.target):,} steps"
+        print(f"{what}: {found}" if good else f"FAILED {what}: {found}, and Spin has {got}")
         passed += good
     print(f"{passed} passed, {len(cases) - passed} failed")
     return 0 if passed == len(cases) else 1

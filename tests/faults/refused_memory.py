@@ -77,24 +77,17 @@ class RefusedMemory(Case):
             return under(self.front, [PATHS[name], *words], data, REFUSE=number)[0]
 
         wanted, memory, ends = wanted or got_of(0), (4, b"", f"{name}: memory\n".encode()), []
-        while (
-            len(ends) < MOST
-            and ends[-LAST:] != [wanted] * LAST
-            and set(ends) <= {wanted, memory, or_else}
-        ):
+        known = {wanted, memory, or_else}
+        while len(ends) < MOST and ends[-LAST:] != [wanted] * LAST and known.issuperset(ends):
             ends.append(got_of(len(ends) + 1))
         refused, counts = ends[:-LAST], Counter(ends[:-LAST])
-        good = (
-            ends[-LAST:] == [wanted] * LAST
-            and counts[memory]
-            and counts[or_else] == (or_else is not None)
-            and (or_else is None or counts[wanted] <= 1)
-        )
-        self.note(
-            f"each growth refused in turn: {' '.join(words)}, {data[-40:]!r}",
-            good,
-            f"{len(refused)} growths, {counts}; at last {ends[-1]}",
-        )
+        row = f"each growth refused in turn: {' '.join(words)}, {data[-40:]!r}"
+        said = f"{len(refused)} growths, {counts}; at last {ends[-1]}"
+        self.note(row, ends[-LAST:] == [wanted] * LAST and counts[memory], said)
+        if or_else is None:
+            self.note(f"{row}: nothing else", not counts[or_else], said)
+        else:
+            self.note(f"{row}: the other once", counts[or_else] == 1 and counts[wanted] <= 1, said)
 
     def test_each_command(self):
         for it in COMMANDS:

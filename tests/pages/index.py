@@ -183,11 +183,8 @@ class Index(Case):
                 ]
                 for path, names in named:
                     folder = os.path.dirname(path) or folder
-                    file = (
-                        "crates" * (folder.split("/")[0] != "crates"),
-                        folder,
-                        os.path.basename(path),
-                    )
+                    above = "" if folder.split("/")[0] == "crates" else "crates"
+                    file = (above, folder, os.path.basename(path))
                     for name in re.findall(r"`(\w+)`", names):
                         count += 1
                         self.note(

@@ -12,7 +12,7 @@ import os
 import re
 
 from lab.definitions.colours import colours
-from lab.definitions.nodes import NetState, last_pulse, text_of_wire
+from lab.definitions.nodes import DROPPED, NetState, last_pulse, text_of_wire
 from lab.definitions.rounds import Rounds
 from lab.networks.network_text import network_of
 from tests import TOP
@@ -65,38 +65,36 @@ def greatest_colours(digits):
         digits = greatest.bit_length()
 
 
+def forest_table(net, f):
+    """The colours in a forest, pulse by pulse; those that a drop has changed are bold."""
+    joined = [v for v in net.vertices if net.neighbours[v]]
+    lists = Rounds(net).colours[f]
+    rows = [[str(v) for v in joined], [str(net.parent(f, v) or "-") for v in joined]]
+    for p, colours_then in lists.items():
+        row = {v: str(colours_then[v]) for v in joined}
+        if p in DROPPED:
+            row |= {v: f"**{said}**" for v, said in row.items() if said != str(lists[p - 1][v])}
+        rows.append([*row.values()])
+    return rows
+
+
+def sizes_of(net):
+    used = max(colours(net).values(), default=-1) + 1
+    numbers = (net.nodes, net.greatest_degree, net.forest_count, last_pulse(net), used)
+    return [*map(str, numbers)]
+
+
 def tutorial_table(title, rows):
     """What the rows of a table have to be, after the first cell of each; None for a table that isn't worked out."""
     found = re.match(r"Forest (\d+) of `(.*)`, pulse by pulse:", title)
     if found:
-        net, f = network_of(contents(found.group(2))), int(found.group(1))
-        joined = [v for v in net.vertices if net.neighbours[v]]
-        lists = Rounds(net).colours[f]
-        return [[str(v) for v in joined], [str(net.parent(f, v) or "-") for v in joined]] + [
-            [
-                f"**{c[v]}**" if p in (8, 10, 12) and c[v] != lists[p - 1][v] else str(c[v])
-                for v in joined
-            ]
-            for p, c in lists.items()
-        ]
+        return forest_table(network_of(contents(found.group(2))), int(found.group(1)))
     found = re.match(r"Events on `(.*)`:", title)
     if found:
         return played(network_of(contents(found.group(1))), rows)
     if rows[0][0] == "network":
         nets = [network_of(contents(row[0].strip("`"))) for row in rows[2:]]
-        return [rows[0][1:]] + [
-            [
-                str(number)
-                for number in (
-                    net.nodes,
-                    net.greatest_degree,
-                    net.forest_count,
-                    last_pulse(net),
-                    max(colours(net).values(), default=-1) + 1,
-                )
-            ]
-            for net in nets
-        ]
+        return [rows[0][1:]] + [sizes_of(net) for net in nets]
     if rows[0][0].startswith("identifiers"):
         return [rows[0][1:]] + [list(greatest_colours(int(row[0].split()[0]))) for row in rows[2:]]
     return None
@@ -152,12 +150,25 @@ def laws_of_crates():
         )
         if module in ("lib.rt", "laws.rt"):
             found |= {
-                f"{crate}::{'laws::' * is_inside}{name}"
+                f"{crate}::laws::{name}" if is_inside else f"{crate}::{name}"
                 for name in re.findall(
                     r"^pub fn (\w+)[^\n]*\n(?:    .*\n)+\{\}$", text_in(file), re.M
                 )
             }
     return found
+
+
+def paths_in(line):
+    """The files that a line of a page names with their folder; of a crate without `crates/`."""
+    folders = "crates|docs|tests|lab|build|bin|bench|examples"
+    of_crates = re.findall(r"`(\w+/(?:src|specs|proofs)(?:/[\w./-]+)?)`", line)
+    return re.findall(rf"`((?:{folders})/[\w./-]+)`", line) + [f"crates/{it}" for it in of_crates]
+
+
+def names_in(line):
+    """The names with an underscore in what a line of a page has in backquotes, but in paths from the root."""
+    quoted = " ".join(re.findall(r"`([^/`][^`]*)`", line))
+    return re.findall(r"\b[a-z]\w*_\w+", quoted)
 
 
 class Pages(Case):
@@ -168,33 +179,17 @@ class Pages(Case):
         there, count = words_of_sources(), 0
         for page in PAGES:
             for number, line in enumerate(lines_of(page), 1):
-                found = [
-                    (name, os.path.exists(os.path.join(TOP, folder, name)))
-                    for folder, pattern in (
-                        ("", r"`((?:crates|docs|tests|lab|build|bin|bench|examples)/[\w./-]+)`"),
-                        ("crates", r"`(\w+/(?:src|specs|proofs)(?:/[\w./-]+)?)`"),
-                    )
-                    for name in re.findall(pattern, line)
-                ]
+                for path in paths_in(line):
+                    is_there = "NAME" in path or os.path.exists(os.path.join(TOP, path))
+                    self.note(f"{page}:{number} {path}", is_there, "there is no such file")
                 last = re.findall(r"`(?:[\w/]+/)?(\w*[a-z]\w*\.(?:py|rt|antt|js|sh))`", line)
                 # DECISIONS speaks of what isn't there, too.
-                last += (
-                    []
-                    if page.endswith("DECISIONS.md")
-                    else [
-                        name
-                        for words in re.findall(r"`([^/`][^`]*)`", line)
-                        for name in re.findall(r"\b[a-z]\w*_\w+", words)
-                    ]
-                )
-                found += [(name, name in there or f"test_{name}" in there) for name in last]
+                if not page.endswith("DECISIONS.md"):
+                    last += names_in(line)
                 count += len(last)
-                for name, good in found:
-                    self.note(
-                        f"{page}:{number} {name}",
-                        good or "NAME" in name,
-                        "there is no such file, or name",
-                    )
+                for name in last:
+                    is_there = "NAME" in name or {name, f"test_{name}"} & there
+                    self.note(f"{page}:{number} {name}", is_there, "there is no such name")
                 for target in re.findall(r"\]\((?!https?:)([^)]*)\)", line):
                     self.note(
                         f"{page}:{number} {target}",

@@ -199,12 +199,7 @@ class Faults(Case):
             place = fault.partition(":")[0].partition(" ")[2].replace(" 1 ", " 1 and ")
             for given in ([line], line.split(" ")[1:]):
                 status, said, errors = tell(*given)
-                first = said.split("\n")[0]
-                self.note(
-                    f"tell {' '.join(given)}",
-                    (status, errors) == (0, "")
-                    and words in first
-                    and place in first
-                    and (not here or f"\nhere: {here}\n" in said),
-                    (status, said, errors),
-                )
+                name, first = f"tell {' '.join(given)}", said.split("\n")[0]
+                self.same(f"{name}: ends", (status, errors), (0, ""))
+                self.note(f"{name}: what and where", words in first and place in first, said)
+                self.note(f"{name}: here", not here or f"\nhere: {here}\n" in said, said)

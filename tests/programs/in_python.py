@@ -6,9 +6,10 @@ import json
 import os
 import random
 import sys
+from itertools import product
 from xml.etree import ElementTree
 
-from lab.definitions.colours import plan_text
+from lab.definitions.colours import colours
 from lab.definitions.rounds import rounds_text
 from lab.networks.network_text import network_of
 from tests import TOP
@@ -36,6 +37,11 @@ class Graph:
         return [(*pair, {}) for pair in self.pairs]
 
 
+def neighbours_of(nodes, pairs):
+    """The same graph as a dictionary."""
+    return {node: [other for one, other in pairs if one == node] for node in nodes}
+
+
 class InPython(Case):
     def refused(self, kind, call):
         """What a call raises."""
@@ -50,24 +56,14 @@ class InPython(Case):
             nodes = source.sample(
                 [*"abcdefgh", 1, 2.5, (0, 1), "Bad Tölz", "a b", "", "#1"], source.randint(1, 9)
             )
-            pairs = [(one, other) for one in nodes for other in nodes if source.random() < 0.3]
+            pairs = [pair for pair in product(nodes, nodes) if source.random() < 0.3]
             bars = {node: {source.randint(1, 3)} for node in nodes if source.random() < 0.3}
-            graph = (
-                Graph(nodes, pairs)
-                if count % 2
-                else {node: [other for one, other in pairs if one == node] for node in nodes}
-            )
+            graph = Graph(nodes, pairs) if count % 2 else neighbours_of(nodes, pairs)
             got = forestplan.plan(graph, bars=bars, workers=2 if count % 4 == 0 else None)
             text, order = forestplan.text_of(graph, bars)
-            wanted = [
-                int(line.split()[1])
-                for line in plan_text(network_of(text.encode())).decode().split("\n")[1:-1]
-            ]
-            self.note(
-                f"plan {count}",
-                (order, list(got.items())) == (nodes, list(zip(nodes, wanted))),
-                (got, wanted),
-            )
+            self.same(f"order of plan {count}", order, nodes)
+            channels = [c + 1 for _, c in sorted(colours(network_of(text.encode())).items())]
+            self.same(f"plan {count}", list(got.items()), list(zip(nodes, channels)))
             edges = {
                 frozenset((order[v - 1], order[w - 1])) for v, w in network_of(text.encode()).edges
             }
@@ -76,7 +72,7 @@ class InPython(Case):
                 edges == {frozenset(pair) for pair in pairs if pair[0] != pair[1]},
                 edges,
             )
-            self.note(f"check {count}", forestplan.check(graph, got, bars=bars) == max(wanted))
+            self.note(f"check {count}", forestplan.check(graph, got, bars=bars) == max(channels))
 
     def test_licence(self):
         triangle = forestplan.plan({"Ulm": ["Aue", "Hof"], "Aue": ["Hof"]})

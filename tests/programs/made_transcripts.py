@@ -47,9 +47,8 @@ def turn(_, state, v, capacity):
     node = state.nodes[v]
     for port, other in enumerate(node.ports):
         for taken in range(MOST_TAKES):
-            if not state.link_to(v, port) or not node.can_take():
-                break
-            if taken and (other.closed or other.safe and not other.waits):
+            has_all = other.closed or other.safe and not other.waits
+            if taken and has_all or not can_take(state, v, port):
                 break
             yield "take", v, port
     if node.can_pulse():
@@ -57,6 +56,10 @@ def turn(_, state, v, capacity):
     for port, other in enumerate(node.ports):
         while other.out and len(state.link[v, port]) < capacity:
             yield "put", v, port
+
+
+def can_take(state, v, port):
+    return state.link_to(v, port) and state.nodes[v].can_take()
 
 
 def some_events(source, state, v, capacity):

@@ -293,6 +293,15 @@ def program_of(asked):
     return program_at(name, **({option[0]: int(option[1])} if option else {}))
 
 
+def code_of(own, other, net):
+    """Why a transcript of a run with one option isn't one with the other."""
+    if other == own:
+        return ""
+    if net == EDGE:
+        return "WrongWire"
+    return "NotReady" if own > other else "NotWhole"
+
+
 class Programs(Case):
     def test_ends(self):
         """By one worker, by three, in rounds, where nothing is added, and by the definition."""
@@ -376,15 +385,7 @@ class Programs(Case):
             for own, other in product(range(1, most + 1), repeat=2):
                 _, run, _ = play("run", f"{asked} {own}", "--transcript", "--workers", 1, data=net)
                 status, _, fault = play("replay", f"{asked} {other}", data=text(net) + run)
-                code = (
-                    ""
-                    if other == own
-                    else "WrongWire"
-                    if net == EDGE
-                    else "NotReady"
-                    if own > other
-                    else "NotWhole"
-                )
+                code = code_of(own, other, net)
                 self.note(
                     f"transcript of {asked} {own} with {other} on {net}",
                     status == bool(code)

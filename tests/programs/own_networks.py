@@ -440,37 +440,35 @@ class OwnNetworks(Case):
         }
         networks |= {"long names": LONG_NAMES, "bars": BARRED}
         for name, data in networks.items():
-            net = network_of(data)
-            told, warned = self.told_of(data)
-            last, edges = last_pulse(net), len(net.edges)
-            payloads = payloads_of(net)
-            wires = 2 * payloads + 2 * edges * (last + 1)
-            degrees = [len(ws) for ws in net.neighbours.values()]
-            got = {key: numbers(what) for key, what in told.items()}
-            bars = [len(barred) for barred in net.barred.values() if barred]
-            enough = max(degrees) + max(bars, default=0) + 1
-            wanted = {
-                "edges": [edges, edges],
-                "neighbours": [min(degrees), max(degrees)] + ([] if bars else [enough]),
-                "forests": [net.forest_count, 12, 3, net.forest_count, enough, last],
-                "payloads": [payloads],
-                "wires": [2, payloads, 2, edges, last + 1, wires],
-                "transcript": [1 + len(degrees) * last + 2 * wires],
-            }
-            got["transcript"] = got["transcript"][:1]
-            self.note(
-                f"tell of {name}", {key: got.get(key) for key in wanted} == wanted, (told, wanted)
-            )
-            self.note(
-                f"tell of {name}: no warning",
-                warned == b"" and told["time"] == "less than a second",
-                told,
-            )
-            # What is said of a network that is too large to be worked out.
-            most = most_payloads(network_of(data))
-            self.note(
-                f"the most payloads of {name}", payloads <= most <= 2 * payloads, (payloads, most)
-            )
+            self.told_rows(name, data)
+
+    def told_rows(self, name, data):
+        net = network_of(data)
+        told, warned = self.told_of(data)
+        last, edges, payloads = last_pulse(net), len(net.edges), payloads_of(net)
+        wires = 2 * payloads + 2 * edges * (last + 1)
+        degrees = [len(ws) for ws in net.neighbours.values()]
+        bars = max(map(len, net.barred.values()))
+        enough = max(degrees) + bars + 1
+        lines = 1 + len(degrees) * last + 2 * wires
+        for key, wanted in (
+            ("edges", [edges, edges]),
+            ("neighbours", [min(degrees), max(degrees)] + ([] if bars else [enough])),
+            ("forests", [net.forest_count, 12, 3, net.forest_count, enough, last]),
+            ("payloads", [payloads]),
+            ("wires", [2, payloads, 2, edges, last + 1, wires]),
+        ):
+            self.same(f"tell of {name}: {key}", numbers(told[key]), wanted)
+        self.same(f"tell of {name}: transcript", numbers(told["transcript"])[0], lines)
+        self.same(f"tell of {name}: time", told["time"], "less than a second")
+        self.same(f"tell of {name}: no warning", warned, b"")
+        # What is said of a network that is too large to be worked out.
+        most = most_payloads(net)
+        self.note(
+            f"the most payloads of {name}", payloads <= most <= 2 * payloads, (payloads, most)
+        )
+
+    def test_warnings(self):
         for data, said in (
             (
                 b"p edge 3 99\ne 1 2\n",

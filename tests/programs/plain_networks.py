@@ -54,6 +54,11 @@ def some_bars(source, nodes, most=12):
     return bars or {1: {1}} if nodes else {}
 
 
+def pairs_in(bars):
+    """(vertex, channel) of each barred channel."""
+    return [(v, channel) for v, channels in sorted(bars.items()) for channel in sorted(channels)]
+
+
 def text_of(source, nodes, edges, names=None, bars=None):
     """A network text with the edges in any order and direction, some of them again from the other end, and identifiers
     and bars among them, bars twice now and then."""
@@ -63,9 +68,7 @@ def text_of(source, nodes, edges, names=None, bars=None):
     rows = [b"e %d %d\n" % pair for pair in lines]
     for pair in (names or {}).items():
         rows.insert(source.randint(0, len(rows)), b"i %d %d\n" % pair)
-    for pair in [
-        (v, channel) for v, channels in sorted((bars or {}).items()) for channel in sorted(channels)
-    ]:
+    for pair in pairs_in(bars or {}):
         for _ in range(source.choice((1, 1, 1, 2))):
             rows.insert(source.randint(0, len(rows)), b"b %d %d\n" % pair)
     return f"p edge {nodes} {len(lines)}\n".encode() + b"".join(rows)

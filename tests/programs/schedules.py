@@ -15,6 +15,7 @@ from lab.network import Network
 from lab.networks.network_text import network_of
 from lab.schedules import ruled_rounds, rules
 from lab.schedules.space import Space
+from lab.words import counted
 from tests import TOP
 from tests.cases import Case, called, said_by, text_in
 from tests.programs.events import words_of
@@ -237,6 +238,17 @@ REFUSED = [
 ]
 
 
+def is_state(space, s, state):
+    """Whether a state of the explorer's has the nodes, the links and the steps of one by the definitions."""
+    seen = {v: node[:3] for v, node in space.nodes(s).items()}
+    may = {str(event) for event, _ in space.steps(s)}
+    return (
+        key_in_table(space, s) == net_key(state)
+        and seen == {v: shown(state, v) for v in space.vertices}
+        and may == set(map(words_of, state.possible()))
+    )
+
+
 class Schedules(Case):
     @classmethod
     def setUpClass(cls):
@@ -287,13 +299,7 @@ class Schedules(Case):
                 state.step(event.kind.title(), event.v, event.port)
                 put_all(state)
                 events.append(event)
-                seen = {v: node[:3] for v, node in space.nodes(s).items()}
-                may = set(map(words_of, state.possible()))
-                if (
-                    net_key(state) != key_in_table(space, s)
-                    or seen != {v: shown(state, v) for v in space.vertices}
-                    or may != {str(event) for event, _ in space.steps(s)}
-                ):
+                if not is_state(space, s, state):
                     wrong.append((name, [str(event) for event in events]))
             needed = space.with_puts(events)
             kinds = Counter(event.kind for event in needed)
@@ -348,7 +354,8 @@ class Schedules(Case):
             )
             lines, first = listed.splitlines(), said.split("\n")[0]
             rest = sum(not line.startswith("put ") for line in lines)
-            events = f"{count} event{'s' * (count != 1)} ({rest} take{' or pulse' if rest == 1 else 's and pulses'})"
+            kinds = "take or pulse" if rest == 1 else "takes and pulses"
+            events = f"{counted(count, 'event')} ({rest} {kinds})"
             self.note(
                 f"{name} without {without}",
                 status == 1 and (what is None or first == f"broken after {events}: {what}"),

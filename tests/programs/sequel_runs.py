@@ -34,12 +34,10 @@ PLAYED = (
 
 def ended(net, v, result):
     """A result as `run` prints it: it adds that a leader is elected, and the neighbour to which a port leads."""
+    if result == f"leader {net.identifiers[v]}":
+        return f"{result} elected"
     port = re.search(r"(?:partner|by) (\d+)$", result)
-    return (
-        f"{result} elected"
-        if result == f"leader {net.identifiers[v]}"
-        else (f"{result} to {net.neighbours[v][int(port[1])]}" if port else result)
-    )
+    return f"{result} to {net.neighbours[v][int(port[1])]}" if port else result
 
 
 class SequelRuns(Case):

@@ -24,101 +24,77 @@ def rows_of(section):
     ]
 
 
+# The nodes of questions: a child and its parent, and a node that chooses.
+ASKED = r"the colours of node (\d+) .*?its parent (\d+) .*?does node (\d+) choose in the merge of forest 1"
+
+
+def ends_of(section):
+    """The ends of the edge that is still."""
+    return map(int, re.search(r"over the edge (\d)–(\d)", section).groups())
+
+
+def colours_and_merged(net):
+    """The colours of each node in its forests, and its merged colour, after each pulse."""
+    colours, merged = {}, {}
+    for p, nodes, _, _ in synchronous_pulses(net):
+        for v, node in nodes.items():
+            colours[p, v], merged[p, v] = list(node.colours), node.merged
+    return colours, merged
+
+
 class Sheets(Case):
     needs_programs = False
 
     def check(self, name, section):
         net = network_of(re.search(r"<pre>(.*?)</pre>", section, re.S)[1].encode())
-        vertices, payloads = net.vertices, payloads_of(net)
-        self.same(
-            f"{name}: its network",
-            (8, 9, 3, 2),
-            (len(reached(net, 1)), len(net.edges), net.greatest_degree, net.forest_count),
-        )
-        colours, merged = {}, {}
-        for p, nodes, _, _ in synchronous_pulses(net):
-            for v, node in nodes.items():
-                colours[p, v], merged[p, v] = list(node.colours), node.merged
-        child, parent, chooser, *ends = map(
-            int,
-            re.search(
-                r"the colours of node (\d+) .*?its parent (\d+) .*?does node (\d+) choose in the merge of forest 1.*?"
-                rf"has {payloads} payloads.*?over the edge (\d)–(\d)",
-                section,
-                re.S,
-            ).groups(),
-        )
-        plan, *parents, before, shift_5, drop_5, shift_4, drop_4, shift_3, drop_3 = rows = rows_of(
-            section
-        )[:10]
-        merges, (slow,) = rows_of(section)[10:14], rows_of(section)[14:]
-        clashes = [
-            f"{v} and {w}"
-            for v in vertices
-            for w in net.neighbours[v]
-            if v < w and plan[v - 1] == plan[w - 1]
-        ]
+        sizes = (len(reached(net, 1)), len(net.edges), net.greatest_degree, net.forest_count)
+        self.same(f"{name}: its network", sizes, (8, 9, 3, 2))
+        tables = rows_of(section)
+        self.line_rows(name, net, section, tables[0])
+        # A parent is a higher neighbour, in forest 0 the lowest.
+        higher = {v: sorted(w for w in net.neighbours[v] if w > v) for v in net.vertices}
+        for f, row in enumerate(tables[1:3]):
+            parents = [str((higher[v] + ["-", "-"])[f]) for v in net.vertices]
+            self.same(f"{name}: parents in forest {f}", row, parents)
+        above = {v: (higher[v] + [None])[0] for v in net.vertices}
+        self.forest_rows(name, above, tables[3:10])
+        self.merge_rows(name, net, tables[10:14])
+        # A node gets as far as it is from the nearer end of the still edge, less one: its neighbours there stay at 0.
+        far = [reached(net, end) for end in ends_of(section)]
+        pulses = [str(max(0, min(of[v] for of in far) - 1)) for v in net.vertices]
+        self.same(f"{name}: a still edge", tables[14:], [pulses])
+
+    def merge_rows(self, name, net, rows):
+        """The colours before the merge of each forest, and the channels after it."""
+        colours, merged = colours_and_merged(net)
+        for f, (three, after) in enumerate((rows[:2], rows[2:])):
+            row = [str(colours[12, v][f]) for v in net.vertices]
+            self.same(f"{name}: colours before the merge of forest {f}", three, row)
+            row = [str(merged[24 + 12 * f, v]) for v in net.vertices]
+            self.same(f"{name}: after the merge of forest {f}", after, row)
+
+    def line_rows(self, name, net, section, plan):
+        """The answers that are written on lines."""
+        payloads, (colours, merged) = payloads_of(net), colours_and_merged(net)
+        child, parent, chooser = map(int, re.search(ASKED, section, re.S).groups())
+        self.note(f"{name}: its payloads", f"has {payloads} payloads" in section, payloads)
+        clashes = [f"{v} and {w}" for v, w in net.edges if plan[v - 1] == plan[w - 1]]
+        self.note(f"{name}: two neighbours of one channel", clashes, plan)
+        steps = [[v, *(colours[p, v][0] for p in range(3, 7))] for v in (child, parent)]
         turn = 25 + 4 * colours[12, chooser][1] + merged[24, chooser]
         # Two wires for each payload, and 36 safes and a close on each of the 18 links.
-        wanted = [
-            4,
-            "; ".join(clashes),
-            *(
-                ", ".join(map(str, [v, *(colours[p, v][0] for p in range(3, 7))]))
-                for v in (child, parent)
-            ),
-            turn,
-            36,
-            2 * payloads + 18 * 37,
-        ]
-        self.same(
-            f"{name}: on lines",
-            re.findall(r'<b class="answer">(.*?)</b>', section),
-            [*map(str, wanted)],
-        )
-        # A parent is a higher neighbour, in forest 0 the lowest.
-        higher = {v: sorted(w for w in net.neighbours[v] if w > v) for v in vertices}
-        self.same(
-            f"{name}: parents",
-            parents,
-            [[str((higher[v] + ["-", "-"])[f]) for v in vertices] for f in (0, 1)],
-        )
-        self.same(
-            f"{name}: merges",
-            merges,
-            [
-                [str(found) for found in row]
-                for f in (0, 1)
-                for row in (
-                    [colours[12, v][f] for v in vertices],
-                    [merged[24 + 12 * f, v] for v in vertices],
-                )
-            ],
-        )
-        # A node gets as far as it is from the nearer end of the still edge, less one: its neighbours there stay at 0.
-        far = [reached(net, end) for end in ends]
-        self.same(
-            f"{name}: a still edge",
-            slow,
-            [str(max(0, min(of[v] for of in far) - 1)) for v in vertices],
-        )
-        above = {v: (higher[v] + [None])[0] for v in vertices}
-        for x, first, shifted, dropped in (
-            (5, before, shift_5, drop_5),
-            (4, drop_5, shift_4, drop_4),
-            (3, drop_4, shift_3, drop_3),
-        ):
-            self.drop_rows(
-                f"{name}: shift and drop {x}",
-                above,
-                x,
-                *(dict(zip(vertices, map(int, row))) for row in (first, shifted, dropped)),
-            )
-        self.note(
-            f"{name}: two neighbours of one channel, and no child with its parent's colour",
-            clashes and all(w is None or before[v - 1] != before[w - 1] for v, w in above.items()),
-            rows,
-        )
+        wires = 2 * payloads + 18 * 37
+        bits = [", ".join(map(str, row)) for row in steps]
+        wanted = ["4", "; ".join(clashes), *bits, str(turn), "36", str(wires)]
+        self.same(f"{name}: on lines", re.findall(r'<b class="answer">(.*?)</b>', section), wanted)
+
+    def forest_rows(self, name, above, rows):
+        """The colours of a forest before a shift and a drop of each of 5, 4 and 3, and after each of them."""
+        lists = [dict(zip(above, map(int, row))) for row in rows]
+        for x, at in ((5, 0), (4, 2), (3, 4)):
+            self.drop_rows(f"{name}: shift and drop {x}", above, x, *lists[at : at + 3])
+        alike = [v for v, w in above.items() if w and lists[0][v] == lists[0][w]]
+        self.same(f"{name}: children with their parent's colour", alike, [])
 
     def drop_rows(self, name, above, x, first, shifted, dropped):
         """The colours before and after a shift and the drop of x, which changes something."""

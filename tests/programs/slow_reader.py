@@ -131,7 +131,8 @@ def replay(rows, program=Colouring):
             b"".join(b" ".join(fields) + b"\r\n" for fields in behind), program.name
         )
     except Wrong as wrong:
-        raise Fault(f"X1 line {wrong.line + len(before) if behind else 1}") from None
+        line = wrong.line + len(before) if behind else 1
+        raise Fault(f"X1 line {line}") from None
     found = Found(net, entries, program)
     for entry in entries:
         found.make_next(entry.vertex)

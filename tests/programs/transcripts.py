@@ -319,6 +319,24 @@ def ordered(net, data, program):
     return in_order([*lines, *sorted({entry.line for entry in entries} - set(lines))], data), said
 
 
+def said_of_order(network, net, data, program, said):
+    """What `forestplay replay` says of the order in which the entries of an edition 1 are made, and what it should, if
+    they differ; nothing of a text that has no order."""
+    if said.endswith("X1"):
+        return None
+    in_turn, wanted = ordered(net, data, program)
+    got, code = said_by(network, in_turn, "--program", program.name), said.rpartition(": ")[2]
+    # The program plays what isn't whole, too.
+    is_whole = said.startswith("whole") or code == "NotWhole"
+    is_same = wanted.endswith(f": {code}") if wanted else is_whole
+    return None if got == wanted and is_same else (got, wanted)
+
+
+def is_refused_from(least, said):
+    """Whether a refusal is of that line or of one after it."""
+    return said.startswith("line ") and int(said[5:].partition(":")[0]) >= least
+
+
 def said_by(network, data, *words, play=PLAY):
     """None if `forestplay replay` accepts it, else its fault in the form of the checker's, with lines from the
     transcript's first."""
@@ -329,7 +347,9 @@ def said_by(network, data, *words, play=PLAY):
     if status != 1 or output or not found:
         return f"status {status}, {output[:200]!r}, {fault[:200]!r}"
     code, line, before = found[1].decode(), int(found[2]), network.count(b"\n")
-    return f"line {line - before if line > before else line}: {code}"
+    if line > before:
+        line -= before
+    return f"line {line}: {code}"
 
 
 def check(*words, data=b""):
@@ -546,43 +566,23 @@ class Transcripts(Case):
         for i in range(count):
             kind, run = KINDS[i % len(KINDS)], i // len(KINDS)
             if kind == KINDS[0]:
-                (network, net), program = (
-                    source.choice(small),
-                    PROGRAMS[("colouring", *SEQUELS)[run % 4]],
-                )
+                network, net = source.choice(small)
+                program = PROGRAMS[("colouring", *SEQUELS)[run % 4]]
                 entries = played(net, seed=str(run), program=program)
                 merged = text_of_run(net.nodes, entries, program).encode()
                 plain = transcript_text(net.nodes, entries)
             data, least = spoiled(source, kind, merged)
-            said, got = said_of(net, data, program)[0], said_by(
-                network, data, "--program", program.name
-            )
-            codes.add(said.rpartition(": ")[2])
-            if (
-                not said.startswith("line ")
-                or got != said
-                or int(said[5:].partition(":")[0]) < least
-            ):
-                wrong.append((kind, program.name, network, data, said, got, least))
-            if kind == KINDS[0] or run // 4 % 4:
-                continue
-            data = spoiled(source, kind, plain)[0]
             said = said_of(net, data, program)[0]
-            accepted[kind] += said.startswith("whole")
-            if not said.endswith("X1"):
-                data, wanted = ordered(net, data, program)
-                got, code = (
-                    said_by(network, data, "--program", program.name),
-                    said.rpartition(": ")[2],
-                )
-                # The program plays what isn't whole, too.
-                is_same = (
-                    wanted.endswith(f": {code}")
-                    if wanted
-                    else said.startswith("whole") or code == "NotWhole"
-                )
-                if got != wanted or not is_same:
-                    wrong.append((kind, program.name, network, data, said, got, wanted))
+            got = said_by(network, data, "--program", program.name)
+            codes.add(said.rpartition(": ")[2])
+            if got != said or not is_refused_from(least, said):
+                wrong.append((kind, program.name, network, data, said, got, least))
+            if kind != KINDS[0] and run // 4 % 4 == 0:
+                data = spoiled(source, kind, plain)[0]
+                said = said_of(net, data, program)[0]
+                accepted[kind] += said.startswith("whole")
+                if differs := said_of_order(network, net, data, program, said):
+                    wrong.append((kind, program.name, network, data, said, *differs))
         self.note(f"{count} spoiled texts", not wrong, f"{len(wrong)}: {wrong[:1]}")
         self.note(
             "swapped lines of edition 1 alone may be a run",
