@@ -2,7 +2,8 @@
 use Rattle.std.proofs.Common.{◌≡◌, ℕ, ◌+◌, ◌^◌, ◌<◌, ◌≤◌, [], ◌∷◌, ◌++◌, List, Some, None, Ok, Err, length, set, get_or, map, refl, sym, ap, ◌∙◌}
 use Rattle.std.proofs.Common.{subst, slice_get}
 use Rattle.std.proofs.lemmas.List.{map-append}
-use Rattle.std.specs.Prelude.{Option, IsTrue, max}
+use Rattle.std.proofs.Math.Logic.{∥∥₁_map}
+use Rattle.std.specs.Prelude.{Option, IsTrue, true, max}
 use Rattle.interference.specs.Net.{degree_of, neighbour_of, back_port_of}
 use Rattle.node_api.specs.Program.{Program, last_pulse_on}
 use Rattle.node_api.specs.Laws.{IsProgram}
@@ -19,9 +20,11 @@ use Rattle.link_rule.specs.Legal.{IsLegalOn, LegalFor}
 use Rattle.entries.specs.Recorded.{HasSame, HasWritten, entries_by, is_on}
 use Rattle.entries.specs.declared.recorder.Recorder.{Recorder}
 use Rattle.entries.specs.declared.entry.Entry.TheVariants.{Pulse, Put, Take}
-use Rattle.entries.specs.Rows.{bare_of}
+use Rattle.entries.specs.Rows.{bare_of, stamped_entry}
+use Rattle.entries.specs.declared.rows.StampedEntry.{StampedEntry}
 use Rattle.actor.specs.Kept.{IsKept}
 use Rattle.alpha_laws.specs.Kept.{NodeKept}
+use Rattle.actor.specs.Did.{Did}
 use Rattle.actor.specs.HasStamps.{HasStamps}
 use Rattle.actor.specs.Node.{IsAside, by_port, reacted_to}
 use Rattle.actor.specs.Written.{IsTranscript}
@@ -117,7 +120,14 @@ module _ {J S M E : Type 0} {j : wiring.Ghosts J} {program : Program S M E} {v d
     writes = same-written same old.writes;
     stamps = same-stamped same old.stamps;
     full = old.full;
+    did = old.did;
   }
+
+  -- entries of all that a node of v did, with these ends
+  abbrev DidOf : ℕ → Option (Aside M) → Node S M → List (WiredPut J M j) → List (WiredTake J M j) → Type 0
+  DidOf count out at xs ys = Did program j.net v count at (by_port (map (λ e. put_list e.end) xs))
+      (by_port (reacted_to out (map (λ e. taken_list e.end) ys))) (by_port (map (λ e. put_stamped e.end) xs))
+      (by_port (map (λ e. taken_stamped e.end) ys))
 
   -- an event, after which nothing is set aside: what it changes
   kept-by : {new : Node S M} {last' counter' : ℕ} {puts' : List (WiredPut J M j)} {takes' : List (WiredTake J M j)} {wrote' : Recorder M}
@@ -128,8 +138,9 @@ module _ {J S M E : Type 0} {j : wiring.Ghosts J} {program : Program S M E} {v d
       (by_port (reacted_to aside (map (λ e. taken_list e.end) takes'))) (bare_of (entries_by wrote'))
       → HasStamps j.net v (is_on wrote) counter' (by_port (map (λ e. put_stamped e.end) puts')) (by_port (map (λ e. taken_stamped e.end) takes'))
       (entries_by wrote')
+      → ∥ DidOf counter' aside new puts' takes' ∥₁
       → IsKept program v degree aside last' new puts' takes' wrote' counter'
-  kept-by {new} {last'} {counter'} {puts'} {takes'} {wrote'} going outs ins same on keeps writes stamps = record {
+  kept-by {new} {last'} {counter'} {puts'} {takes'} {wrote'} going outs ins same on keeps writes stamps did = record {
     network = old.network;
     is_vertex = old.is_vertex;
     recorded = on ∙ old.recorded;
@@ -144,6 +155,7 @@ module _ {J S M E : Type 0} {j : wiring.Ghosts J} {program : Program S M E} {v d
     stamps = subst (λ t. HasStamps j.net v t counter' (by_port (map (λ e. put_stamped e.end) puts')) (by_port (map (λ e. taken_stamped e.end) takes'))
         (entries_by wrote')) (sym on) stamps;
     full = λ a e. absurd (none_and_some aside a going e);
+    did = did;
   }
 
   -- nothing came by port i
@@ -157,6 +169,12 @@ module _ {J S M E : Type 0} {j : wiring.Ghosts J} {program : Program S M E} {v d
       (subst (λ l. IsTranscript program j.net v (is_on wrote) node sent (by_port (reacted_to aside l)) (bare_of (entries_by wrote))) wires old.writes)
       (subst (λ l. HasStamps j.net v (is_on wrote) counter (by_port (map (λ e. put_stamped e.end) puts)) (by_port l) (entries_by wrote))
       (sym (same_all (λ e. taken_stamped e.end) takes i x y c.is c.same)) old.stamps)
+      (∥∥₁_map old.did (λ d. record {
+        entries = d.entries;
+        writes = subst (λ l. IsTranscript program j.net v true node sent (by_port (reacted_to aside l)) (bare_of d.entries)) wires d.writes;
+        stamps = subst (λ l. HasStamps j.net v true counter (by_port (map (λ e. put_stamped e.end) puts)) (by_port l) d.entries)
+            (sym (same_all (λ e. taken_stamped e.end) takes i x y c.is c.same)) d.stamps;
+      }))
 
   -- a wire came, and the node reacted
   pub kept-took : {new : Node S M} {last' counter' next : ℕ} {wrote' : Recorder M} {i : ℕ}
@@ -179,6 +197,17 @@ module _ {J S M E : Type 0} {j : wiring.Ghosts J} {program : Program S M E} {v d
       (has_taken program j.net (λ e. put_stamped e.end) (λ e. taken_stamped e.end) v (is_on wrote) old.network old.is_vertex node counter next counter'
       y.vertex puts takes aside i x y (stamped s w) (entries_by wrote) (entries_by wrote') count_takes lt going c.is c.more from stamp moved more.entries
       old.writes old.stamps)
+      (∥∥₁_map old.did (λ d.
+      let e : StampedEntry M = stamped_entry next (Take y.vertex w) in
+      record {
+        entries = d.entries ++ (e ∷ []);
+        writes = wrote_taken program j.net (λ e. put_list e.end) (λ e. taken_list e.end) v true old.network old.is_vertex node new puts takes aside i x y w
+            last y.vertex (bare_of d.entries) (bare_of (d.entries ++ (e ∷ []))) old.last_is count_takes lt going c.is (wires_gained c) reacts state from
+            (map-append (λ q. q.entry) d.entries (e ∷ [])) d.writes;
+        stamps = has_taken program j.net (λ e. put_stamped e.end) (λ e. taken_stamped e.end) v true old.network old.is_vertex node counter next counter'
+            y.vertex puts takes aside i x y (stamped s w) d.entries (d.entries ++ (e ∷ [])) count_takes lt going c.is c.more from stamp moved refl
+            d.writes d.stamps;
+      }))
 
   -- a wire came, and was set aside: the node refused it, or its stamp would be too great
   kept-aside : {new : Node S M} {last' : ℕ} {i : ℕ} {x y : WiredTake J M j} {s : ℕ} {w : Wire M} (a : Aside M) → a.port ≡ i
@@ -204,6 +233,13 @@ module _ {J S M E : Type 0} {j : wiring.Ghosts J} {program : Program S M E} {v d
         stamps = has_aside program j.net (λ e. put_stamped e.end) (λ e. taken_stamped e.end) v (is_on wrote) old.network old.is_vertex node counter puts takes
             aside i x y (stamped s w) (entries_by wrote) count_takes lt going c.is c.more old.writes old.stamps;
         full = full_aside (λ e. taken_stamped e.end) takes i x y (stamped s w) a (takes_within i port) c.is c.more at counter full;
+        did = ∥∥₁_map old.did (λ d. record {
+          entries = d.entries;
+          writes = wrote_refused program j.net (λ e. put_list e.end) (λ e. taken_list e.end) v true node new puts takes aside i x y w a
+              (bare_of d.entries) at count_takes lt going c.is (wires_gained c) same_node d.writes;
+          stamps = has_aside program j.net (λ e. put_stamped e.end) (λ e. taken_stamped e.end) v true old.network old.is_vertex node counter puts takes
+              aside i x y (stamped s w) d.entries count_takes lt going c.is c.more d.writes d.stamps;
+        });
       }
 
   pub kept-refused : {new : Node S M} {last' : ℕ} {i : ℕ} {x y : WiredTake J M j} {s : ℕ} {w : Wire M} {e : AlphaRefused} → aside ≡ None → i < degree
@@ -244,6 +280,12 @@ module _ {J S M E : Type 0} {j : wiring.Ghosts J} {program : Program S M E} {v d
       (subst (λ l. IsTranscript program j.net v (is_on wrote) node (by_port l) taken (bare_of (entries_by wrote))) wires old.writes)
       (subst (λ l. HasStamps j.net v (is_on wrote) counter (by_port l) (by_port (map (λ e. taken_stamped e.end) takes)) (entries_by wrote))
       (sym (same_all (λ e. put_stamped e.end) puts i x y c.is c.same)) old.stamps)
+      (∥∥₁_map old.did (λ d. record {
+        entries = d.entries;
+        writes = subst (λ l. IsTranscript program j.net v true node (by_port l) taken (bare_of d.entries)) wires d.writes;
+        stamps = subst (λ l. HasStamps j.net v true counter (by_port l) (by_port (map (λ e. taken_stamped e.end) takes)) d.entries)
+            (sym (same_all (λ e. put_stamped e.end) puts i x y c.is c.same)) d.stamps;
+      }))
 
   -- the oldest wire of the out-list of port i was put; z is the end that takes from the neighbour
   pub kept-put : {new : Node S M} {last' counter' next : ℕ} {wrote' : Recorder M} {i : ℕ}
@@ -263,6 +305,16 @@ module _ {J S M E : Type 0} {j : wiring.Ghosts J} {program : Program S M E} {v d
       (bare-written more) old.writes)
       (has_put program j.net (λ e. put_stamped e.end) (λ e. taken_stamped e.end) v (is_on wrote) old.network old.is_vertex counter next counter' z.vertex
       puts takes i x y w (entries_by wrote) (entries_by wrote') count_puts lt c.is c.more to stamp moved more.entries old.stamps)
+      (∥∥₁_map old.did (λ d.
+      let e : StampedEntry M = stamped_entry next (Put z.vertex w) in
+      record {
+        entries = d.entries ++ (e ∷ []);
+        writes = wrote_one_put program j.net (λ e. put_list e.end) (λ e. taken_list e.end) v true old.network old.is_vertex node new puts takes aside
+            i x y w z.vertex (bare_of d.entries) (bare_of (d.entries ++ (e ∷ []))) count_puts lt c.is (wires_gained c) oldest view state to
+            (map-append (λ q. q.entry) d.entries (e ∷ [])) d.writes;
+        stamps = has_put program j.net (λ e. put_stamped e.end) (λ e. taken_stamped e.end) v true old.network old.is_vertex counter next counter' z.vertex
+            puts takes i x y w d.entries (d.entries ++ (e ∷ [])) count_puts lt c.is c.more to stamp moved refl d.stamps;
+      }))
 
   -- a pulse was made
   pub kept-pulsed : {new : Node S M} {last' counter' next number : ℕ} {wrote' : Recorder M} → IsProgram program
@@ -279,3 +331,12 @@ module _ {J S M E : Type 0} {j : wiring.Ghosts J} {program : Program S M E} {v d
       can made is (bare-written more) old.writes)
       (has_pulsed program j.net (λ e. put_stamped e.end) (λ e. taken_stamped e.end) v (is_on wrote) old.network old.is_vertex counter next counter' number
       puts takes (entries_by wrote) (entries_by wrote') stamp moved more.entries old.stamps)
+      (∥∥₁_map old.did (λ d.
+      let e : StampedEntry M = stamped_entry next (Pulse number) in
+      record {
+        entries = d.entries ++ (e ∷ []);
+        writes = wrote_pulsed program j.net v true node new sent taken last number (bare_of d.entries) (bare_of (d.entries ++ (e ∷ []))) old.last_is
+            can made is (map-append (λ q. q.entry) d.entries (e ∷ [])) d.writes;
+        stamps = has_pulsed program j.net (λ e. put_stamped e.end) (λ e. taken_stamped e.end) v true old.network old.is_vertex counter next counter' number
+            puts takes d.entries (d.entries ++ (e ∷ [])) stamp moved refl d.stamps;
+      }))

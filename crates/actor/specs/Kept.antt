@@ -12,6 +12,7 @@ use Rattle.actor.specs.declared.aside.Aside.{Aside}
 use Rattle.actor.specs.declared.wired.WiredPut.{WiredPut}
 use Rattle.actor.specs.declared.wired.WiredTake.{WiredTake}
 use Rattle.actor.specs.declared.wiring.Wiring as wiring
+use Rattle.actor.specs.Did.{Did}
 use Rattle.actor.specs.HasStamps.{HasStamps, IsFullAside}
 use Rattle.actor.specs.Node.{IsAside, by_port, links_in, links_out, reacted_to}
 use Rattle.actor.specs.Written.{IsTranscript}
@@ -42,3 +43,7 @@ module _ {J S M E : Type 0} {j : wiring.Ghosts J} where
         (by_port (map (λ e. taken_stamped e.end) takes)) (entries_by recorder)
     -- A wire that it set aside for its stamp came with that stamp, and the counter couldn't go past it.
     pub full : (a : Aside M) → aside ≡ Some a → IsFullAside counter (by_port (map (λ e. taken_stamped e.end) takes)) a
+    -- Written down or not, there are entries of all that it did, with the stamps that the counter gives them.
+    pub did : ∥ Did program j.net vertex counter node (by_port (map (λ e. put_list e.end) puts))
+        (by_port (reacted_to aside (map (λ e. taken_list e.end) takes)))
+        (by_port (map (λ e. put_stamped e.end) puts)) (by_port (map (λ e. taken_stamped e.end) takes)) ∥₁

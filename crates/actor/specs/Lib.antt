@@ -3,6 +3,7 @@ pub mod HasStamps
 pub mod Blocked
 pub mod Stepped
 pub mod Counted
+pub mod Did
 pub mod Kept
 pub mod Props
 pub mod Node

@@ -1,3 +1,4 @@
 pub mod Colours
 pub mod Edge
 pub mod Stamped
+pub mod Ran

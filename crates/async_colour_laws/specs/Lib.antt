@@ -1,3 +1,4 @@
 pub mod Coloured
 pub mod Small
 pub mod Stamped
+pub mod Ran

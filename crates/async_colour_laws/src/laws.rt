@@ -11,6 +11,7 @@ ghost use Rattle.event_machine.specs.Laws.{RunsAreExact, RunsSimulate};
 ghost use Rattle.event_machine.specs.Step.{run};
 ghost use Rattle.async_colour_laws.specs.Coloured.{HaltedAreColoured, HaltedOutcomesAreColoured, HaltedRunsAreColoured};
 ghost use Rattle.async_colour_laws.specs.Coloured.{MaximalRunsAreColoured};
+ghost use Rattle.async_colour_laws.specs.Ran.{OutcomesAreRuns, WholeOutcomesAreEnds};
 ghost use Rattle.async_colour_laws.specs.Stamped.{StampsAreBounded, StampsFit};
 ghost use Rattle.async_colour_laws.specs.Small.{EndsWhole, EndsWithTheGreatest, edge, whole_run};
 
@@ -65,4 +66,15 @@ pub fn a_small_run_halts()
     ensures most { events_of_run (spread 1) edge ≡ 18 }
     ensures many { length whole_run ≡ 18 }
     ensures whole { EndsWhole }
+{}
+
+/// Whatever the threads of a run of workers did, with a transcript or without, some list of events leads to the nodes
+/// and links that they leave; over links of every capacity above 1.
+pub fn outcomes_are_runs<S, M, E>()
+    ensures law { (program : Program S M E) → OnEveryNetwork program (OutcomesAreRuns program) }
+{}
+
+/// If they leave all done, no event is possible after that list.
+pub fn whole_outcomes_are_ends<S, M, E>()
+    ensures law { (program : Program S M E) → OnEveryNetwork program (WholeOutcomesAreEnds program) }
 {}

@@ -23,8 +23,6 @@ mod forest_merge_checks;
 #[cfg(test)]
 mod forests_checks;
 #[cfg(test)]
-mod full_counters;
-#[cfg(test)]
 mod heard;
 #[cfg(test)]
 mod link_alone;
@@ -34,6 +32,8 @@ mod link_queue_checks;
 mod link_threads;
 #[cfg(test)]
 mod linked_counters;
+#[cfg(test)]
+mod lone_node;
 #[cfg(test)]
 mod net_core_checks;
 #[cfg(test)]

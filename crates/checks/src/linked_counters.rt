@@ -1,13 +1,15 @@
-//! A node with one neighbour, whose counter is near the greatest number.
+//! A node whose neighbour puts a wire with a great stamp, so that its counter comes near the greatest number.
 
-ghost use Rattle.std.specs.Prelude.{◌≡◌, [], ◌∷◌, Some, false, map, slice_get};
+ghost use Rattle.std.specs.Prelude.{◌≡◌, ◌<◌, [], ◌∷◌, Some, false, map, slice_get};
 ghost use Rattle.interference.specs.Net.{IsVertex};
-ghost use Rattle.link_queue.specs.Ends.{put_list, put_name, take_name, taken_list};
+ghost use Rattle.link_rule.specs.Legal.{name_of};
+ghost use Rattle.link_queue.specs.Ends.{IsNewPutEnd, put_list, put_name, take_name, taken_list};
 ghost use Rattle.actor.specs.Node.{links_in, links_out};
 ghost use Rattle.actor.specs.Tables.{IsEndAt, table_of};
 ghost use Rattle.checks.specs.SmallNets.{pair_net};
 
 use actor::{Links, Node, OpenGate, TurnRefused, WiredPut, WiredTake, Wiring};
+use alpha_core::{Stamped, Wire};
 use interference::{Memory, Network};
 use link_queue::{Link, PutEnd, TakeEnd};
 use std::alloc::Global;
@@ -15,26 +17,34 @@ use std::marker::Brand;
 use std::sync::Wait;
 use sync_rounds::{Best, Greatest};
 
-/// What a turn of the node returns, its counter after it, and the stamp of the wire that its neighbour takes then.
-pub type Turned = (Result<bool, TurnRefused>, u64, Option<u64>);
+/// What a turn of the node says, its counter after it, the stamp of the wire that its neighbour takes then, and whether
+/// the node set a wire aside.
+#[derive(Debug, Clone, Copy, PartialEq, Eq)]
+pub struct Turned {
+    pub said: Result<bool, TurnRefused>,
+    pub counter: u64,
+    pub came: Option<u64>,
+    pub is_aside: bool,
+}
 
-// A turn of the node, whose counter is moved past a stamp before.
-fn turned<J: Wiring, R: Wait>(
+// A turn of the node.
+fn make_turn<J: Wiring, R: Wait>(
     rt: &R,
     links: &Links<J, Greatest<1>>,
     node: &mut Node<J, Greatest<1>>,
     far: &mut WiredTake<J, Best>,
-    stamp: u64,
-) -> Turned
-    requires transcript { J.transcript ≡ false }
-{
-    let _moved = node.counter.past(stamp);
-    let result = node.turn(rt, links, &OpenGate, 0);
+) -> Turned {
+    let said = node.turn(rt, links, &OpenGate, 0);
     let came = match links.try_take(far) {
         Some(item) => Some(item.stamp()),
         None => None,
     };
-    (result, node.counter.value(), came)
+    Turned {
+        said,
+        counter: node.counter.value(),
+        came,
+        is_aside: node.aside.is_some(),
+    }
 }
 
 /// A node of `Greatest<D>` with one neighbour, in a box: to own a box costs less proof than to own what is in it.
@@ -58,7 +68,7 @@ pub fn node_of<J: Wiring, const D: u32>(
     Ok(Box::new(alloc, node)?)
 }
 
-// The ends of two links at the node of vertex 1, and the far end of the link that it puts into.
+// The ends of two links at the node of vertex 2, and the far end of the link that it puts into.
 #[derive(Drop)]
 struct Ends {
     put: PutEnd<Greatest<1>>,
@@ -66,45 +76,57 @@ struct Ends {
     far: TakeEnd<Greatest<1>>,
 }
 
-// A turn of the node of vertex 1 over two links.
+// A turn of the node of vertex 2 over two links.
 fn turned_over<J: Wiring, R: Wait>(
     rt: &R,
     alloc: Global,
     network: &Network,
     links: Vec<Link<Greatest<1>>>,
     ends: Ends,
-    stamp: u64,
 ) -> Result<Turned, Memory>
     requires network { (network.now ≡ pair_net) × (J.net ≡ pair_net) }
-    requires put { IsEndAt J.net J.tables 1 0 ends.put.pass.table_id (put_name ends.put)
-        × (slice_get J.links 0 ≡ Some ends.put.pass.table_id) × (put_list ends.put ≡ []) }
-    requires take { IsEndAt J.net J.tables 2 0 ends.take.pass.table_id (take_name ends.take)
-        × (slice_get J.links 1 ≡ Some ends.take.pass.table_id) × (taken_list ends.take ≡ []) }
-    requires far { IsEndAt J.net J.tables 1 0 ends.far.pass.table_id (take_name ends.far)
-        × (slice_get J.links 0 ≡ Some ends.far.pass.table_id) }
+    requires put { IsEndAt J.net J.tables 2 0 ends.put.pass.table_id (put_name ends.put)
+        × (slice_get J.links 1 ≡ Some ends.put.pass.table_id) × (put_list ends.put ≡ []) }
+    requires take { IsEndAt J.net J.tables 1 0 ends.take.pass.table_id (take_name ends.take)
+        × (slice_get J.links 0 ≡ Some ends.take.pass.table_id) × (taken_list ends.take ≡ []) }
+    requires far { IsEndAt J.net J.tables 2 0 ends.far.pass.table_id (take_name ends.far)
+        × (slice_get J.links 1 ≡ Some ends.far.pass.table_id) }
     requires links { J.links ≡ map table_of links.items }
     requires transcript { J.transcript ≡ false }
 {
     let Ends { put, take, far } = ends;
     let links = Links::<J, Greatest<1>>::new(links);
-    let mut far = WiredTake::<J, Best>::new(1, 0, 0, far);
-    let put = WiredPut::<J, Best>::new(1, 0, 0, put);
-    let take = WiredTake::<J, Best>::new(2, 0, 1, take);
-    let mut node = node_of::<J, 1>(alloc, network, 1, put, take)?;
-    Ok(turned(rt, &links, &mut node, &mut far, stamp))
+    let mut far = WiredTake::<J, Best>::new(2, 0, 1, far);
+    let put = WiredPut::<J, Best>::new(2, 0, 1, put);
+    let take = WiredTake::<J, Best>::new(1, 0, 0, take);
+    let mut node = node_of::<J, 1>(alloc, network, 2, put, take)?;
+    Ok(make_turn(rt, &links, &mut node, &mut far))
 }
 
-/// A turn of the node of vertex 1 of two, whose counter is moved past a stamp before.
-pub fn turn_past<R: Wait>(
+// Puts the payload of vertex 1 with this stamp; whether the link had room.
+fn comes(link: &Link<Greatest<1>>, end: &mut PutEnd<Greatest<1>>, stamp: u64) -> bool
+    requires end { IsNewPutEnd link.now end.old (name_of pair_net 1 0) }
+    requires stamp { 0 < stamp }
+{
+    let wire = Wire::Payload(0, Best(1));
+    link.try_put(end, Stamped { stamp, wire }).is_ok()
+}
+
+/// A turn of the node of vertex 2 of two, after its neighbour put its payload with this stamp.
+pub fn turn_after<R: Wait>(
     rt: &R,
     alloc: Global,
     network: &Network,
     stamp: u64,
 ) -> Result<Turned, Memory>
     requires network { network.now ≡ pair_net }
+    requires stamp { 0 < stamp }
 {
-    let (out, put, far) = Link::<Greatest<1>>::new(alloc, network, 1, 0, 1)?;
-    let (back, _other, take) = Link::<Greatest<1>>::new(alloc, network, 2, 0, 1)?;
-    let links = vec![in alloc; out, back]?;
-    turned_over::<Brand, R>(rt, alloc, network, links, Ends { put, take, far }, stamp)
+    let (into, mut near, take) = Link::<Greatest<1>>::new(alloc, network, 1, 0, 1)?;
+    let (out, put, far) = Link::<Greatest<1>>::new(alloc, network, 2, 0, 1)?;
+    if !comes(&into, &mut near, stamp) {
+        return Err(Memory);
+    }
+    let links = vec![in alloc; into, out]?;
+    turned_over::<Brand, R>(rt, alloc, network, links, Ends { put, take, far })
 }

@@ -3,12 +3,11 @@
 ghost use Rattle.std.specs.Prelude.{◌≡◌, IfOk};
 ghost use Rattle.checks.specs.SmallNets.{lone_net, pair_net};
 
-use crate::full_counters::{run_from, stays_as_it_was};
 use crate::link_queue_checks::pair;
-use crate::linked_counters::turn_past;
+use crate::linked_counters::{Turned, turn_after};
+use crate::lone_node::run_alone;
 use actor::TurnRefused;
-use interference::{NetFault, Network, bars_fit, edges_fit};
-use pool::NodesFault;
+use interference::{Memory, NetFault, Network, bars_fit, edges_fit};
 use std::alloc::Global;
 use std::process::Abort;
 use std::sync::Wait;
@@ -23,35 +22,50 @@ fn alone(rt: &impl Abort, alloc: Global) -> Result<Network, NetFault>
 }
 
 // The node makes two pulses, each by a stamp of its own.
-fn stops_in_time<R: Threads + Wait + Sync>(rt: &R, alloc: Global, network: &Network) -> bool
+fn counts_its_pulses<R: Threads + Wait + Sync>(rt: &R, alloc: Global, network: &Network) -> bool
     requires network { network.now ≡ lone_net }
 {
-    run_from(rt, alloc, network, 0) == Ok((2, 3))
-        && run_from(rt, alloc, network, u64::MAX - 3) == Ok((2, u64::MAX))
-        && run_from(rt, alloc, network, u64::MAX - 2) == Err(NodesFault::StampFull)
-        && run_from(rt, alloc, network, u64::MAX - 1) == Err(NodesFault::StampFull)
+    run_alone(rt, alloc, network) == Ok((2, 2))
 }
 
 #[test]
-fn a_worker_stops_at_the_greatest_stamp(rt: HostRuntime) {
+fn a_worker_makes_both_pulses_of_a_node(rt: HostRuntime) {
     let alloc: Global = rt.alloc();
     let network = alone(&rt, alloc).expect(&rt, "network");
-    assert!(rt; stops_in_time(&rt, alloc, &network));
-    assert!(rt; stays_as_it_was(&rt, alloc, &network));
+    assert!(rt; counts_its_pulses(&rt, alloc, &network));
 }
 
-// The node can't make a pulse before its neighbour does. So its first event is the put of its payload.
+// A turn by the definition: takes, a pulse, puts. Its link holds one wire.
+fn leaves(
+    said: Result<bool, TurnRefused>,
+    counter: u64,
+    came: Option<u64>,
+    is_aside: bool,
+) -> Result<Turned, Memory> {
+    Ok(Turned {
+        said,
+        counter,
+        came,
+        is_aside,
+    })
+}
+
+// The node can't make a pulse before its neighbour is safe. So it takes, and puts its own payload and an acknowledgement,
+// for which the link has no room.
 fn puts_in_time<R: Wait>(rt: &R, alloc: Global, network: &Network) -> bool
     requires network { network.now ≡ pair_net }
 {
     let (max, full) = (u64::MAX, Err(TurnRefused::StampFull));
-    turn_past(rt, alloc, network, 0) == Ok((Ok(true), 2, Some(2)))
-        && turn_past(rt, alloc, network, max - 2) == Ok((Ok(true), max, Some(max)))
-        && turn_past(rt, alloc, network, max - 1) == Ok((full, max, None))
+    turn_after(rt, alloc, network, 1) == leaves(Ok(true), 3, Some(3), false)
+        && turn_after(rt, alloc, network, max - 3)
+            == leaves(Ok(true), max - 1, Some(max - 1), false)
+        && turn_after(rt, alloc, network, max - 2) == leaves(full, max, Some(max), false)
+        && turn_after(rt, alloc, network, max - 1) == leaves(full, max, None, false)
+        && turn_after(rt, alloc, network, max) == leaves(full, 0, None, true)
 }
 
 #[test]
-fn a_node_puts_nothing_past_the_greatest_stamp(rt: HostRuntime) {
+fn a_node_does_nothing_past_the_greatest_stamp(rt: HostRuntime) {
     let network = pair(&rt, rt.alloc()).expect(&rt, "network");
     assert!(rt; puts_in_time(&rt, rt.alloc(), &network));
 }

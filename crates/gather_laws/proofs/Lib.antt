@@ -8,3 +8,4 @@ pub mod Counts
 pub mod Progress
 pub mod Held
 pub mod Merged
+pub mod Merges

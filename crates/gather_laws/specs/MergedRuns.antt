@@ -1,11 +1,13 @@
 -- What the stamped entries of a run of workers are, once all ends have met.
-use Rattle.std.specs.Prelude.{◌≡◌, ℕ, ◌<◌, IsTrue, List, [], ◌++◌}
+use Rattle.std.specs.Prelude.{◌≡◌, ℕ, ◌<◌, IsTrue, List, [], ◌++◌, Ok}
 use Rattle.interference.specs.Net.{Net, IsVertex, count_of, degree_of, neighbour_of, back_port_of}
 use Rattle.node_api.specs.Program.{Program, last_pulse_on}
 use Rattle.alpha_core.specs.View.{Node, is_drained}
 use Rattle.alpha_core.specs.declared.stamped.Stamped.{Stamped}
 use Rattle.actor.specs.Written.{IsWritten}
+use Rattle.event_machine.specs.declared.event.Event.{Event}
 use Rattle.event_machine.specs.State.{Link, State, link_at, node_of, sent_of}
+use Rattle.event_machine.specs.Step.{run}
 use Rattle.net_core.specs.Replays.{IsReplay}
 use Rattle.net_core.specs.Whole.{IsStampedReplay, IsWholeReplay}
 use Rattle.stamps.specs.Keeps.{KeepsStamps}
@@ -31,6 +33,15 @@ pub record IsReplayTo {S M E : Type 0} (program : Program S M E) (net : Net) (ro
     (nodes : ℕ → Node S M) (links : ℕ → ℕ → Link M) : Type 0 where
   pub last : State S M
   pub replay : IsReplay program net (rows_in rows) last
+  pub nodes_are : (v : ℕ) → IsVertex net v → node_of program net last v ≡ nodes v
+  pub links_are : (v i : ℕ) → IsVertex net v → i < degree_of net v → link_at last.links v i ≡ links v i
+
+-- A list of events of the machine leads to these nodes and links.
+pub record IsRunTo {S M E : Type 0} (program : Program S M E) (net : Net) (nodes : ℕ → Node S M)
+    (links : ℕ → ℕ → Link M) : Type 0 where
+  pub events : List Event
+  pub last : State S M
+  pub is_run : run program net events ≡ Ok last
   pub nodes_are : (v : ℕ) → IsVertex net v → node_of program net last v ≡ nodes v
   pub links_are : (v i : ℕ) → IsVertex net v → i < degree_of net v → link_at last.links v i ≡ links v i
 

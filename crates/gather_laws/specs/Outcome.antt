@@ -17,7 +17,7 @@ use Rattle.entries.specs.declared.rows.StampedEntry.{StampedEntry}
 use Rattle.entries.specs.Rows.{bare_of}
 use Rattle.event_machine.specs.State.{Link}
 use Rattle.net_core.specs.Whole.{IsStampedReplay}
-use Rattle.gather_laws.specs.MergedRuns.{IsReplayTo}
+use Rattle.gather_laws.specs.MergedRuns.{IsReplayTo, IsRunTo}
 
 -- One direction of a link after the run: all that was put on it, what was taken from it, and what it still holds, each
 -- wire with the stamp of its put.
@@ -136,3 +136,6 @@ pub record IsOutcome {S M E : Type 0} (program : Program S M E) (net : Net) (cap
   pub merged : IsTrue transcript → (rows : List (StampedRow M)) → IsMerge (count_of net) (entries_in outcome) rows
       → (to : IsReplayTo program net rows (node_in program net outcome) (λ v i. link_of (link_in outcome v i)))
       × IsStampedReplay program net rows to.last
+  -- With a transcript or without, what the threads did was one run of the event machine: some list of events leads to
+  -- these nodes and links.
+  pub is_run : ∥ IsRunTo program net (node_in program net outcome) (λ v i. link_of (link_in outcome v i)) ∥₁

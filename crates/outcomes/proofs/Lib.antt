@@ -12,3 +12,4 @@ mod Full
 mod Every
 mod Meetings
 mod LinkIn
+pub mod Did

@@ -26,7 +26,8 @@ use Rattle.actor.specs.Node.{IsAside, by_port, reacted_to}
 use Rattle.actor.specs.Written.{IsTranscript}
 use Rattle.actor.proofs.Kept.{node_same}
 use Rattle.gather_laws.specs.Laws.{EndsHaveMet}
-use Rattle.gather_laws.specs.Outcome.{IsOutcome, Outcome, entries_in, held_on, link_in, no_history, node_in, put_by, taken_by}
+use Rattle.gather_laws.specs.MergedRuns.{IsRunTo}
+use Rattle.gather_laws.specs.Outcome.{IsOutcome, Outcome, entries_in, held_on, link_in, link_of, no_history, node_in, put_by, taken_by}
 use Rattle.gather_laws.proofs.Asides.{met_simulate}
 use Rattle.gather_laws.proofs.MetNodes.{met_written}
 use Rattle.gather_laws.proofs.Merged.{runs_merge}
@@ -110,7 +111,7 @@ module _ {S M E A X Y : Type 0} {program : Program S M E} {net : Net} {nodes : L
   }
 
   -- and its entries are those of what the links say
-  written : (v : ℕ) → IsVertex net v
+  pub written : (v : ℕ) → IsVertex net v
       → IsTranscript program net v transcript (node_in program net outcome v) (put_by outcome v) (taken_by net outcome v) (bare_of (entries_in outcome v))
   written v is =
       let n = here are v is in
@@ -131,8 +132,9 @@ module _ {S M E A X Y : Type 0} {program : Program S M E} {net : Net} {nodes : L
       }
 
   pub is_outcome : (capacity : ℕ) → All (λ row. All (λ h. length h.held ≤ capacity) row) outcome.links
+      → ∥ IsRunTo program net (node_in program net outcome) (λ v i. link_of (link_in outcome v i)) ∥₁
       → IsOutcome program net capacity transcript outcome
-  is_outcome capacity room = record {
+  is_outcome capacity room ran = record {
     each_once = are.vertices_are ∙ are.order;
     last = λ v is. ap (λ a. a.last) (alpha_is are v is) ∙ are.last (here are v is).0;
     rows = many are ∙ length-nodes net vertex nodes are.order ∙ sym (length-range_with_len 1 (count_of net));
@@ -145,4 +147,5 @@ module _ {S M E A X Y : Type 0} {program : Program S M E} {net : Net} {nodes : L
     put_are = λ yes v i is. ((have_met are written yes).keeps v is).put_are i;
     carries = λ yes. (met_written program net are.network _ _ _ _ _ (entries_in outcome) (have_met are written yes)).0.carried;
     merged = λ yes. runs_merge program net are.network outcome _ _ (have_met are written yes) (λ v i is lt. sym (taken_is are v i is lt));
+    is_run = ran;
   }

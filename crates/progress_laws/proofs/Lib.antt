@@ -4,3 +4,4 @@ pub mod Maximal
 pub mod Tables
 pub mod Fires
 pub mod Commute
+pub mod Room

@@ -27,7 +27,7 @@ use Rattle.progress_laws.proofs.Counted.{moved_in, one_more_shows, pulses_in, sh
 use Rattle.progress_laws.proofs.Deadlock.{no_deadlock}
 
 module _ {S M E : Type 0} {program : Program S M E} {net : Net} (ok : IsNetwork net) (runs : Runs program net) where
-  next_kept : (state next : State S M) (event : Event) → NetKept program net state → Steps program net state event next → NetKept program net next
+  pub next_kept : (state next : State S M) (event : Event) → NetKept program net state → Steps program net state event next → NetKept program net next
   next_kept state next event kept s =
       let P : Result (State S M) StepRefused → Type 0 = λ r. Good program net r in
       subst P (steps-step program net state event next s) (step_good ok runs kept event)

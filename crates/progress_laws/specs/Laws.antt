@@ -5,7 +5,7 @@ use Rattle.node_api.specs.Program.{Program}
 use Rattle.alpha_laws.specs.Counts.{events_made, events_of_run}
 use Rattle.alpha_laws.specs.Progress.{HasEnded}
 use Rattle.event_machine.specs.declared.event.Event.{Event}
-use Rattle.event_machine.specs.State.{State, node_of, link_at, link_to, sent_of}
+use Rattle.event_machine.specs.State.{State, start, node_of, link_at, link_to, sent_of}
 use Rattle.event_machine.specs.Step.{run}
 use Rattle.event_machine.specs.Simulation.{IsReachable}
 use Rattle.progress_laws.specs.Endings.{IsRunWithin, IsTerminal, IsWholeState, PossibleWithin}
@@ -46,6 +46,12 @@ RunsCanBeCompleted {S} {M} program net =
     (events : List Event) (state : State S M) → run program net events ≡ Ok state → (capacity : ℕ) → 0 < capacity
     → (more : List Event) × (last : State S M) × (run program net (events ++ more) ≡ Ok last)
     × IsRunWithin capacity program net state more last × IsWholeState program net last
+
+-- It is a list over links of any capacity above 1, too.
+abbrev pub RunsHaveRoom : {S M E : Type 0} → Program S M E → Net → Type 0
+RunsHaveRoom {S} {M} program net =
+    (events : List Event) (state : State S M) → run program net events ≡ Ok state → (capacity : ℕ) → 2 ≤ capacity
+    → IsRunWithin capacity program net (start program net) events state
 
 -- Where a list of events leads after which no event is possible.
 pub record IsEnd {S M E : Type 0} (program : Program S M E) (net : Net) (events : List Event) (state : State S M)

@@ -4,7 +4,7 @@ ghost use Rattle.node_api.specs.Program.{Program};
 ghost use Rattle.alpha_laws.specs.Laws.{OnEveryNetwork};
 ghost use Rattle.progress_laws.specs.Commute.{EventsCommute};
 ghost use Rattle.progress_laws.specs.Laws.{MaximalRunsAgree, MaximalRunsEnd, NoDeadlock, RunsAreBounded};
-ghost use Rattle.progress_laws.specs.Laws.{RunsAreCounted, RunsCanBeCompleted, WholeStatesAreTerminal};
+ghost use Rattle.progress_laws.specs.Laws.{RunsAreCounted, RunsCanBeCompleted, RunsHaveRoom, WholeStatesAreTerminal};
 
 /// In every state that a list of events reaches, some event is possible, or every node is drained and no link holds a
 /// wire; over links of any capacity but none. In a state of the second kind no event is possible.
@@ -34,4 +34,9 @@ pub fn one_end<S, M, E>()
 /// lead to the same state. A put on a link and a take from it are events of different nodes.
 pub fn events_commute<S, M, E>()
     ensures law { (program : Program S M E) → OnEveryNetwork program (EventsCommute program) }
+{}
+
+/// Every list of events is one over links of any capacity above 1: none puts a wire on a link that holds two.
+pub fn runs_have_room<S, M, E>()
+    ensures law { (program : Program S M E) → OnEveryNetwork program (RunsHaveRoom program) }
 {}

@@ -18,6 +18,7 @@ use Rattle.outcomes.specs.Gathers.{gathered_of}
 use Rattle.outcomes.proofs.Rows.{all_rows, of_fields, of_items, shape_of}
 use Rattle.outcomes.proofs.Places.{ends_meet}
 use Rattle.outcomes.proofs.Linked.{AreGathered}
+use Rattle.outcomes.proofs.Did.{ran}
 use Rattle.outcomes.proofs.Simulating.{is_outcome}
 use Rattle.outcomes.proofs.gathering.gathered.Goals as goal
 
@@ -93,5 +94,6 @@ returns g c =
       outcome = λ capacity below.
           subst (λ net. IsOutcome program net capacity g.J.Wiring.transcript outcome) c.requires.network
           (is_outcome gathered capacity
-          (all_rows (λ row. row.items) mets (λ h. length h.held ≤ capacity) history_of_met (c.in_ok-links.ensures.room capacity below)));
+          (all_rows (λ row. row.items) mets (λ h. length h.held ≤ capacity) history_of_met (c.in_ok-links.ensures.room capacity below))
+          (ran gathered (λ b. b.value.kept.did)));
     }

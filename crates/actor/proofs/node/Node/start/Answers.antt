@@ -1,4 +1,5 @@
-use Rattle.std.proofs.Common.{[], sym, subst, ap, ◌∙◌, map}
+use Rattle.std.proofs.Common.{[], sym, subst, ap, ◌∙◌, map, refl}
+use Rattle.std.specs.Prelude.{true}
 use Rattle.interference.specs.Net.{IsNetwork, IsVertex, degree_of}
 use Rattle.node_api.specs.Program.{last_pulse_on}
 use Rattle.alpha_core.specs.Program.{start_node}
@@ -52,5 +53,16 @@ invariant_of-result g c =
             (by_port (map (λ e. taken_stamped e.end) c.args.takes.items)) (entries_by c.new-2.result) c.new.ensures.zero
             (none_stamped_at (λ e. put_stamped e.end) c.args.puts.items c.requires.nothing_put) c.new-2.ensures.entries;
         full = λ a none. absurd cc;
+        did = ∣ record {
+          entries = [];
+          writes = subst (λ net. IsTranscript program net c.args.vertex true c.in_ok-alpha.alpha.node sent taken (bare_of [])) same
+              (subst (λ n. IsTranscript program c.args.net.now c.args.vertex true n sent taken (bare_of [])) (sym c.in_ok-alpha.ensures.node)
+              (starts_transcript program c.args.net.now c.args.vertex true sent taken []
+              (none_at (λ e. put_list e.end) c.args.puts.items c.requires.nothing_put)
+              (none_at (λ e. taken_list e.end) c.args.takes.items c.requires.nothing_taken) refl));
+          stamps = has_at_start g.J.Wiring.net c.args.vertex true c.new.result (by_port (map (λ e. put_stamped e.end) c.args.puts.items))
+              (by_port (map (λ e. taken_stamped e.end) c.args.takes.items)) [] c.new.ensures.zero
+              (none_stamped_at (λ e. put_stamped e.end) c.args.puts.items c.requires.nothing_put) refl;
+        } ∣₁;
       };
     }

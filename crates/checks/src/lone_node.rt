@@ -1,9 +1,9 @@
-//! A node by itself, whose counter is near the greatest number.
+//! A node by itself, run by one worker.
 
 ghost use Rattle.std.specs.Prelude.{◌≡◌, [], ◌∷◌, IfOk, map};
 ghost use Rattle.checks.specs.SmallNets.{lone_net};
 
-use actor::{Links, Node, OpenGate, TurnRefused, Wiring};
+use actor::{Links, Node, OpenGate, Wiring};
 use interference::{Memory, Network};
 use pool::{NodesFault, run_nodes};
 use run_options::Options;
@@ -85,96 +85,28 @@ fn run_boxed<R: Threads + Wait + Sync>(
     }
 }
 
-// Moves a node's counter past a stamp; whether there is one left.
-fn moves_past(node: &mut Node<Alone, Greatest<2>>, stamp: u64) -> bool
-    ensures vertex { node.new.vertex ≡ node.old.vertex }
-{
-    node.counter.past(stamp).is_ok()
-}
-
-// Runs a node whose counter is moved past a stamp before.
-fn run_past<R: Threads + Wait + Sync>(
-    rt: &R,
-    alloc: Global,
-    links: &Links<Alone, Greatest<2>>,
-    mut node: Box<Node<Alone, Greatest<2>>>,
-    stamp: u64,
-) -> Result<(u32, u64), NodesFault>
-    requires vertex { node.value.vertex ≡ 1 }
-{
-    let is_past = moves_past(&mut node, stamp);
-    let end = run_boxed(rt, alloc, links, node);
-    if is_past {
-        end
-    } else {
-        Err(NodesFault::Memory)
-    }
-}
-
 fn run_over<R: Threads + Wait + Sync>(
     rt: &R,
     alloc: Global,
     network: &Network,
     links: &Links<Alone, Greatest<2>>,
-    stamp: u64,
 ) -> Result<(u32, u64), NodesFault>
     requires network { network.now ≡ lone_net }
 {
     match lone_node(alloc, network) {
-        Ok(node) => run_past(rt, alloc, links, node, stamp),
+        Ok(node) => run_boxed(rt, alloc, links, node),
         Err(_) => Err(NodesFault::Memory),
     }
 }
 
-/// How far the node comes by one worker, if its counter is past a stamp: its pulse and its counter.
-pub fn run_from<R: Threads + Wait + Sync>(
+/// How far the node comes by one worker: its pulse and its counter.
+pub fn run_alone<R: Threads + Wait + Sync>(
     rt: &R,
     alloc: Global,
     network: &Network,
-    stamp: u64,
 ) -> Result<(u32, u64), NodesFault>
     requires network { network.now ≡ lone_net }
 {
     let links = no_links(alloc);
-    run_over(rt, alloc, network, &links, stamp)
-}
-
-// Whether a node whose counter leaves one stamp refuses its second turn, and stays as it was.
-fn refuses_the_second_turn<R: Wait>(
-    rt: &R,
-    links: &Links<Alone, Greatest<2>>,
-    node: &mut Node<Alone, Greatest<2>>,
-) -> bool {
-    if !moves_past(node, u64::MAX - 2) {
-        return false;
-    }
-    let first = node.turn(rt, links, &OpenGate, 0);
-    let second = node.turn(rt, links, &OpenGate, 0);
-    first == Ok(true)
-        && second == Err(TurnRefused::StampFull)
-        && node.alpha.pulse_number() == 1
-        && node.counter.value() == u64::MAX
-        && node.aside.is_none()
-}
-
-fn stays_over<R: Wait>(
-    rt: &R,
-    alloc: Global,
-    network: &Network,
-    links: &Links<Alone, Greatest<2>>,
-) -> bool
-    requires network { network.now ≡ lone_net }
-{
-    match lone_node(alloc, network) {
-        Ok(mut node) => refuses_the_second_turn(rt, links, &mut node),
-        Err(_) => false,
-    }
-}
-
-/// Whether the node is as it was after a turn that it refuses for want of a stamp.
-pub fn stays_as_it_was<R: Wait>(rt: &R, alloc: Global, network: &Network) -> bool
-    requires network { network.now ≡ lone_net }
-{
-    let links = no_links(alloc);
-    stays_over(rt, alloc, network, &links)
+    run_over(rt, alloc, network, &links)
 }
