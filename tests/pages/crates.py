@@ -3,6 +3,7 @@
 - Each wrong body (crates/NAME/must-fail/ and wrong-bodies/) still applies: each `old:` text is exactly once in its file
   and is changed. A line `clause: NAME`, which says what refuses it, names a clause of a function in a file that it
   changes, or `result` if the clause has no name; `clause: NAME of WHAT` one of another function, type or record.
+- No line is wider than 120 columns in src/ and specs/, and than 160 in proofs/.
 - Each crate of crates.txt lists each crate that its own files name, and no other. A crate that the head of a `lib.rt`
   names as a caller ("`answers` calls ..") lists the crate. No file passes a name of another crate on: no `pub use` of a
   lower crate in src/, specs/ or proofs/, and no import by way of one (`below`).
@@ -88,6 +89,17 @@ class Crates(Case):
         self.note("edits say what refuses them", len(said) > 100, len(said))
         for path in said:
             self.note(f"clause of {os.path.relpath(path, TOP)}", has_clause(path), text_in(path))
+
+    def test_widths(self):
+        for part, widest in (("src", 120), ("specs", 120), ("proofs", 160)):
+            paths = glob.glob(f"{TOP}/crates/*/{part}/**/*.*t", recursive=True)
+            wide = [
+                f"{os.path.relpath(path, TOP)}:{number}"
+                for path in sorted(paths)
+                for number, line in enumerate(text_in(path).split("\n"), 1)
+                if len(line) > widest
+            ]
+            self.same(f"lines of {part}/ wider than {widest} columns", wide, [])
 
     def test_lists(self):
         """What a crate lists, who a head says that calls it, and names that are passed on."""

@@ -13,8 +13,8 @@ use Rattle.actor.specs.declared.node.Node.{Node}
 use Rattle.actor.specs.declared.refused.TurnRefused.{TurnRefused}
 use Rattle.actor.specs.declared.refused.TurnRefused.TheVariants.{Memory, StampFull}
 
--- the refusal that a node remembers after a turn: that memory was refused, if it ever was, or else why the last turn that
--- ended early did
+-- the refusal that a node remembers after a turn: that memory was refused, if it ever was, or else why the last turn
+-- that ended early did
 abbrev pub refusal_after : Option TurnRefused → Result Bool TurnRefused → Option TurnRefused
 refusal_after old (Ok did) = old
 refusal_after (Some Memory) (Err error) = Some Memory
@@ -27,9 +27,9 @@ module _ {J P T : Type 0} {j : wiring.Ghosts J} {p : program.Ghosts P T} {t : te
   abbrev pub refusal_of : Node J P T j p t q → Option TurnRefused
   refusal_of node = node.refusal
 
-  -- It is the same vertex's, and remembers the same refusal. Its counter counts what it did. If the part says that it did
-  -- something, the node has made an event more; if it says that it did nothing, the node is as it was. Memory is refused
-  -- only with a transcript, and a stamp is refused only if it would be too great.
+  -- It is the same vertex's, and remembers the same refusal. Its counter counts what it did. If the part says that it
+  -- did something, the node has made an event more; if it says that it did nothing, the node is as it was. Memory is
+  -- refused only with a transcript, and a stamp is refused only if it would be too great.
   pub record Stepped (old new : Node J P T j p t q) (result : Result Bool TurnRefused) : Type 0 where
     pub vertex : new.vertex ≡ old.vertex
     pub degree : new.degree ≡ old.degree
@@ -41,10 +41,10 @@ module _ {J P T : Type 0} {j : wiring.Ghosts J} {p : program.Ghosts P T} {t : te
     pub full : IfErr result
         (λ error. error ≡ StampFull → 2 ^ 64 ≤ max new.counter (aside_stamp new.aside) + 1)
 
-  -- The three parts of a turn, one after the other. If they say that they did something, the node has made an event more.
-  -- If the node has a wire aside, they say that they did nothing. If they did nothing and set no wire aside, the node is as
-  -- it was and can't make its next pulse, by each port no wire waits or its link was full, as `PutBlocked` says it, and
-  -- there is room for the entry of a take.
+  -- The three parts of a turn, one after the other. If they say that they did something, the node has made an event
+  -- more. If the node has a wire aside, they say that they did nothing. If they did nothing and set no wire aside, the
+  -- node is as it was and can't make its next pulse, by each port no wire waits or its link was full, as `PutBlocked`
+  -- says it, and there is room for the entry of a take.
   pub record Turned (old new : Node J P T j p t q) (result : Result Bool TurnRefused) : Type 0 where
     pub vertex : new.vertex ≡ old.vertex
     pub refusal : new.refusal ≡ old.refusal

@@ -282,8 +282,8 @@ impl<J: Wiring, P: NodeProgram> Node<J, P> {
         Ok(put)
     }
 
-    // The parts of a turn, one after the other. Returns whether the node did anything, but false if it has a wire aside.
-    // `ON` says in all parts whether the node writes a transcript, so that none of them asks.
+    // The parts of a turn, one after the other. Returns whether the node did anything, but false if it has a wire
+    // aside. `ON` says in all parts whether the node writes a transcript, so that none of them asks.
     fn parts<const ON: bool, R: Wait, G: Gate>(
         &mut self,
         rt: &R,

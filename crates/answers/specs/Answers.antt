@@ -28,8 +28,8 @@ LinesReadAs lines holds = (graph : Graph) × IsGraph lines graph × holds (netwo
 abbrev pub ReadsAs : List ℕ → (Net → Type 0) → Type 0
 ReadsAs text holds = LinesReadAs (lines_of text) holds
 
--- the fault of a text: that of its reading; or that the root which is given, if there is one, is no vertex; or that of the
--- network which was read, with this root
+-- the fault of a text: that of its reading; or that the root which is given, if there is one, is no vertex; or that of
+-- the network which was read, with this root
 abbrev pub IsFaultOfText : Option Root → List ℕ → PlanFault → Type 0
 IsFaultOfText root text (plan.Col fault) = IsFault (lines_of text) fault
 IsFaultOfText root text (plan.NoRoot v) = ReadsAs text (LacksRoot root v)

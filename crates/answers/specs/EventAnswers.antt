@@ -22,8 +22,8 @@ use Rattle.answers.specs.declared.fault.PlanFault.{PlanFault}
 use Rattle.answers.specs.declared.fault.PlanFault.TheVariants as plan
 use Rattle.answers.specs.declared.root.Root.{Root}
 
--- each node is in the state of the synchronous run at its pulse, whatever the order of the events: so a node at the last
--- pulse is in its last state
+-- each node is in the state of the synchronous run at its pulse, whatever the order of the events: so a node at the
+-- last pulse is in its last state
 abbrev pub AreInStep : {S M E : Type 0} → Program S M E → Net → State S M → Type 0
 AreInStep program net state = (v : ℕ) → IsVertex net v → (node_of program net state v).state
     ≡ state_at program net (node_of program net state v).view.pulse v
@@ -35,8 +35,8 @@ module _ {S M E : Type 0} (program : Program S M E) (texts : ProgramTexts S) (pa
       × (run program net (events_in script) ≡ Ok state) × (text ≡ state_text program texts payloads net state)
       × AreInStep program net state
 
-  -- the answer is the text of the state that the events reach, on the network that stands before them, with the root that
-  -- is given, if there is one, and the last states of the synchronous run are what the program is for
+  -- the answer is the text of the state that the events reach, on the network that stands before them, with the root
+  -- that is given, if there is one, and the last states of the synchronous run are what the program is for
   abbrev pub IsEventsAnswer : Option Root → List ℕ → List ℕ → Type 0
   IsEventsAnswer root input answer = LinesReadAs (network_lines (lines_of input)) (OfRooted root
       (λ net. IsNetwork net × IsStateReached net (lines_of input) answer × texts.Solves net (last_state program net)))

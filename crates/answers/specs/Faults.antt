@@ -7,7 +7,8 @@ use Rattle.run_faults.specs.declared.fault.PoolFault.TheVariants as pool
 use Rattle.channel_plan.specs.declared.plan.CheckFault.TheVariants as check
 use Rattle.event_texts.specs.declared.fault.EventFault.TheVariants as event
 use Rattle.answers.specs.declared.fault.PlanFault.{PlanFault}
-use Rattle.answers.specs.declared.fault.PlanFault.TheVariants.{Check, Col, Event, Net, NoRoot, Memory, Pool, Replay, Stopped}
+use Rattle.answers.specs.declared.fault.PlanFault.TheVariants.{Check, Col, Event, Net, NoRoot, Memory, Pool, Replay}
+use Rattle.answers.specs.declared.fault.PlanFault.TheVariants.{Stopped}
 use Rattle.answers.specs.declared.replaying.ReplayFault.TheVariants as replay
 use Rattle.answers.specs.declared.report.Place.{Place}
 use Rattle.answers.specs.declared.report.Place.TheVariants.{None, Line, Vertex, Vertices}

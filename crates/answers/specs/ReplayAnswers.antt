@@ -59,8 +59,8 @@ abbrev pub IsOfProgram : List ℕ → List Line → Type 0
 IsOfProgram name lines = (named : List ℕ) → program_in lines ≡ Some named → named ≡ name
 
 -- the answer is the text of the state that the transcript leads to, on the network that stands before it, with the root
--- that is given, if there is one, and the last states of the synchronous run are what the program is for; the transcript
--- names no other program
+-- that is given, if there is one, and the last states of the synchronous run are what the program is for; the
+-- transcript names no other program
 abbrev pub IsReplayAnswer : {S M E : Type 0} → Program S M E → ProgramTexts S → PayloadTexts M → Option Root → List ℕ
     → List ℕ → Type 0
 IsReplayAnswer program texts payloads root input answer =
@@ -247,8 +247,8 @@ module _ {S M E : Type 0} (program : Program S M E) (payloads : PayloadTexts M) 
   IsFaultOfNamed name net lines reported =
       IsFaultOfName name lines reported ⊎ (IsOfProgram name lines × IsFaultOfTranscript net lines reported)
 
-  -- the fault of an input of `replay`, for a program with texts: of the network text before the transcript, or of the root,
-  -- or else of the transcript
+  -- the fault of an input of `replay`, for a program with texts: of the network text before the transcript, or of the
+  -- root, or else of the transcript
   abbrev pub IsFaultOfReplay : ProgramTexts S → Option Root → List ℕ → PlanFault → Type 0
   IsFaultOfReplay texts root input (plan.Col fault) = IsFault (network_lines (lines_of input)) fault
   IsFaultOfReplay texts root input (plan.NoRoot v) = LinesReadAs (network_lines (lines_of input)) (LacksRoot root v)

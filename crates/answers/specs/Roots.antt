@@ -20,7 +20,8 @@ with_root (Some root) ids = rooted_ids root ids
 abbrev pub rooted : Root → Net → Net
 rooted root net = record net { ids = rooted_ids root net.ids }
 
--- something holds of a network; or if a root is given, this is a vertex of it, and it holds of the network with this root
+-- something holds of a network; or if a root is given, this is a vertex of it, and it holds of the network with this
+-- root
 abbrev pub OfRooted : Option Root → (Net → Type 0) → Net → Type 0
 OfRooted None holds net = holds net
 OfRooted (Some root) holds net = IsVertex net root.vertex × holds (rooted root net)

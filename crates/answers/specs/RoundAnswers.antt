@@ -10,8 +10,8 @@ use Rattle.answers.specs.Answers.{ReadsAs}
 use Rattle.answers.specs.Roots.{OfRooted}
 use Rattle.answers.specs.declared.root.Root.{Root}
 
--- the answer is the text of the synchronous run of a program on the network that the input describes, with the root that
--- is given, if there is one, and the last states of this run are what the program is for
+-- the answer is the text of the synchronous run of a program on the network that the input describes, with the root
+-- that is given, if there is one, and the last states of this run are what the program is for
 abbrev pub IsRoundsAnswer : {S M E : Type 0} → Program S M E → ProgramTexts S → PayloadTexts M → Option Root → List ℕ
     → List ℕ → Type 0
 IsRoundsAnswer program texts payloads root input answer =

@@ -2,8 +2,8 @@
 //! report of each fault of any command.
 //!
 //! `byte_functions` has the commands that run worker threads. `serving` calls `forest_bytes`, `plain_bytes` or
-//! `check_bytes` for a command, and `fault_report` if one fails; `play_commands` calls `events_bytes`, `replay_bytes` or
-//! `rounds_bytes`.
+//! `check_bytes` for a command, and `fault_report` if one fails; `play_commands` calls `events_bytes`, `replay_bytes`
+//! or `rounds_bytes`.
 //!
 //! ```
 //! let text = b"p edge 3 3\ne 1 2\ne 1 3\ne 2 3\n";

@@ -77,7 +77,8 @@ module _ (net : Net) (ok : IsNetwork net) where
       let g : ℕ → Option Payload = sends colouring net v w in
       let first : sent_below g (0 + 1) ≤ sent_below g 0 + 1 = at-most g 0 1 in
       let second : sent_below g 2 ≡ sent_below g 1 = none-more g 1
-      (sent-is 1 (oriented_node net) (tells_one net ok (has_forest net ok) (has_start net ok)) (oriented_stand net ok (has_forest net ok) (has_start net ok)) v w edge
+      (sent-is 1 (oriented_node net) (tells_one net ok (has_forest net ok) (has_start net ok))
+      (oriented_stand net ok (has_forest net ok) (has_start net ok)) v w edge
       ∙ ap (λ (b : Bool). tells_label (if b then Up (number net v w) else Unknown)) (le-ltb (id_of net v) (id_of net w) (omega (arith, high)))) in
       let ten : sent_below g (2 + 10) ≤ sent_below g 2 + 10 = at-most g 2 10 in
       let last_one : sent_below g 13 ≡ sent_below g 12 = none-more g 12 (told-colours 10 v w (omega arith) edge) in
@@ -87,7 +88,8 @@ module _ (net : Net) (ok : IsNetwork net) where
   other-step : (f s v w : ℕ) → s ≢ step_in net f v → chose net f s v w ≡ None
   other-step f s v w other =
       let test : (step_in net f v == s) ≡ false = ne_eqb (step_in net f v) s (λ e. other (sym e)) in
-      ap (λ (b : Bool). if b then (if suc s == steps (sizes_of net) then None else tells_chosen f (colours_after net (suc f) v) (role_of net v w)) else None) test
+      ap (λ (b : Bool). if b then (if suc s == steps (sizes_of net) then None
+      else tells_chosen f (colours_after net (suc f) v) (role_of net v w)) else None) test
 
   -- nor is one told over an edge of a later forest
   later-forest : (f s v w : ℕ) → f < number net v w → chose net f s v w ≡ None
@@ -129,7 +131,8 @@ module _ (net : Net) (ok : IsNetwork net) where
       ])
 
   -- one end of each edge is the child
-  pub by_ends : (P : ℕ → ℕ → Type 0) → ((v w : ℕ) → IsEdge net v w → IsEdge net w v → id_of net v < id_of net w → P v w × P w v) → (v w : ℕ) → IsEdge net v w → P v w
+  pub by_ends : (P : ℕ → ℕ → Type 0) → ((v w : ℕ) → IsEdge net v w → IsEdge net w v → id_of net v < id_of net w → P v w × P w v)
+      → (v w : ℕ) → IsEdge net v w → P v w
   by_ends P child v w edge =
       let back : IsEdge net w v = (neighbour-is_vertex net ok v w edge.0 edge.1, both-ways net ok v w edge.0 edge.1) in
       elim (cases_order (id_of net v) (id_of net w)) [

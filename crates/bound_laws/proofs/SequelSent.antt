@@ -49,6 +49,8 @@ module _ {X B : Type 0} (sequel : Sequel Node X Payload B) (laws : IsCut colouri
       (λ p below. first_sends colouring sequel laws net ok p w v back.0 (omega (arith, below))) in
       let all : sent_below (sends colouring net v w) n + sent_below (sends colouring net w v) n ≤ 13 + 2 * (f - number net v w) =
       both-early net ok f v w h edge in
-      let a : sent_below (sends colouring net v w) (suc (cut_on laws net)) ≡ sent_below (sends colouring net v w) n = ap (sent_below (sends colouring net v w)) e in
-      let b : sent_below (sends colouring net w v) (suc (cut_on laws net)) ≡ sent_below (sends colouring net w v) n = ap (sent_below (sends colouring net w v)) e in
+      let a : sent_below (sends colouring net v w) (suc (cut_on laws net)) ≡ sent_below (sends colouring net v w) n =
+      ap (sent_below (sends colouring net v w)) e in
+      let b : sent_below (sends colouring net w v) (suc (cut_on laws net)) ≡ sent_below (sends colouring net w v) n =
+      ap (sent_below (sends colouring net w v)) e in
       omega (arith, out, in_, all, a, b)

@@ -48,8 +48,8 @@ pub fn iterated_steps_leave_six()
 {}
 
 /// The colouring takes at most 12 + 3·Δ·(Δ + B + 1) pulses, and sends at most 13 + 2·U payloads over an edge: two
-/// greetings, a label, ten colours, and a choice of each end in each forest from that of the edge on; so over an edge of
-/// forest f at most 13 + 2·(U - f). (The sum has each edge twice, once for each end.)
+/// greetings, a label, ten colours, and a choice of each end in each forest from that of the edge on; so over an edge
+/// of forest f at most 13 + 2·(U - f). (The sum has each edge twice, once for each end.)
 pub fn colouring_is_bounded()
     ensures pulses { (net : Net) → IsNetwork net → last_pulse_on colouring net
         ≤ 12 + 3 * greatest_degree_of net * (greatest_degree_of net + greatest_bars_of net + 1) }
@@ -69,8 +69,8 @@ pub fn matching_is_bounded()
     forest_count_is_the_greatest();
 }
 
-/// The independent set takes at most 12 + (3·Δ + 1)·(Δ + B + 1) pulses, and sends at most 14 + 2·U payloads over an edge:
-/// those of the colouring, and one of the end that joins, if one does.
+/// The independent set takes at most 12 + (3·Δ + 1)·(Δ + B + 1) pulses, and sends at most 14 + 2·U payloads over an
+/// edge: those of the colouring, and one of the end that joins, if one does.
 pub fn independent_set_is_bounded()
     ensures pulses { (net : Net) → IsNetwork net → last_pulse_on independent_set net
         ≤ 12 + (3 * greatest_degree_of net + 1) * (greatest_degree_of net + greatest_bars_of net + 1) }

@@ -29,8 +29,8 @@ abbrev pub ends_text : {S M E : Type 0} → Program S M E → ProgramTexts S →
 ends_text program texts net =
     flat_map (λ v. end_line texts net v (last_pulse_on program net) (last_state program net v)) (vertices net)
 
--- the answer is the text of the last states of the synchronous run on the network that the input describes, with the root
--- that is given, if there is one, and these states are what the program is for
+-- the answer is the text of the last states of the synchronous run on the network that the input describes, with the
+-- root that is given, if there is one, and these states are what the program is for
 abbrev pub IsEndsAnswer : {S M E : Type 0} → Program S M E → ProgramTexts S → Option Root → List ℕ → List ℕ → Type 0
 IsEndsAnswer program texts root input answer =
     ReadsAs input (OfRooted root (λ net. IsNetwork net × (answer ≡ ends_text program texts net)

@@ -53,9 +53,9 @@ module _ {S M E : Type 0} (program : Program S M E) (payloads : PayloadTexts M) 
     pub whole : is_whole outcome ≡ true
     pub is_text : text ≡ entries_text payloads (count_of net) outcome.nodes
 
-  -- The text is the transcript of a whole run of workers on the network, over links of some capacity, in an edition with
-  -- stamps. Its entries are a whole replay: the event machine plays them in their order, each has the stamp that the
-  -- counter of its node gives it, and in the end every node is drained and every link empty.
+  -- The text is the transcript of a whole run of workers on the network, over links of some capacity, in an edition
+  -- with stamps. Its entries are a whole replay: the event machine plays them in their order, each has the stamp that
+  -- the counter of its node gives it, and in the end every node is drained and every link empty.
   pub record IsMergedTranscriptOf (words : List ℕ) (net : Net) (text : List ℕ) : Type 0 where
     pub capacity : ℕ
     pub outcome : Outcome S M
@@ -67,8 +67,8 @@ module _ {S M E : Type 0} (program : Program S M E) (payloads : PayloadTexts M) 
     pub is_replay : IsWholeReplay program net rows last
     pub is_text : text ≡ text_of words (stamped_row_text payloads) (count_of net) rows
 
-  -- the answer is the transcript of a whole run on the network that the input describes, with the root that is given, if
-  -- there is one: without stamps or with them
+  -- the answer is the transcript of a whole run on the network that the input describes, with the root that is given,
+  -- if there is one: without stamps or with them
   abbrev pub IsTranscriptIn : List ℕ → Edition → Option Root → List ℕ → List ℕ → Type 0
   IsTranscriptIn words edition.One root input answer =
       ReadsAs input (OfRooted root (λ net. IsNetwork net × IsTranscriptOf net answer))

@@ -51,7 +51,8 @@ IsFaultOfRun options (plan.Replay fault) = ⊥
 IsFaultOfRun options plan.Stopped = AreInRange options
 IsFaultOfRun options plan.Memory = ⊥
 
--- The fault of an input of `plan`, of `transcript` and of `run`: of the network text, or of the root, or else of the run.
+-- The fault of an input of `plan`, of `transcript` and of `run`: of the network text, or of the root, or else of the
+-- run.
 abbrev pub IsFaultOfWorkers : Option Root → Options → List ℕ → PlanFault → Type 0
 IsFaultOfWorkers root options input (plan.Col fault) = IsFault (lines_of input) fault
 IsFaultOfWorkers root options input (plan.NoRoot v) = ReadsAs input (LacksRoot root v)

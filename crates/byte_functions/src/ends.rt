@@ -58,8 +58,8 @@ fn text_of_ends<P: ProgramText>(
 
 /// The last state of each node of a program on the network that a DIMACS text describes, as text: a line for each
 /// vertex, with its last pulse and its result. The nodes run asynchronously, on worker threads with links between them,
-/// and end as in the synchronous run, whatever the threads do. The run has no transcript, whatever the options say. If a
-/// root is given, the network is that with this root.
+/// and end as in the synchronous run, whatever the threads do. The run has no transcript, whatever the options say. If
+/// a root is given, the network is that with this root.
 ///
 /// It is not promised that the call returns, nor that any number of looks is enough.
 ///

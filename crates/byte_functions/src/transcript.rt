@@ -69,8 +69,8 @@ fn text_in<P: ProgramText>(
 /// until its last pulse. In edition 1 it has the entries of each node in its own order, vertex by vertex; in edition 2
 /// all entries in the order of their stamps and then of their vertices, which is a run that `replay_bytes` accepts. If
 /// the program is named, the latter has edition 3, with the name in its first line. The run is as in `plan_bytes`, but
-/// has a transcript, whatever the options say. If a root is given, the network is that with this root. With more than one
-/// worker two calls may give different transcripts.
+/// has a transcript, whatever the options say. If a root is given, the network is that with this root. With more than
+/// one worker two calls may give different transcripts.
 ///
 /// It is not promised that the call returns, nor that any number of looks is enough.
 ///

@@ -120,8 +120,8 @@ fn over<J: Wiring + Send + Sync, R: Threads + Wait + Sync>(
     Ok(both_reach_the_end(rt, &links, one, two))
 }
 
-/// Whether two nodes that make 3,333 pulses, each on a thread, hand over all wires over links of a capacity: ten thousand
-/// each way.
+/// Whether two nodes that make 3,333 pulses, each on a thread, hand over all wires over links of a capacity: ten
+/// thousand each way.
 pub fn hand_over<R: Threads + Wait + Sync>(
     rt: &R,
     alloc: Global,

@@ -1,6 +1,7 @@
 -- The colours of a network: three colours of each forest, merged forest by forest.
 use Rattle.std.specs.Prelude.{◌≡◌, ◌≢◌, ◌≤◌, ℕ, zero, suc, Bool, Option}
-use Rattle.interference.specs.Net.{Net, IsBarred, IsEdge, IsVertex, bars_of, id_of, neighbours, forest_count_of, span_of}
+use Rattle.interference.specs.Net.{Net, IsBarred, IsEdge, IsVertex, bars_of, id_of, neighbours, forest_count_of}
+use Rattle.interference.specs.Net.{span_of}
 use Rattle.forests.specs.Forests.{parent, number}
 use Rattle.cole_vishkin.specs.BitStep.{six}
 use Rattle.shift_down.specs.Steps.{three_from}

@@ -20,7 +20,8 @@ pub record SimulateBoth {S X A B : Type 0} (first : Program S A Refused) (sequel
   -- with.
   pub first_state : (v : ℕ) → IsVertex net v → (nodes v).view.pulse ≤ cut
       → (nodes v).state ≡ both_of (state_at first net (nodes v).view.pulse v) (sequel.begin (own_of net v))
-  -- A node q pulses after the cut has its state of the first program at the cut, and is in that of the sequel's run at q.
+  -- A node q pulses after the cut has its state of the first program at the cut, and is in that of the sequel's run at
+  -- q.
   pub then_state : (v : ℕ) → IsVertex net v → cut ≤ (nodes v).view.pulse
       → (nodes v).state
       ≡ both_of (state_at first net cut v) (run_after first sequel net cut ((nodes v).view.pulse - cut) v).0

@@ -34,8 +34,8 @@ sends p s =
 abbrev pub with_sent : ℕ → Layered → Layered × List (Option Hops)
 with_sent p s = (s, sends p s)
 
--- The rule that a distance breaks which comes at pulse p: after the last pulse none may come, and before, what comes was
--- sent at distance p - 1.
+-- The rule that a distance breaks which comes at pulse p: after the last pulse none may come, and before, what comes
+-- was sent at distance p - 1.
 abbrev pub rule_broken : ℕ → ℕ → ℕ → Option ℕ
 rule_broken last p hops =
     if nat_lt last p then Some AFTER_LAST else if nat_eq (suc hops) p then None else Some WRONG_HOPS

@@ -13,8 +13,8 @@ pub fn rounds_end_with_the_distances()
         → IsLayer net v (last_state layering net v).layer }
 {}
 
-/// The same with the root given: the number is the distance from the vertex that has the identifier of the root, and the
-/// port leads one link closer to this vertex.
+/// The same with the root given: the number is the distance from the vertex that has the identifier of the root, and
+/// the port leads one link closer to this vertex.
 pub fn rounds_end_with_the_distances_from_a_root()
     ensures layers { (net : Net) → IsNetwork net → (root : ℕ) → IsRoot net root → (v : ℕ) → IsVertex net v
         → IsLayerFrom net root v (last_state layering net v).layer }

@@ -3,7 +3,8 @@
 //!
 //! The root sends its distance 0 to all neighbours at pulse 0. A node that hears for the first time, at pulse p, is at
 //! distance p: the first port at which it heard leads towards the root, and it sends `hops p` to all neighbours. So a
-//! node sends once, at the pulse that is its distance. The last pulse is n - 1, of n nodes, and no distance is greater. This is `SynchBFS` of N. A. Lynch, Distributed Algorithms, 1996, section 4.2.
+//! node sends once, at the pulse that is its distance. The last pulse is n - 1, of n nodes, and no distance is greater.
+//! This is `SynchBFS` of N. A. Lynch, Distributed Algorithms, 1996, section 4.2.
 //!
 //! That the nodes end with the distances is proved in `laws`. The rule of a refusal is one of `rules`.
 //!

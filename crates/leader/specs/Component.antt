@@ -8,8 +8,8 @@ pub record IsGreatestReached (net : Net) (v best : ℕ) : Type 0 where
   pub reached : (w : ℕ) × IsVertex net w × IsReached net v w × (best ≡ id_of net w)
   pub bound : (w : ℕ) → IsReached net v w → id_of net w ≤ best
 
--- Nodes that know these identifiers have elected: in a component all know the same one, and it is that of exactly one of
--- its vertices.
+-- Nodes that know these identifiers have elected: in a component all know the same one, and it is that of exactly one
+-- of its vertices.
 pub record HaveElected (net : Net) (best : ℕ → ℕ) : Type 0 where
   pub same : (v w : ℕ) → IsVertex net v → IsReached net v w → best w ≡ best v
   pub leader : (v : ℕ) → IsVertex net v → (w : ℕ) × IsVertex net w × IsReached net v w × (id_of net w ≡ best v)

@@ -24,8 +24,12 @@ pub fn rounds_end_with_a_maximal_matching()
 /// that came if none came at a lower port, and none is refused. So at the second pulse a `take` or a payload of the
 /// colouring counts as a `free`, and at the first as a `take`.
 pub fn table_has_these_rows()
-    ensures nothing { (port : ℕ) (slots : List (Option Wire)) → first_from port (None ∷ slots) ≡ first_from (port + 1) slots }
-    ensures colouring { (port : ℕ) (x : Payload) (slots : List (Option Wire)) → first_from port (Some (First x) ∷ slots) ≡ Some port }
-    ensures free { (port f : ℕ) (slots : List (Option Wire)) → first_from port (Some (Then (Free f)) ∷ slots) ≡ Some port }
-    ensures take { (port f : ℕ) (slots : List (Option Wire)) → first_from port (Some (Then (Take f)) ∷ slots) ≡ Some port }
+    ensures nothing { (port : ℕ) (slots : List (Option Wire))
+        → first_from port (None ∷ slots) ≡ first_from (port + 1) slots }
+    ensures colouring { (port : ℕ) (x : Payload) (slots : List (Option Wire))
+        → first_from port (Some (First x) ∷ slots) ≡ Some port }
+    ensures free { (port f : ℕ) (slots : List (Option Wire))
+        → first_from port (Some (Then (Free f)) ∷ slots) ≡ Some port }
+    ensures take { (port f : ℕ) (slots : List (Option Wire))
+        → first_from port (Some (Then (Take f)) ∷ slots) ≡ Some port }
 {}

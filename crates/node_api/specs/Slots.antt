@@ -22,7 +22,8 @@ pub record IsRead (marks : List Bool) (read cursor : ℕ) : Type 0 where
   pub counted : read ≡ count_marks (take cursor marks)
   pub within : cursor ≤ length marks
 
--- Every inbox has at most MAX_DEGREE ports, room for a slot at each, and its slots and its count of what was read as above.
+-- Every inbox has at most MAX_DEGREE ports, room for a slot at each, and its slots and its count of what was read as
+-- above.
 pub record IsInbox (marks : List Bool) (capacity slot_count read_count cursor : ℕ) : Type 0 where
   pub degree : length marks ≤ MAX_DEGREE
   pub room : length marks ≤ capacity

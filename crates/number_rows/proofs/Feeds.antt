@@ -1,7 +1,8 @@
 -- Which texts have no line feed, and which are lines: numbers have none (no-feed-decimal), and names neither (no-feed-name);
 -- a row is a line (line-row), and so is a line behind words without one (line-behind); lines one after the other are lines
 -- (lines-append, lines-each).
-use Rattle.std.proofs.Common.{◌≡◌, ◌≤◌, ◌+◌, ◌-◌, ◌/◌, ◌%◌, ◌==◌, ◌&&◌, ◌||◌, ◌∙◌, ℕ, zero, suc, Bool, true, false, cond, length, List, [], ◌∷◌, ◌++◌, map, flat_map}
+use Rattle.std.proofs.Common.{◌≡◌, ◌≤◌, ◌+◌, ◌-◌, ◌/◌, ◌%◌, ◌==◌, ◌&&◌, ◌||◌, ◌∙◌, ℕ, zero, suc, Bool, true, false, cond, length, List, [], ◌∷◌, ◌++◌, map}
+use Rattle.std.proofs.Common.{flat_map}
 use Rattle.std.proofs.Common.{append-nil, append_assoc, ap, arith, codes, inl, inr, ltb, ne_eqb, refl, subst, sym}
 use Rattle.std.proofs.lemmas.Bool.{and_parts}
 use Rattle.std.specs.Fmt.{decimal, digit_glyph, digits, digits_onto}

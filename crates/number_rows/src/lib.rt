@@ -6,8 +6,8 @@
 //! push_numbered(&mut text, b"node ", 3)?;    // appends "node 3"
 //! ```
 //!
-//! Numbers are unsigned, in a row below 2^64, after words below 2^128. Nothing is formatted through `fmt`, since a text may have
-//! 400,000 rows.
+//! Numbers are unsigned, in a row below 2^64, after words below 2^128. Nothing is formatted through `fmt`, since a text
+//! may have 400,000 rows.
 #![tactic(auto)]
 
 mod decimal;

@@ -37,8 +37,8 @@ pub fn rounds_end_with_a_plan_that_none_can_lower()
         → (v : ℕ) → IsVertex net v → (last_state (recolouring again) net v).beside.colour ≤ greatest }
 {}
 
-/// What a node makes of what comes at a port, for the colours that neighbours have chosen: a payload of the colouring is
-/// passed over, and so is a colour that no set has room for; any other colour is chosen. None is refused.
+/// What a node makes of what comes at a port, for the colours that neighbours have chosen: a payload of the colouring
+/// is passed over, and so is a colour that no set has room for; any other colour is chosen. None is refused.
 pub fn table_has_these_rows()
     ensures colouring { (chosen : FinSet nat_cmp) (port : ℕ) (x : Payload) → and_anew chosen port (First x) ≡ chosen }
     ensures anew { (chosen : FinSet nat_cmp) (port : ℕ) (x : Anew) → x.0 < COLOURS

@@ -73,7 +73,8 @@ fn read_any_named_lines<T: PayloadText>(
     text: &[u8],
 ) -> Result<Transcript<T>, TextFault>
     requires room { before + length text.now + 1 < 2 ^ 64 }
-    ensures ok { IfOk result (λ read. any_named_from T.payload_of (before + 1) (lines_of text.now) ≡ Ok (said_by read)) }
+    ensures ok { IfOk result
+        (λ read. any_named_from T.payload_of (before + 1) (lines_of text.now) ≡ Ok (said_by read)) }
     ensures fault { IfErr result (IsFaultOf (any_named_from T.payload_of (before + 1) (lines_of text.now))) }
 {
     if is_edition(b"3", before, text) {

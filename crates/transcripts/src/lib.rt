@@ -6,8 +6,8 @@
 //! text by `push_first_line`, and by `push_entries` for each node.
 //!
 //! In edition 2 the first line is `transcript 2 NODES`, and each entry has its stamp before the vertex. `stamped_text`
-//! writes it, `push_stamped_row` one entry of it, and `read_any` reads both editions. Edition 3 is the same of a program
-//! that is named: its first line, which `push_named_line` writes, is `transcript 3 NAME NODES`.
+//! writes it, `push_stamped_row` one entry of it, and `read_any` reads both editions. Edition 3 is the same of a
+//! program that is named: its first line, which `push_named_line` writes, is `transcript 3 NAME NODES`.
 //!
 //! ```text
 //! let rows = [

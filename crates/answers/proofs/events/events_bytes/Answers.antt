@@ -9,14 +9,14 @@ use Rattle.answers.proofs.events.events_bytes.Goals as goal
 pub returns-in_err-network-clause-fault : goal.returns-in_err-network-clause-fault
 returns-in_err-network-clause-fault g c =
     let p = err_from_is_err_and c.from_residual.result c.from_residual.ensures.1 in
-    rw (p.1, p.2) (fault-network g.P.NodeProgram.program c.args.root c.args.input.now c.network_text.result.now c.in_err-network.field-0.0 c.network_text.ensures.network
-    c.in_err-network.ensures.fault)
+    rw (p.1, p.2) (fault-network g.P.NodeProgram.program c.args.root c.args.input.now c.network_text.result.now c.in_err-network.field-0.0
+    c.network_text.ensures.network c.in_err-network.ensures.fault)
 
 pub returns-in_err-script-clause-fault : goal.returns-in_err-script-clause-fault
 returns-in_err-script-clause-fault g c =
     let p = err_from_is_err_and c.from_residual-in_err-script.result c.from_residual-in_err-script.ensures.1 in
-    rw (p.1, p.2) (fault-reading g.P.NodeProgram.program c.args.root c.args.input.now c.network_text.result.now c.in_ok-network.network c.in_err-script.field-0.0
-    c.network_text.ensures.network
+    rw (p.1, p.2) (fault-reading g.P.NodeProgram.program c.args.root c.args.input.now c.network_text.result.now c.in_ok-network.network
+    c.in_err-script.field-0.0 c.network_text.ensures.network
     c.in_ok-network.ensures.ok c.in_err-script.ensures.fault)
 
 pub returns-in_err-state-clause-fault : goal.returns-in_err-state-clause-fault

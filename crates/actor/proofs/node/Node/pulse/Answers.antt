@@ -75,7 +75,8 @@ returns g c =
     let old = c.args.self.now in
     record {
       stepped = stepped-did refl refl refl
-          (counts-pulse (c.advance.ensures.value ∙ c.in_ok-stamp.ensures.stamp) (pulsed_pulse old.alpha.last old.alpha.node c.pulse.new.self.node _ c.in-Ok.ensures.pulse) refl refl);
+          (counts-pulse (c.advance.ensures.value ∙ c.in_ok-stamp.ensures.stamp) (pulsed_pulse old.alpha.last old.alpha.node
+          c.pulse.new.self.node _ c.in-Ok.ensures.pulse) refl refl);
       counted = λ did. c.advance.ensures.value ∙ c.in_ok-stamp.ensures.stamp;
       blocked = λ did. absurd (true≢false did);
       going = c.requires.going;

@@ -93,7 +93,8 @@ returns-in-None g c = record {
 -- memory was refused
 pub returns-in_err-reserve : goal.returns-in_err-reserve
 returns-in_err-reserve g c = record {
-  stepped = stepped-memory c.from_residual.ensures.1 refl refl refl (counts-still refl refl refl refl) (subst IsTrue c.args.self.now.kept.recorded c.in_err-reserve.ensures.refused);
+  stepped = stepped-memory c.from_residual.ensures.1 refl refl refl (counts-still refl refl refl refl)
+      (subst IsTrue c.args.self.now.kept.recorded c.in_err-reserve.ensures.refused);
   counted = IfOk-from_err c.from_residual.result _ c.from_residual.ensures.0;
   room = IfOk-from_err c.from_residual.result _ c.from_residual.ensures.0;
 }

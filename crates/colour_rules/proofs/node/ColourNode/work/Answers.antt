@@ -53,7 +53,8 @@ turned c =
           ∙ (ap (λ (roles : List Role). turned_all c.args.reduction inside.colours inside.before (λ f. from_parent f roles slots)) c.deref.ensures.value
           ∙ ap (λ (n : Node). turned_all c.args.reduction n.colours n.before (λ f. from_parent f n.roles slots)) c.self.view_is
           ∙ colours-are node c.args.reduction v.each_colour slots),
-      c.turn_all.ensures.before ∙ (ap (λ (n : Node). kept_all c.args.reduction n.colours n.before) c.self.view_is ∙ kept-are node c.args.reduction v.each_colour),
+      c.turn_all.ensures.before
+          ∙ (ap (λ (n : Node). kept_all c.args.reduction n.colours n.before) c.self.view_is ∙ kept-are node c.args.reduction v.each_colour),
     )
 
 worked : (c : After-turn_all) → record (the_view c.self.inside) {
