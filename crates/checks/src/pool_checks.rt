@@ -50,8 +50,8 @@ fn leaves(
     })
 }
 
-// The node can't make a pulse before its neighbour is safe. So it takes, and puts its own payload and an acknowledgement,
-// for which the link has no room.
+// The node can't make a pulse before its neighbour is safe. So it takes, and puts its own payload and an
+// acknowledgement, for which the link has no room.
 fn puts_in_time<R: Wait>(rt: &R, alloc: Global, network: &Network) -> bool
     requires network { network.now ≡ pair_net }
 {

@@ -125,10 +125,16 @@ module _ {M : Type 0} where
     pub each : (v : ℕ) → (1 ≤ v) × (v ≤ n) → entries_at rows v ≡ wrote v
 
   merged_to : (n : ℕ) (wrote : ℕ → List (StampedEntry M)) → ((v : ℕ) → (1 ≤ v) × (v ≤ n) → Rises (wrote v)) → MergedTo n wrote
-  merged_to zero wrote rising = record { rows = []; ordered = tt; within = All-nil (Within 0); each = λ v is. let low = is.0 in let high = is.1 in absurd (omega (arith, low, high)) }
+  merged_to zero wrote rising = record {
+    rows = [];
+    ordered = tt;
+    within = All-nil (Within 0);
+    each = λ v is. let low = is.0 in let high = is.1 in absurd (omega (arith, low, high));
+  }
   merged_to (suc n) wrote rising =
       let rest = merged_to n wrote (λ v is. let high = is.1 in rising v (is.0, omega (arith, high))) in
-      let wider : All (Within (suc n)) rest.rows = All-weaker (Within n) (Within (suc n)) (λ row is. let high = is.1 in (is.0, omega (arith, high))) rest.rows rest.within in
+      let wider : All (Within (suc n)) rest.rows =
+      All-weaker (Within n) (Within (suc n)) (λ row is. let high = is.1 in (is.0, omega (arith, high))) rest.rows rest.within in
       let more = added (suc n) (suc n) (omega arith) (omega arith) (wrote (suc n)) (rising (suc n) (omega arith, omega arith)) rest.rows rest.ordered wider
       (beyond n (suc n) rest.rows rest.within (omega arith)) in
       record {
