@@ -1,11 +1,8 @@
 -- How great the stamps of a run can be.
 use Rattle.std.specs.Prelude.{◌^◌, ◌<◌, ◌≤◌, All, List}
 use Rattle.interference.specs.Net.{Net}
-use Rattle.node_api.specs.Program.{Program}
+use Rattle.node_api.specs.Program.{Program, last_pulse_on}
 use Rattle.alpha_laws.specs.Counts.{events_of_run}
-use Rattle.colour_rules.specs.declared.payload.Payload.{Payload}
-use Rattle.colour_rules.specs.Node as colour
-use Rattle.colour_rules.specs.Program.{colouring}
 use Rattle.event_machine.specs.State.{State}
 use Rattle.net_core.specs.Whole.{IsStampedReplay}
 use Rattle.entries.specs.declared.rows.StampedRow.{StampedRow}
@@ -16,8 +13,12 @@ StampsAreBounded {S} {M} program net =
     (rows : List (StampedRow M)) (last : State S M) → IsStampedReplay program net rows last
     → All (λ row. row.stamp ≤ events_of_run program net) rows
 
--- On every network within the limits, no stamp of the colouring comes to 2^64, so none is too great for a counter.
-abbrev pub StampsFit : Net → Type 0
-StampsFit net =
-    (rows : List (StampedRow Payload)) (last : State colour.Node Payload) → IsStampedReplay colouring net rows last
+-- No stamp of a stamped replay comes to 2^64, so none is too great for a counter.
+abbrev pub StampsFit : {S M E : Type 0} → Program S M E → Net → Type 0
+StampsFit {S} {M} program net =
+    (rows : List (StampedRow M)) (last : State S M) → IsStampedReplay program net rows last
     → All (λ row. row.stamp < 2 ^ 64) rows
+
+-- So it is if the last pulse has 32 binary digits, as that of every program has.
+abbrev pub ShortRunsFit : {S M E : Type 0} → Program S M E → Net → Type 0
+ShortRunsFit program net = last_pulse_on program net < 2 ^ 32 → StampsFit program net

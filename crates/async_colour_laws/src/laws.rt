@@ -12,7 +12,7 @@ ghost use Rattle.event_machine.specs.Step.{run};
 ghost use Rattle.async_colour_laws.specs.Coloured.{HaltedAreColoured, HaltedOutcomesAreColoured, HaltedRunsAreColoured};
 ghost use Rattle.async_colour_laws.specs.Coloured.{MaximalRunsAreColoured};
 ghost use Rattle.async_colour_laws.specs.Ran.{OutcomesAreRuns, WholeOutcomesAreEnds};
-ghost use Rattle.async_colour_laws.specs.Stamped.{StampsAreBounded, StampsFit};
+ghost use Rattle.async_colour_laws.specs.Stamped.{ShortRunsFit, StampsAreBounded, StampsFit};
 ghost use Rattle.async_colour_laws.specs.Small.{EndsWhole, EndsWithTheGreatest, edge, whole_run};
 
 use colour_laws::laws::last_pulse_is_limited;
@@ -50,9 +50,15 @@ pub fn stamps_are_bounded<S, M, E>()
     ensures law { (program : Program S M E) → OnEveryNetwork program (StampsAreBounded program) }
 {}
 
+/// On every network within the limits, no stamp of a stamped replay of a program comes to 2^64, if its last pulse has 32
+/// binary digits; that of every program has, by its type.
+pub fn stamps_fit<S, M, E>()
+    ensures law { (program : Program S M E) → OnEveryNetwork program (ShortRunsFit program) }
+{}
+
 /// On every network within the limits, no stamp of a stamped replay of the colouring comes to 2^64.
 pub fn stamps_of_the_colouring_fit()
-    ensures law { (net : Net) → IsNetwork net → StampsFit net }
+    ensures law { (net : Net) → IsNetwork net → StampsFit colouring net }
 {
     last_pulse_is_limited();
 }

@@ -41,7 +41,7 @@ ok_due last view i w good =
     not_refused (Some e) x good = absurd cc
 
 -- a node has reacted to a beginning of what it took
-reacted_begins : {M : Type 0} (aside : Option (Aside M)) (takens : List (List (Wire M)))
+pub reacted_begins : {M : Type 0} (aside : Option (Aside M)) (takens : List (List (Wire M)))
     → ((a : Aside M) → aside ≡ Some a → (a.port < length takens) × (by_port takens a.port ≡ all_but_last (by_port takens a.port) ++ (a.wire ∷ [])))
     → (i : ℕ) → (rest : List (Wire M)) × (by_port (reacted_to aside takens) i ++ rest ≡ by_port takens i)
 reacted_begins None takens is i = ([], append-nil (by_port takens i))

@@ -62,7 +62,7 @@ module _ {M : Type 0} where
 
 module _ {S M E : Type 0} (program : Program S M E) (net : Net) (v : ℕ) where
   -- a take is by a port
-  take_port : (before : List (Entry M)) (w : ℕ) (x : Wire M) (after : List (Entry M)) (from to : Node S M)
+  pub take_port : (before : List (Entry M)) (w : ℕ) (x : Wire M) (after : List (Entry M)) (from to : Node S M)
       → Leads program net v (before ++ (Take w x ∷ after)) from to → port_to net v w < degree_of net v
   take_port [] w x after from to is = is.0
   take_port (Pulse p ∷ before) w x after from to is =

@@ -9,3 +9,4 @@ pub mod Progress
 pub mod Held
 pub mod Merged
 pub mod Merges
+pub mod Fits

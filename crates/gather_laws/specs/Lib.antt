@@ -6,3 +6,4 @@ pub mod Counts
 pub mod Progress
 pub mod Held
 pub mod Merged
+pub mod Fits

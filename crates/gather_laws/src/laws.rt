@@ -4,6 +4,7 @@
 ghost use Rattle.node_api.specs.Program.{Program};
 ghost use Rattle.alpha_laws.specs.Laws.{OnEveryNetwork};
 ghost use Rattle.gather_laws.specs.Counts.{WholeOutcomesAreCounted};
+ghost use Rattle.gather_laws.specs.Fits.{MetStampsAreBounded};
 ghost use Rattle.gather_laws.specs.Held.{OutcomesHoldAtMostTwo};
 ghost use Rattle.gather_laws.specs.Laws.{MetNodesSimulate};
 ghost use Rattle.gather_laws.specs.Merged.{WholeOutcomesReplay};
@@ -76,6 +77,12 @@ pub fn met_nodes_are_written<S, M, E>()
 /// each with the stamp that the entries before it give it.
 pub fn met_runs_replay<S, M, E>()
     ensures law { (program : Program S M E) → OnEveryNetwork program (MetRunsReplay program) }
+{}
+
+/// Once all ends have met, no stamp passes the number of events that a whole run has, also if a node set a wire aside:
+/// neither the counter of a node nor the stamp of a wire that was put.
+pub fn met_stamps_are_bounded<S, M, E>()
+    ensures law { (program : Program S M E) → OnEveryNetwork program (MetStampsAreBounded program) }
 {}
 
 /// Of a whole run they are a whole replay.

@@ -5,3 +5,4 @@ pub mod Tables
 pub mod Fires
 pub mod Commute
 pub mod Room
+pub mod Short

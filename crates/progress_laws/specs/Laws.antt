@@ -1,7 +1,7 @@
 -- The laws of progress, on a network.
-use Rattle.std.specs.Prelude.{◌≡◌, ◌⊎◌, ◌↔◌, ℕ, ◌<◌, ◌≤◌, List, ◌++◌, length, Ok}
+use Rattle.std.specs.Prelude.{◌≡◌, ◌⊎◌, ◌↔◌, ℕ, ◌<◌, ◌≤◌, ◌^◌, List, ◌++◌, length, Ok}
 use Rattle.interference.specs.Net.{Net, IsVertex}
-use Rattle.node_api.specs.Program.{Program}
+use Rattle.node_api.specs.Program.{Program, last_pulse_on}
 use Rattle.alpha_laws.specs.Counts.{events_made, events_of_run}
 use Rattle.alpha_laws.specs.Progress.{HasEnded}
 use Rattle.event_machine.specs.declared.event.Event.{Event}
@@ -52,6 +52,11 @@ abbrev pub RunsHaveRoom : {S M E : Type 0} → Program S M E → Net → Type 0
 RunsHaveRoom {S} {M} program net =
     (events : List Event) (state : State S M) → run program net events ≡ Ok state → (capacity : ℕ) → 2 ≤ capacity
     → IsRunWithin capacity program net (start program net) events state
+
+-- A whole run has fewer than 2^60 events on a network within the limits, if its last pulse has 32 binary digits, as that
+-- of every program has.
+abbrev pub RunsAreShort : {S M E : Type 0} → Program S M E → Net → Type 0
+RunsAreShort program net = last_pulse_on program net < 2 ^ 32 → events_of_run program net < 2 ^ 60
 
 -- Where a list of events leads after which no event is possible.
 pub record IsEnd {S M E : Type 0} (program : Program S M E) (net : Net) (events : List Event) (state : State S M)

@@ -4,7 +4,8 @@ ghost use Rattle.node_api.specs.Program.{Program};
 ghost use Rattle.alpha_laws.specs.Laws.{OnEveryNetwork};
 ghost use Rattle.progress_laws.specs.Commute.{EventsCommute};
 ghost use Rattle.progress_laws.specs.Laws.{MaximalRunsAgree, MaximalRunsEnd, NoDeadlock, RunsAreBounded};
-ghost use Rattle.progress_laws.specs.Laws.{RunsAreCounted, RunsCanBeCompleted, RunsHaveRoom, WholeStatesAreTerminal};
+ghost use Rattle.progress_laws.specs.Laws.{RunsAreCounted, RunsAreShort, RunsCanBeCompleted, RunsHaveRoom};
+ghost use Rattle.progress_laws.specs.Laws.{WholeStatesAreTerminal};
 
 /// In every state that a list of events reaches, some event is possible, or every node is drained and no link holds a
 /// wire; over links of any capacity but none. In a state of the second kind no event is possible.
@@ -39,4 +40,9 @@ pub fn events_commute<S, M, E>()
 /// Every list of events is one over links of any capacity above 1: none puts a wire on a link that holds two.
 pub fn runs_have_room<S, M, E>()
     ensures law { (program : Program S M E) → OnEveryNetwork program (RunsHaveRoom program) }
+{}
+
+/// On a network within the limits a whole run has fewer than 2^60 events, if its last pulse has 32 binary digits.
+pub fn runs_are_short<S, M, E>()
+    ensures law { (program : Program S M E) → OnEveryNetwork program (RunsAreShort program) }
 {}
