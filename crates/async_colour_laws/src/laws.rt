@@ -50,8 +50,8 @@ pub fn stamps_are_bounded<S, M, E>()
     ensures law { (program : Program S M E) → OnEveryNetwork program (StampsAreBounded program) }
 {}
 
-/// On every network within the limits, no stamp of a stamped replay of a program comes to 2^64, if its last pulse has 32
-/// binary digits; that of every program has, by its type.
+/// On every network within the limits, no stamp of a stamped replay of a program comes to 2^64, if its last pulse has
+/// 32 binary digits; that of every program has, by its type.
 pub fn stamps_fit<S, M, E>()
     ensures law { (program : Program S M E) → OnEveryNetwork program (ShortRunsFit program) }
 {}

@@ -13,9 +13,9 @@ use Rattle.entries.specs.declared.rows.StampedEntry.{StampedEntry}
 use Rattle.entries.specs.Rows.{bare_of}
 use Rattle.stamps.specs.Keeps.{KeepsStamps}
 
--- Each node has entries of all that it did, with the stamps of its counter, and all ends have met: what was put on a link
--- is what was taken from it and then what it holds. The wires to which a node reacted begin those that it took: one that
--- it set aside is behind them, and has no entry.
+-- Each node has entries of all that it did, with the stamps of its counter, and all ends have met: what was put on a
+-- link is what was taken from it and then what it holds. The wires to which a node reacted begin those that it took:
+-- one that it set aside is behind them, and has no entry.
 pub record HaveMetAside {S M E : Type 0} (program : Program S M E) (net : Net) (nodes : ℕ → Node S M) (counters : ℕ → ℕ)
     (puts takens held : ℕ → ℕ → List (Stamped M)) (reacted : ℕ → ℕ → List (Wire M)) (wrote : ℕ → List (StampedEntry M))
     : Type 0 where

@@ -53,8 +53,8 @@ RunsHaveRoom {S} {M} program net =
     (events : List Event) (state : State S M) → run program net events ≡ Ok state → (capacity : ℕ) → 2 ≤ capacity
     → IsRunWithin capacity program net (start program net) events state
 
--- A whole run has fewer than 2^60 events on a network within the limits, if its last pulse has 32 binary digits, as that
--- of every program has.
+-- A whole run has fewer than 2^60 events on a network within the limits, if its last pulse has 32 binary digits, as
+-- that of every program has.
 abbrev pub RunsAreShort : {S M E : Type 0} → Program S M E → Net → Type 0
 RunsAreShort program net = last_pulse_on program net < 2 ^ 32 → events_of_run program net < 2 ^ 60
 
