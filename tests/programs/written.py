@@ -1,21 +1,23 @@
 """Files as spreadsheets and networkx write them, by a seed: each is read as the network that was meant, or refused.
 Files of other programs, and files with a change in one place, are in tests/by_hand/written_files.py."""
 
-import collections
 import contextlib
 import csv
 import io
 import json
 import os
 import random
+import tempfile
 import unicodedata
 from collections.abc import Callable, Iterator
 from dataclasses import dataclass
 
 from lab.networks import foreign, network
+from lab.networks.network_text import read_network
 from tests.cases import Case, in_process
 
-SEED, FILES = 20261129, 8
+FILES = 8
+REFUSED = {"refused", "refused with line"}
 # Names of nodes: {0} counts from 0, and {1} from 1.
 NAMES = (
     "{0} {1} {0:03} {0}7 -{1} {0}.5 1e{0} site{0} #{0} a:{0} x_{0} [{0}] {0}% {0}'s A;{0} B{{{0}}} &amp;{0}"
@@ -32,38 +34,26 @@ class Meant:
 
     nodes: list[str]
     edges: list[tuple[str, str]]
-    is_directed: bool = False
-    is_weighted: bool = False
 
     def numbers(self) -> list[tuple[int, int]]:
         """The edges by the places of their ends, from 0 on."""
-        place = {node: at for at, node in enumerate(self.nodes)}
-        return [(place[one], place[other]) for one, other in self.edges]
+        return [(self.nodes.index(one), self.nodes.index(other)) for one, other in self.edges]
 
 
-def meant(source: random.Random, lacks: str = "") -> Meant:
+def meant(source: random.Random, lacks: str) -> Meant:
     """A network by chance, in whose names none of some letters is."""
     patterns = [name.replace("\xa0", " ") for name in source.sample(NAMES, 3)]
     names = [pattern.format(at, at + 1) for pattern in patterns for at in range(30)]
-    if source.random() < 0.1:
-        names = WORDS
-    fitting = [name for name in dict.fromkeys(names) if not set(name) & set(lacks)]
+    fitting = [name for name in dict.fromkeys(names + WORDS) if not set(name) & set(lacks)]
     nodes = source.sample(fitting, min(source.choice(SIZES), len(fitting)))
     count = source.choice((0, 1, 1, 2)) * len(nodes)
-    edges = [(source.choice(nodes), source.choice(nodes)) for _ in range(count)]
-    return Meant(nodes, edges, source.random() < 0.3, source.random() < 0.5)
-
-
-def own(name: str) -> str:
-    """A name as it is read: its letters are composed, and blanks around it aren't its own."""
-    return unicodedata.normalize("NFC", name.strip())
+    return Meant(nodes, [(source.choice(nodes), source.choice(nodes)) for _ in range(count)])
 
 
 @dataclass
 class Writer:
     """What writes a form: the file's name, the words of the command, and the letters that no name of the form can have.
-    A form may lack nodes without an edge, or have their numbers in place of names; it may be of another network, `of`
-    the one that is meant; and `beside` writes its table of sites."""
+    A form may lack nodes without an edge, or have numbers in place of names."""
 
     form: str
     file: str
@@ -72,64 +62,54 @@ class Writer:
     lacks: str = ""
     has_lone: bool = True
     has_names: bool = True
-    of: Callable[[Meant], Meant] = lambda one: one
-    beside: Callable[[Meant], bytes] | None = None
+
+    def files(self, count: int) -> Iterator[tuple[bytes, tuple[set, set]]]:
+        """Files by chance, each with what it has, but for those whose names can't be written."""
+        source = random.Random(self.form)
+        for _ in range(count):
+            one = meant(source, self.lacks)
+            with contextlib.suppress(UnicodeEncodeError):
+                yield self.write(one), self.wanted(one)
 
     def wanted(self, one: Meant) -> tuple[set, set]:
-        """The nodes and the edges that are in the file, by name."""
         names = one.nodes if self.has_names else map(str, range(len(one.nodes)))
         nodes = [own(name) for name in names]
         ends = [(nodes[a], nodes[b]) for a, b in one.numbers()]
         return network_of(nodes if self.has_lone else [], ends)
 
-    def read(self, folder: str, data: bytes, one: Meant) -> tuple[int, bytes, bytes]:
-        """How `forestlab network read` ends for a file of these bytes."""
-        words = list(self.words)
-        if self.beside:
-            words.append(saved(folder, "sites.csv", self.beside(one)))
-        return in_process("network", network.main, "read", *words, saved(folder, self.file, data))
-
-
-def files_of(writer: Writer, count: int) -> Iterator[tuple[Meant, bytes]]:
-    """Networks by chance, each with the file of it, if its names can be written."""
-    source = random.Random(f"{SEED} {writer.form}")
-    for _ in range(count):
-        one = writer.of(meant(source, writer.lacks))
-        with contextlib.suppress(UnicodeEncodeError):
-            yield one, writer.write(one)
-
-
-def saved(folder: str, name: str, data: bytes) -> str:
-    path = os.path.join(folder, name)
-    with open(path, "wb") as file:
-        file.write(data)
-    return path
+    def verdict(self, folder: str, data: bytes, wanted: object) -> str:
+        """`read`, if `forestlab network read` makes this network of a file, `refused`, or what is wrong."""
+        path = os.path.join(folder, self.file)
+        with open(path, "wb") as file:
+            file.write(data)
+        status, out, errors = in_process("network", network.main, "read", *self.words, path)
+        said = errors.decode()
+        if status == 0:
+            made = read_network(out.decode(), path)
+            names = {v: made.names.get(v, str(v)) for v in made.vertices}
+            found = network_of(names.values(), [(names[v], names[w]) for v, w in made.edges])
+            return "read" if found == wanted else f"{found} is read, and it says {wanted}"
+        if status not in (1, 2) or out or not said.startswith("network: "):
+            return f"status {status}: {said}"
+        return "refused with line" if " line " in said else "refused"
 
 
 def network_of(nodes, ends) -> tuple[set, set]:
-    """The nodes with those that edges name, and the edges as sets; a loop is none."""
+    """The nodes, with those that edges name, and the edges without loops."""
     edges = {frozenset(pair) for pair in ends}
     return set(nodes).union(*edges), {edge for edge in edges if len(edge) == 2}
 
 
-def of_dimacs(text: str) -> tuple[set, set]:
-    rows = [line.split(" ", 3) for line in text.splitlines()]
-    count = next(int(row[2]) for row in rows if row[0] == "p")
-    names = {str(vertex): str(vertex) for vertex in range(1, count + 1)}
-    names |= {row[2]: row[3] for row in rows if row[:2] == ["c", "name"]}
-    return network_of(
-        names.values(), [(names[row[1]], names[row[2]]) for row in rows if row[0] == "e"]
-    )
+def own(name: str) -> str:
+    """A name as it is read: letters composed, without the blanks around it."""
+    return unicodedata.normalize("NFC", name.strip())
 
 
-def verdict(done: tuple[int, bytes, bytes], wanted) -> str:
-    """`read`, if this network came of it, `refused`, or what is wrong."""
-    status, out, said = done[0], done[1].decode(), done[2].decode()
-    if status == 0:
-        found = of_dimacs(out)
-        return "read" if found == wanted else f"{found} is read, and it says {wanted}"
-    is_refusal = status in (1, 2) and not out and said.startswith("network: ")
-    return "refused" if is_refusal else f"status {status}: {said}"
+def through_file(write) -> bytes:
+    """What `write` puts into the file whose path it is given."""
+    with tempfile.NamedTemporaryFile() as file:
+        write(file.name)
+        return file.read()
 
 
 def table_of(titles, rows, mark=",", encoding="utf-8") -> bytes:
@@ -138,99 +118,55 @@ def table_of(titles, rows, mark=",", encoding="utf-8") -> bytes:
     return stream.getvalue().encode(encoding)
 
 
-def on_a_line(one: Meant) -> Meant:
-    """Sites of 1.1 km from one to the next, of which those within 2.5 km are joined."""
-    near = [*zip(one.nodes, one.nodes[1:]), *zip(one.nodes, one.nodes[2:])]
-    return Meant(one.nodes, near)
-
-
 def spreadsheet_writers() -> list[Writer]:
-    def pairs(form, words=(), titles=("Source", "Target"), mark=",", encoding="utf-8"):
-        def written(one: Meant) -> bytes:
-            return table_of(titles, one.edges, mark, encoding)
+    def row(form, titles, *more, words=()):
+        def write(one: Meant) -> bytes:
+            return table_of(titles, one.edges, *more)
 
-        return Writer(form, "net.csv", written, words, has_lone=False)
+        return Writer(form, "net.csv", write, words, has_lone=False)
 
-    def sites(form, titles, place, *more):
-        def written(one: Meant) -> bytes:
-            rows = [(name, *place(at)) for at, name in enumerate(one.nodes)]
-            return table_of(titles, rows, *more)
-
-        return Writer(form, "net.csv", written, ("--reach", "2.5", "--sites"), of=on_a_line)
-
-    columns = ("--columns", "source=von,target=Nach Ort")
     return [
-        pairs("pairs with a mark", encoding="utf-8-sig"),
-        pairs("pairs, semicolons", ("--encoding", "cp1252"), ("from", "to"), ";", "cp1252"),
-        pairs("pairs, UTF-16", (), ("SOURCE", "TARGET"), "\t", "utf-16"),
-        pairs("pairs, German", columns, ("Von", "NACH ORT"), ";"),
-        sites(
-            "sites in km",
-            ("Site", "X_km", "y_km"),
-            lambda at: (f"{at * 11 // 10},{at % 10}", 0),
-            ";",
-        ),
-        sites("sites in degrees", ("name", "lat", "lon"), lambda at: (48 + at / 100, 10)),
-        sites(
-            "sites in metres", ("id", "Easting", "y_m"), lambda at: (at * 1100, 5e6), "\t", "utf-16"
-        ),
+        row("CSV with a mark", ("Source", "Target"), ",", "utf-8-sig"),
+        row("CSV in cp1252", ("from", "to"), ";", "cp1252", words=("--encoding", "cp1252")),
+        row("CSV in UTF-16", ("SOURCE", "TARGET"), "\t", "utf-16"),
+        row("CSV in German", ("Von", "Ort"), ";", words=("--columns", "source=von,target=Ort")),
     ]
 
 
 def networkx_writers(nx) -> list[Writer]:
-    def graph_of(one: Meant, is_simple: bool):
-        kinds = (nx.MultiGraph, nx.MultiDiGraph, nx.Graph, nx.DiGraph)
-        graph = kinds[2 * is_simple + one.is_directed]()
+    def graph_of(one: Meant, kind):
+        graph = kind()
         graph.add_nodes_from(one.nodes, height=2.5)
-        for at, ends in enumerate(one.edges):
-            graph.add_edge(*ends, **({"weight": at / 2} if one.is_weighted else {}))
+        graph.add_edges_from(one.edges, weight=1.5)
         return graph
 
-    def by(form, is_simple=True, **more):
-        def written(one: Meant) -> bytes:
-            stream = io.BytesIO()
-            getattr(nx, f"write_{form}")(graph_of(one, is_simple), stream, **more)
-            return stream.getvalue()
+    def by(form, kind=nx.Graph, **more):
+        def write(one: Meant) -> bytes:
+            graph = graph_of(one, kind)
+            return through_file(lambda path: getattr(nx, f"write_{form}")(graph, path, **more))
 
-        return written
+        return write
 
-    def node_link(one: Meant) -> bytes:
-        return json.dumps(nx.node_link_data(graph_of(one, False)), indent=1).encode()
+    def by_numbers(form):
+        """A form without names: its nodes are sorted."""
+        write = by(form)
+        return lambda one: write(Meant(list(range(len(one.nodes))), one.numbers()))
 
-    def coded(write):
-        """graph6 and sparse6, of the numbers of the nodes, without loops."""
-
-        def written(one: Meant) -> bytes:
-            graph = nx.empty_graph(len(one.nodes))
-            graph.add_edges_from((a, b) for a, b in one.numbers() if a != b)
-            return write(graph)
-
-        return written
+    def in_json(one: Meant) -> bytes:
+        return json.dumps(nx.node_link_data(graph_of(one, nx.MultiGraph)), indent=1).encode()
 
     ends = {"lacks": " ", "has_lone": False}
     return [
-        Writer("GraphML", "net.graphml", by("graphml")),
-        Writer("GraphML, multigraph", "net.graphml", by("graphml", False)),
-        Writer("GEXF", "net.gexf", by("gexf", False)),
-        Writer("GEXF 1.1", "net.gexf", by("gexf", version="1.1draft")),
-        Writer("GML", "net.gml", by("gml")),
-        Writer("GML, multigraph", "net.gml", by("gml", False)),
-        Writer("JSON", "net.json", node_link),
+        Writer("GraphML", "net.graphml", by("graphml", nx.MultiDiGraph)),
+        Writer("GEXF", "net.gexf", by("gexf")),
+        Writer("GML", "net.gml", by("gml", nx.MultiGraph)),
+        Writer("JSON", "net.json", in_json),
         Writer("adjacency", "net.adjlist", by("adjlist"), lacks=" "),
-        Writer("multiline adjacency", "net.adjlist", by("multiline_adjlist"), lacks=" "),
         Writer("edges", "net.edgelist", by("edgelist"), **ends),
-        Writer("edges, bare", "net.edgelist", by("edgelist", False, data=False), **ends),
+        Writer("edges, bare", "net.edgelist", by("edgelist", data=False), **ends),
         Writer("edges, weights", "net.edgelist", by("weighted_edgelist"), **ends),
-        Writer(
-            "edges, commas",
-            "net.csv",
-            by("edgelist", delimiter=",", data=False),
-            ("--no-heading",),
-            lacks=",",
-            has_lone=False,
-        ),
-        Writer("graph6", "net.g6", coded(nx.to_graph6_bytes), has_names=False),
-        Writer("sparse6", "net.s6", coded(nx.to_sparse6_bytes), has_names=False),
+        Writer("graph6", "net.g6", by_numbers("graph6"), has_names=False),
+        Writer("sparse6", "net.s6", by_numbers("sparse6"), has_names=False),
     ]
 
 
@@ -248,10 +184,6 @@ class Written(Case):
 
     def read_files(self, writers: list[Writer]):
         for writer in writers:
-            said = collections.Counter()
-            for one, data in files_of(writer, FILES):
-                said[verdict(writer.read(self.folder, data, one), writer.wanted(one))] += 1
-            self.same(f"{writer.form}: wrong", [*said.keys() - {"read", "refused"}], [])
-            self.same(
-                f"{writer.form}: any read", bool(said["read"]), "multiline" not in writer.form
-            )
+            files = writer.files(FILES)
+            said = {writer.verdict(self.folder, data, wanted) for data, wanted in files}
+            self.same(writer.form, said | REFUSED, {"read"} | REFUSED)
