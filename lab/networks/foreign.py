@@ -100,14 +100,15 @@ def listed(graph: Any, form: str, declared: Declared) -> Listed:
     # networkx keeps the order of the nodes.
     where: dict[object, Where] = dict(zip(rows, declared.nodes.values()))
     own: dict[object, str] = {}
-    found = Listed(form, nodes={}, notes=[f"nodes are named by their {key or 'id'}"])
+    nodes: dict[str, Where] = {}
+    found = Listed(form, nodes=nodes, notes=[f"nodes are named by their {key or 'id'}"])
     for node, has in rows.items():
         line = where.get(node, 1)
         own[node] = name_of(str(has[key] if key else node), declared.path, line)
-        if own[node] in found.nodes:
+        if own[node] in nodes:
             raise wrong_at(declared.path, line, f"a second node is called {shown(own[node])}")
-        found.nodes[own[node]] = line
-    found.edges = [(found.nodes[own[v]], own[v], own[w]) for v, w in graph.edges()]
+        nodes[own[node]] = line
+    found.edges = [(nodes[own[v]], own[v], own[w]) for v, w in graph.edges()]
     found.places = places_of({own[node]: has for node, has in rows.items()})
     if graph.is_directed():
         found.notes.append("directions aren't read")

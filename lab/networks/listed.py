@@ -42,11 +42,9 @@ class Listed:
 
 def wrong_at(path: str, where: Where, what: str) -> Wrong:
     """A fault at a place of a text."""
-    return (
-        wrong_line(path, where, what)
-        if isinstance(where, int)
-        else Wrong(f"{path} {where}: {what}")
-    )
+    if isinstance(where, int):
+        return wrong_line(path, where, what)
+    return Wrong(f"{path} {where}: {what}")
 
 
 @lru_cache(1 << 16)

@@ -37,15 +37,14 @@ def across_of(places: Collection[tuple[float, float]]) -> float:
     return max(max(xs) - min(xs), max(ys) - min(ys)) if places else 0.0
 
 
-def near(points: list[Point | None], reach: float, is_globe: bool) -> Iterator[tuple[int, int]]:
+def near(points: list[Point], reach: float, is_globe: bool) -> Iterator[tuple[int, int]]:
     """The pairs of rows that are less than the reach apart on the ground; those in neighbouring cells are looked at."""
     # On a globe the straight line is shorter than the way on the ground.
     span = 2 * EARTH * math.sin(min(reach / (2 * EARTH), math.pi / 2)) if is_globe else reach
     cells: Cells = {}
     for at, point in enumerate(points):
-        if point:
-            x, y, z = (math.floor(part / span) for part in point)
-            cells.setdefault((x, y, z), []).append((at, point))
+        x, y, z = (math.floor(part / span) for part in point)
+        cells.setdefault((x, y, z), []).append((at, point))
     for cell, rows in cells.items():
         around = list(rows_around(cells, cell))
         for (at, here), (other, there) in product(rows, around):

@@ -1,11 +1,14 @@
 """Networks that are a little smaller than another one, for who looks for the smallest on which something is wrong."""
-from collections.abc import Iterable, Iterator
+from collections.abc import Iterable, Iterator, Mapping
 
 from lab.network import Network
 
 
 def remade(
-    network: Network, edges: Iterable, identifiers: dict[int, int], bars: dict[int, list[int]]
+    network: Network,
+    edges: Iterable,
+    identifiers: dict[int, int],
+    bars: Mapping[int, Iterable[int]],
 ) -> Network:
     """A network of this name with other edges, identifiers and bars."""
     return Network(len(identifiers), edges, identifiers, bars, name=network.name)
@@ -33,6 +36,6 @@ def smaller(network: Network) -> Iterator[tuple[Network, list[int]]]:
     for gone in network.bars:
         bars = {v: channels for v, channels in network.bars.items() if v != gone}
         yield remade(network, network.edges, names, bars), same
-    small = {v: k for k, v in enumerate(sorted(same, key=names.get), 1)}
+    small = {v: k for k, v in enumerate(sorted(same, key=names.__getitem__), 1)}
     if small != names:
         yield remade(network, network.edges, small, network.bars), same
