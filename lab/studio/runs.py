@@ -178,22 +178,31 @@ def judge(asked, _tell):
     }
 
 
-def steps(asked, _tell):
-    """A run that is made step by step: where it is after some steps, or the events of a `list`, and what can come next.
-    `by` steps more are left to chance, or up to all nodes' next pulse `in step`."""
-    network, program = network_asked(asked, MOST_RUN), program_asked(asked)
-    player = Stepwise(network, program, rules_asked(asked, OF_SCHEDULES))
+def follow(player, asked):
+    """Makes the steps that are listed."""
     if "list" in asked:
         player.follow_list(str(asked["list"]))
     else:
         player.follow(str(asked.get("steps") or "").split("_"))
     if len(player.chosen) > MOST_STEPS:
         raise Wrong(f"at most {MOST_STEPS:,} steps are made by hand; No clock plays the rest")
-    held = held_of(asked, network)
+
+
+def play_on(player, asked, held):
+    """Plays what is left to chance, with some links and nodes held up."""
     if asked.get("by"):
         player.by_chance(min(int(asked["by"]), MOST_BY_CHANCE), str(asked.get("seed", "1")), *held)
     if asked.get("in_step"):
         player.in_step(*held)
+
+
+def steps(asked, _tell):
+    """A run that is made step by step: where it is after some steps, or the events of a `list`, and what can come next.
+    `by` steps more are left to chance, or up to all nodes' next pulse `in step`."""
+    network, program = network_asked(asked, MOST_RUN), program_asked(asked)
+    player = Stepwise(network, program, rules_asked(asked, OF_SCHEDULES))
+    follow(player, asked)
+    play_on(player, asked, held_of(asked, network))
     wires = [[v, w, player.words_on(v, w)] for v in network.vertices for w in network.neighbours[v]]
     told = {
         "made": player.chosen,

@@ -11,6 +11,7 @@ import hmac
 import http.server
 import json
 import os
+import re
 import resource
 import select
 import signal
@@ -106,6 +107,20 @@ class Answer:
             self.line(done=done, of=of)
 
 
+def length_of(text):
+    """The number of bytes that a header says, if it is one of less than ten digits."""
+    return int(text) if re.fullmatch("[0-9]{1,9}", text) else None
+
+
+def object_of(body):
+    """The object in JSON that a body is, or None."""
+    try:
+        found = json.loads(body)
+    except ValueError:
+        return None
+    return found if isinstance(found, dict) else None
+
+
 class Handler(http.server.BaseHTTPRequestHandler):
     """One request; then the connection ends."""
 
@@ -174,16 +189,13 @@ class Handler(http.server.BaseHTTPRequestHandler):
         _, way, name = (self.path + "//").split("/")[:3]
         if not self.is_from_page():
             return self.refuse(403, "This call isn't from the studio's own page.")
-        length = self.headers.get("Content-Length", "")
-        if not (
-            length.isascii() and length.isdigit() and len(length) < 10 and int(length) <= MOST_ASKED
-        ):
+        length = length_of(self.headers.get("Content-Length", ""))
+        if length is None or length > MOST_ASKED:
             return self.refuse(413, f"A call has at most {MOST_ASKED:,} bytes.")
-        body = self.rfile.read(int(length))
+        body = self.rfile.read(length)
         if way == "frame":
-            asked = {
-                key: values[-1] for key, values in parse_qs(body.decode("utf-8", "replace")).items()
-            }
+            form = parse_qs(body.decode("utf-8", "replace"))
+            asked = {key: values[-1] for key, values in form.items()}
             given = asked.pop("token", "")
         else:
             given = self.headers.get("X-Token", "")
@@ -197,11 +209,8 @@ class Handler(http.server.BaseHTTPRequestHandler):
             return self.answer_frame(calls.FRAMES[name], asked)
         if way != "call" or name not in calls.CALLS:
             return self.refuse(404, "There is no such call.")
-        try:
-            asked = json.loads(body)
-        except ValueError:
-            asked = None
-        if not isinstance(asked, dict):
+        asked = object_of(body)
+        if asked is None:
             return self.refuse(400, "A call is an object in JSON.")
         return self.answer_call(calls.CALLS[name], asked)
 

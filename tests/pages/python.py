@@ -1,6 +1,11 @@
-"""Checks the Python files by their text: the formatter and the linter find nothing.
+"""Checks the Python files by their text: the formatter and the linter find nothing,
+and no place is above the limits that the linter doesn't have.
 
 - `black` and `flake8` have their settings in pyproject.toml and .flake8.
+- A function has at most 12 ways through it: one, and one more for each branch, loop, condition,
+  handler and further operand of `and` and `or`. A condition has at most four parts.
+- No conditional expression is inside another one or inside an f-string, no comprehension has three
+  loops, no text is multiplied by a truth, and nothing is changed inside a comprehension.
 - A word is imported from the module that defines it."""
 
 import ast
@@ -12,8 +17,16 @@ from tests.cases import Case
 from tests.tools import need
 
 FOLDERS = ("lab", "build", "tests", "bench", "examples")
+MOST_WAYS, MOST_PARTS, MOST_LOOPS = 12, 4, 2
 
 FUNCTIONS = (ast.FunctionDef, ast.AsyncFunctionDef)
+COMPREHENSIONS = (ast.ListComp, ast.SetComp, ast.DictComp, ast.GeneratorExp)
+BRANCHES = (
+    *(ast.If, ast.IfExp, ast.For, ast.While, ast.ExceptHandler),
+    *(ast.comprehension, ast.Assert, ast.match_case),
+)
+# Methods that change what they are called on.
+CHANGING = {"add", "append", "clear", "discard", "extend", "insert", "pop", "remove", "update"}
 
 
 def files():
@@ -24,6 +37,74 @@ def files():
         for folder in FOLDERS
         for path in sorted((top / folder).rglob("*.py"))
     ]
+
+
+def ways(function):
+    """How many ways lead through a function's own body; functions inside of it count alone."""
+    count, todo = 1, list(function.body)
+    while todo:
+        node = todo.pop()
+        if isinstance(node, (*FUNCTIONS, ast.ClassDef)):
+            continue
+        if isinstance(node, BRANCHES):
+            count += 1
+        if isinstance(node, ast.comprehension):
+            count += len(node.ifs)
+        if isinstance(node, ast.BoolOp):
+            count += len(node.values) - 1
+        todo += ast.iter_child_nodes(node)
+    return count
+
+
+def parts(node):
+    """How many operands an expression of `and`, `or` and `not` has in all."""
+    if isinstance(node, ast.BoolOp):
+        return sum(map(parts, node.values))
+    if isinstance(node, ast.UnaryOp) and isinstance(node.op, ast.Not):
+        return parts(node.operand)
+    return 1
+
+
+def has_inside(node, kind):
+    return any(isinstance(below, kind) for below in ast.walk(node) if below is not node)
+
+
+def is_text(node):
+    return isinstance(node, ast.Constant) and isinstance(node.value, str)
+
+
+def is_truth(node):
+    if isinstance(node, ast.Call):
+        return getattr(node.func, "id", "") in ("bool", "isinstance")
+    is_negation = isinstance(node, ast.UnaryOp) and isinstance(node.op, ast.Not)
+    return is_negation or isinstance(node, (ast.Compare, ast.BoolOp))
+
+
+def is_text_times_truth(node):
+    if not isinstance(node, ast.BinOp) or not isinstance(node.op, ast.Mult):
+        return False
+    sides = (node.left, node.right)
+    return any(map(is_text, sides)) and any(map(is_truth, sides))
+
+
+def is_change(node):
+    return isinstance(node, ast.Call) and getattr(node.func, "attr", "") in CHANGING
+
+
+def wrong_at(node):
+    """What is above a limit at a place."""
+    if isinstance(node, FUNCTIONS) and ways(node) > MOST_WAYS:
+        yield f"{ways(node)} ways through {node.name}"
+    if isinstance(node, ast.BoolOp) and parts(node) > MOST_PARTS:
+        yield f"a condition of {parts(node)} parts"
+    if isinstance(node, (ast.IfExp, ast.FormattedValue)) and has_inside(node, ast.IfExp):
+        yield "a conditional expression inside another or an f-string"
+    if isinstance(node, COMPREHENSIONS) and len(node.generators) > MOST_LOOPS:
+        yield f"a comprehension of {len(node.generators)} loops"
+    if isinstance(node, COMPREHENSIONS) and any(map(is_change, ast.walk(node))):
+        yield "a change inside a comprehension"
+    if is_text_times_truth(node):
+        yield "a text times a truth"
 
 
 def names_of(tree):
@@ -64,6 +145,16 @@ class Python(Case):
 
     def test_linter(self):
         self.run_clean("flake8")
+
+    def test_limits(self):
+        for file in files():
+            tree = ast.parse(pathlib.Path(TOP, file).read_text())
+            places = [
+                f"{file}:{node.lineno}: {what}"
+                for node in ast.walk(tree)
+                for what in wrong_at(node)
+            ]
+            self.same(file, places, [])
 
     def test_imports(self):
         trees = {

@@ -13,6 +13,12 @@ WAITS = [sys.executable, "-S", "-c", "import time; time.sleep(100)"]
 TEE = 'tee "$0/$$.in" | "$@" | tee "$0/$$.out"'
 
 
+def in_turn(messages, answers):
+    """The lines of messages and their answers, one after the other."""
+    pairs = zip(messages.split("end\n"), answers.split("end\n"))
+    return "".join(part for both in pairs for part in both).splitlines()
+
+
 def by_vertex(line: str, neighbours: list[int]) -> str:
     """A line of a node as a transcript has it, with a neighbour in place of the port."""
     what, at, *rest = line.split(" ")
@@ -202,21 +208,15 @@ class Command(Played):
             "alpha", "path3", "--keep", self.path("kept"), "--", "sh", "-c", TEE, logs, *ALPHA
         )
         self.assertEqual(done.returncode, 0, done.stdout)
-        rows = [
-            line.split(" ", 2)[1:]
-            for line in text_in(self.path("kept", "run.transcript")).splitlines()[1:]
-        ]
+        lines = text_in(self.path("kept", "run.transcript")).splitlines()[1:]
+        rows = [line.split(" ", 2)[1:] for line in lines]
         seen = 0
-        for name in (name for name in os.listdir(logs) if name.endswith(".in")):
-            messages, answers = (
-                text_in(logs, name.replace(".in", part)).split("end\n") for part in (".in", ".out")
-            )
-            parts = [part for both in zip(messages, answers) for part in both]
-            lines = "".join(parts).splitlines()
+        for name in {os.path.splitext(name)[0] for name in os.listdir(logs)}:
+            lines = in_turn(*(text_in(logs, name + part) for part in (".in", ".out")))
             v = next(int(line.split()[1]) for line in lines if line.startswith("identifier"))
-            did = [line for line in lines if line.startswith(("take ", "put ", "pulse "))]
             neighbours = {1: [2], 2: [1, 3], 3: [2]}[v]
-            did = [by_vertex(line, neighbours) for line in did]
+            kinds = ("take ", "put ", "pulse ")
+            did = [by_vertex(line, neighbours) for line in lines if line.startswith(kinds)]
             self.assertEqual(did, [words for u, words in rows if u == str(v)])
             seen += len(did)
         self.assertEqual(seen, len(rows))
