@@ -8,7 +8,8 @@ import time
 from lab.definitions.nodes import synchronous_run
 from lab.definitions.programs import program_at
 from lab.network import Network
-from tests.cases import FORESTLAB, Case, forestlab, said_by, text_in
+from tests import FORESTLAB
+from tests.cases import Case, forestlab, said_by, text_in
 from tests.pictures.marks import data_of
 from tests.programs.sequels import SAMPLES
 
