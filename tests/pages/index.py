@@ -13,7 +13,7 @@ from tests.cases import Case, text_in
 from tests.commands import COMMANDS
 from tests.pages.pages import PAGES, lines_of
 
-README_WORDS, README_COLUMNS = 900, 120
+README_WORDS, README_COLUMNS = 750, 120
 
 # The constants of limits, and what is said of them elsewhere, with line ends as blanks.
 LIMITS = (
