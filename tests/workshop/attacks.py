@@ -11,7 +11,7 @@ from tests.cases import text_in
 from tests.tools import need
 from tests.workshop.base import ALPHA, JAVA, call
 from tests.workshop.forgers import FORGED
-from tests.workshop.submitted import ANSWER, RIGHT, Submitted
+from tests.workshop.submitted import ANSWER, Submitted
 
 # Right on a network of one node and nothing else: there pulse 12 is the last.
 ONE = (
@@ -122,13 +122,6 @@ class Attacks(Submitted):
         subprocess.run(["mkdir", "-p", os.path.join(deep, "d/" * 70)], check=True)
         for student, words in (("cleo", "megabytes"), ("dora", "1,000 files"), ("eve", "too deep")):
             self.note(student, words in self.why_not(student), self.why_not(student))
-
-    def test_links_to_what_is_hidden(self):
-        """A link is copied as one, and leads nowhere in the container."""
-        folder = self.submit("anna", alpha_node_py="x")
-        os.symlink(os.path.join(RIGHT, "rounds_node.py"), os.path.join(folder, "rounds_node.py"))
-        found = self.graded(runs="1")["anna"]["rounds"]
-        self.same("its verdict", (found["points"], found["cases"][0]["verdict"]), (0, "ended"))
 
     def test_verdicts_that_a_program_prints(self):
         """To each file that it has open, and with letters that a terminal obeys."""

@@ -3,7 +3,6 @@ left. Each tries things, and says on standard error what it got; the verdict sho
 sandbox.py."""
 import json
 import os
-import re
 import signal
 import subprocess
 import unittest
@@ -12,54 +11,23 @@ from lab.workshop.sandbox import USERS
 from tests.cases import wait_until
 from tests.workshop.base import DOOR, LIMIT, call
 from tests.workshop.misbehaving import MARK, left, left_at_last
+from tests.workshop.sandbox import got, program
 
-BEGIN = """\
-import ctypes, os, signal, socket, sys, time
-for line in sys.stdin:
-    if line == "end\\n":
-        break
-SYSTEM, WORKSHOP, said = ctypes.CDLL(None, use_errno=True), os.getppid(), []
-def tries(name, attack):
-    try:
-        said.append(f"{name}={attack()!r}")
-    except BaseException as why:
-        said.append(f"{name}={type(why).__name__}")
-def trace(pid):
-    if SYSTEM.ptrace(0x4206, pid, None, None):
-        raise OSError(ctypes.get_errno(), "ptrace")
-def away(seconds):
-    if os.fork() == 0:
-        os.setsid()
-        if os.fork() == 0:
-            os.execvp("sleep", ["sleep", str(seconds)])
-        os._exit(0)
-"""
 PYTHON = "--", "python3", "-S", "-c"
-END = "\nsys.stderr.write(' '.join(said))\nsys.stderr.flush()\nos._exit(7)\n"
 FORGED = json.dumps({"workshop": 1, "runs": 1, "right": 1, "cases": [{"verdict": "right"}]})
 # What reaches the workshop, as anybody: each has to be refused.
 REACHING = {
     "writes": f"open(f'/proc/{{WORKSHOP}}/fd/1', 'w').write({FORGED!r})",
     "memory": "open(f'/proc/{WORKSHOP}/mem', 'r+b')",
     "secrets": "open(f'/proc/{WORKSHOP}/environ').read()[:9]",
-    "traces": "trace(WORKSHOP)",
+    "traces": "call(SYSTEM.ptrace(0x4206, WORKSHOP, None, None))",
 }
-
-
-def program(attacks: dict[str, str], more: str = "") -> str:
-    lines = [f"tries({name!r}, lambda: {attack})\n" for name, attack in attacks.items()]
-    return BEGIN + more + "".join(lines) + END
 
 
 def as_a_user() -> dict:
     """What a command is called with, so that it isn't root's."""
     user = {"user": USERS[0], "group": USERS[0], "extra_groups": []} if os.geteuid() == 0 else {}
     return {"cwd": "/", **user}
-
-
-def got(text: str) -> dict[str, str]:
-    """What each attack got, from a verdict."""
-    return dict(re.findall(r"(\w+)=([^ `]+)", text.partition("on standard error: ")[2]))
 
 
 class Forgers(unittest.TestCase):
@@ -74,7 +42,7 @@ class Forgers(unittest.TestCase):
             "said.append(f'blocked={len(signal.pthread_sigmask(signal.SIG_BLOCK, ()))}')\n"
         )
         given = {"SECRET": "x", "PYTHONUNBUFFERED": "1", "HOME": "/", "LANG": "C.UTF-8"}
-        words = ["rounds", "two", "--json", *PYTHON, program(REACHING, more)]
+        words = ["rounds", "two", "--json", "--", *program(REACHING, more)]
         done = call(*words, env={**os.environ, **given}, **as_a_user())
         self.assertEqual(done.returncode, 1, done)
         result = json.loads(done.stdout)
@@ -108,8 +76,8 @@ class Forgers(unittest.TestCase):
             "path1",
             "--timeout",
             "20",
-            *PYTHON,
-            program({"started": "n < 1000"}, more),
+            "--",
+            *program({"started": "n < 1000"}, more),
         ]
         done = call(*words, **as_a_user())
         self.assertEqual((done.returncode, got(done.stdout)), (1, {"started": "True"}), done)
@@ -122,6 +90,6 @@ class Forgers(unittest.TestCase):
             "        for at in range(0, len(shared), 4096):\n            shared[at] = 1\n"
             "        time.sleep(60)\ntime.sleep(60)\n"
         )
-        done = call("rounds", "path1", "--memory", "200", *PYTHON, program({}, more))
+        done = call("rounds", "path1", "--memory", "200", "--", *program({}, more))
         self.assertIn("wrong: flood", done.stdout)
         self.assertIn("it takes more than 200 megabytes of memory", done.stdout)

@@ -18,7 +18,7 @@ from tests.cases import Case, text_in, wait_until
 from tests.tools import need
 from tests.workshop.base import DOOR, EXAMPLES, LIMIT, call
 from tests.workshop.submitted import MUTE, RIGHT, ZERO, Submitted
-from tests.workshop.forgers import BEGIN, got, program
+from tests.workshop.sandbox import got, program
 from tests.workshop.misbehaving import MARK, left, left_at_last
 
 
@@ -78,12 +78,14 @@ class Grades(Submitted):
         attacks = {
             "another": f"open({other!r}).read()",
             "right": f"open({os.path.join(RIGHT, 'rounds_node.py')!r}).read()",
+            "link": "open('link').read()",
             "own": "open('kept', 'w').write('x')",
         }
         deep = "for _ in range(1500):\n    os.mkdir('d')\n    os.chdir('d')\n"
         os.makedirs(os.path.join(self.folder, "room"))
-        self.submit("anna", rounds_node_py=program(attacks, f"away({MARK})\n"))
-        self.submit("ben", rounds_node_py=program({}, deep))
+        self.submit("anna", rounds_node_py=program(attacks, f"away({MARK})\n")[-1])
+        os.symlink(other, os.path.join(self.subs, "anna", "link"))
+        self.submit("ben", rounds_node_py=program({}, deep)[-1])
         self.submit("cleo", rounds_node_py=ZERO)
         reports, room = (os.path.join(self.folder, name) for name in ("reports", "room"))
         os.chmod(room, 0o755)
@@ -95,8 +97,10 @@ class Grades(Submitted):
         self.same("verdicts", verdicts, {"anna": "ended", "ben": "ended", "cleo": "differs"})
         found = got(text_in(reports, "anna.txt"))
         missing = "FileNotFoundError"
-        self.same("what is reached", found, {"another": missing, "right": missing, "own": "1"})
-        self.same("its folder", os.listdir(os.path.join(self.subs, "anna")), ["rounds_node.py"])
+        right = dict.fromkeys(attacks, missing) | {"own": "1"}
+        self.same("what is reached", found, right)
+        names = sorted(os.listdir(os.path.join(self.subs, "anna")))
+        self.same("its folder", names, ["link", "rounds_node.py"])
         self.same("what is left", os.listdir(room), [])
 
     def test_if_the_one_that_grades_is_killed(self):
@@ -122,18 +126,6 @@ class Grades(Submitted):
         node = [os.path.join(tools, "python3"), os.path.join(RIGHT, "rounds_node.py")]
         done = call("rounds", "two", "--", *node, env=given)
         self.same("a run without it", done.returncode, 0)
-
-    def test_a_neighbours_programs(self):
-        """Nobody ends another's programs by their limits."""
-        need(self, "bwrap")
-        forger = BEGIN + (
-            "import resource\nfor pid in range(2, 1 << 16):\n    try:\n        if pid != os.getpid():\n"
-            "            resource.prlimit(pid, resource.RLIMIT_CPU, (0, 0))\n    except OSError:\n"
-            "        pass\n"
-        )
-        shutil.copytree(RIGHT, os.path.join(self.subs, "anna"))
-        self.submit("ben", rounds_node_py=forger, alpha_node_py=forger)
-        self.assertEqual(self.graded(runs="3")["anna"]["rounds"]["points"], 40)
 
     def test_what_is_in_doubt(self):
         """What a signal ended is played once more, alone."""

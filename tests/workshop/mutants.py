@@ -127,8 +127,8 @@ class InProcess:
             if fields[0][0] == "workshop":
                 own = {words[0]: int(words[1]) for words in fields[1:]}
                 self.nodes[v] = self.make(own | {"barred": set(map(int, fields[-1][2:]))})
-                return list(self.nodes[v].start())
-            return list(self.nodes[v].react(fields))
+                return list(map(str, self.nodes[v].start()))
+            return list(map(str, self.nodes[v].react(fields)))
         except Exception as why:
             raise Fault("ended", f"{type(why).__name__}: {why}") from None
 

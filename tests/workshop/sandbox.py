@@ -21,8 +21,8 @@ from tests.workshop.base import JAVA, LIMIT
 from tests.workshop.misbehaving import MARK, left
 
 BEGIN = """\
-import ctypes, multiprocessing, os, resource, signal, socket, stat, sys, time
-SYSTEM, said = ctypes.CDLL(None, use_errno=True), []
+import ctypes, os, resource, signal, socket, stat, sys, time
+SYSTEM, WORKSHOP, said = ctypes.CDLL(None, use_errno=True), os.getppid(), []
 def tries(name, attack):
     try:
         said.append(f"{name}={attack()!r}".split()[0])
@@ -129,7 +129,8 @@ def done(guard: Guard, command: list[str]) -> str:
 
 
 def got(said: str) -> dict[str, str]:
-    return dict(re.findall(r"([a-z_]+)=(\S+)", said))
+    """What each attack got, from standard error or a verdict that shows it."""
+    return dict(re.findall(r"([a-z_]+)=([^ `\n]+)", said))
 
 
 class Sandboxed(Case):
@@ -217,7 +218,7 @@ class Sandboxed(Case):
             "writes": "open('log', 'w').write('x')",
             "names": "sorted(os.environ.keys() - {'LANG', 'LC_CTYPE'}) == ['HOME', 'PATH', 'PWD', 'TMPDIR']",
             "home": "os.environ['HOME'] == os.getcwd() == os.environ['TMPDIR']",
-            "locks": "multiprocessing.Lock() is not None",
+            "locks": "__import__('multiprocessing').Lock() is not None",
             "listens": "socket.create_server(('127.0.0.1', 0)) is not None",
         }
         with mock.patch.dict(os.environ, SECRET="x"):
