@@ -1,5 +1,5 @@
 """What a network is: commands read it, the definitions are of it, and pictures show it."""
-from collections.abc import Iterable, Mapping
+from collections.abc import Collection, Mapping
 from dataclasses import dataclass, field
 from functools import cached_property
 
@@ -19,9 +19,9 @@ class Network:
     together: the colours of a plan are 0 to `span`, and `channels` is how many these are."""
 
     nodes: int
-    edges: Iterable[tuple[int, int]]
+    edges: Collection[tuple[int, int]]
     said: Mapping[int, int] = field(default_factory=dict)
-    bars: Mapping[int, Iterable[int]] = field(default_factory=dict)
+    bars: Mapping[int, Collection[int]] = field(default_factory=dict)
     names: Mapping[int, str] = field(default_factory=dict)
     places: Mapping[int, tuple[float, float]] = field(default_factory=dict)
     name: str = ""
@@ -50,7 +50,7 @@ class Network:
     def higher(self) -> dict[int, list[int]]:
         own = self.identifiers
         return {
-            v: sorted((w for w in near if own[w] > own[v]), key=own.get)
+            v: sorted((w for w in near if own[w] > own[v]), key=own.__getitem__)
             for v, near in self.neighbours.items()
         }
 

@@ -31,7 +31,8 @@ def plan_text(net: Network) -> bytes:
 
 def at_parent(net: Network, f: int, c: Colours, v: int) -> int | None:
     """The parent's entry, or None at a root."""
-    return c.get(net.parent(f, v))
+    parent = net.parent(f, v)
+    return None if parent is None else c[parent]
 
 
 def digit(i: int, number: int) -> int:
@@ -59,7 +60,8 @@ def other_than(*taken: int | None) -> int:
 
 def shift(net: Network, f: int, c: Colours) -> Colours:
     """Each vertex has its parent's colour, and a root the least of 0, 1, 2 other than its own."""
-    return {v: other_than(c[v]) if net.parent(f, v) is None else at_parent(net, f, c, v) for v in c}
+    above = {v: at_parent(net, f, c, v) for v in c}
+    return {v: other_than(c[v]) if colour is None else colour for v, colour in above.items()}
 
 
 def drop(x: int, net: Network, f: int, c: Colours, before: Colours) -> Colours:
@@ -94,7 +96,8 @@ def merged(net: Network, f: int, old: Colours, colour_in_f: Colours) -> Colours:
         for v, ws in net.neighbours.items()
     }
     palette = {v: set(range(net.channels)) - net.barred[v] for v in old}
-    new, made = None, dict.fromkeys(old, 0)
+    new: Colours = {}
+    made = dict.fromkeys(old, 0)
     while new != made:
         new = made
         made = {v: min(palette[v] - {new[w] for w in ws}) for v, ws in looked_at.items()}

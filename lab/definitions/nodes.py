@@ -14,11 +14,14 @@ is a tuple: ("Payload", pulse, (kind, number)), ("Ack", pulse), ("Safe", pulse) 
 ("Pulse", vertex, None), ("Put", vertex, port) or ("Take", vertex, port)."""
 from collections.abc import Iterable, Iterator
 from dataclasses import dataclass, field
+from typing import Any
 
 from lab.definitions.colours import other_than
 from lab.network import Network
 from lab.words import in_words
 
+# A class of nodes, as above.
+Program = Any
 Payload = tuple[str, int]
 Slot = Payload | None
 Wire = tuple
@@ -97,25 +100,33 @@ class Colouring:
 
     def orient(self, inbox: list[Slot]) -> list[Slot]:
         """Pulse 1: the higher neighbours, by ascending identifier, are the parents in forests 0, 1, 2 and so on."""
-        higher = sorted(number for _, number in inbox if number > self.id)
+        names = [slot[1] for slot in inbox if slot]
+        higher = sorted(number for number in names if number > self.id)
         self.roles = [
-            ("Up", higher.index(number)) if number in higher else None for _, number in inbox
+            ("Up", higher.index(number)) if number in higher else None for number in names
         ]
         return [("Label", role[1]) if role else None for role in self.roles]
 
     def seed(self, inbox: list[Slot]) -> list[Slot]:
         """Pulse 2: the forests of the other edges are known, and each colour is the identifier."""
-        self.roles = [role or ("Down", slot[1]) for role, slot in zip(self.roles, inbox)]
+        self.roles = [
+            ("Down", slot[1]) if slot and not role else role
+            for role, slot in zip(self.roles, inbox)
+        ]
         self.colours = [self.id] * self.forests
         return self.colours_sent()
 
     def colours_sent(self) -> list[Slot]:
         """Its colour in the edge's forest to each child."""
-        return [("Colour", self.colours[f]) if way == "Down" else None for way, f in self.roles]
+        return [("Colour", self.colours[f]) if way == "Down" else None for way, f in self.ends()]
+
+    def ends(self) -> list[tuple[str, int]]:
+        """Its roles by port, which are all known from pulse 2 on."""
+        return [role for role in self.roles if role]
 
     def work(self, pulse: int, inbox: list[Slot]) -> list[Slot]:
         """Pulses 3 to 12: four bit steps, and then a shift and a drop for each of 5, 4 and 3."""
-        parents = {f: slot[1] for (way, f), slot in zip(self.roles, inbox) if way == "Up"}
+        parents = {f: slot[1] for (way, f), slot in zip(self.ends(), inbox) if way == "Up" and slot}
         for f, own in enumerate(self.colours):
             parent = parents.get(f)
             if pulse <= 6:
@@ -140,7 +151,7 @@ class Colouring:
         self.merged = self.least_free(self.chosen)
         is_last = step == 3 * width - 1
         return [
-            ("Chosen", self.merged) if f <= forest and not is_last else None for _, f in self.roles
+            ("Chosen", self.merged) if f <= forest and not is_last else None for _, f in self.ends()
         ]
 
     def has_turn(self, step: tuple[int, int, int]) -> bool:
@@ -157,7 +168,7 @@ def bit_step(own: int, parent: int | None) -> int:
 
 
 def synchronous_pulses(
-    net: Network, program: type = Colouring, order: Iterable[int] = ()
+    net: Network, program: Program = Colouring, order: Iterable[int] = ()
 ) -> Iterator[tuple]:
     """(pulse, nodes, inboxes, sent) of each pulse of the synchronous run, from 0: the nodes after it, and what each
     read in it and sends at each port. They are made and called in an order, by default that of the network.
@@ -166,7 +177,8 @@ def synchronous_pulses(
     # Where each port leads: the neighbour, and its port back.
     ends = {v: [(w, ports[w].index(v)) for w in ws] for v, ws in ports.items()}
     nodes = {v: program(net, v) for v in order or ports}
-    inboxes, sent = {}, {v: nodes[v].greet() for v in nodes}
+    inboxes: dict[int, list[Slot]] = {}
+    sent = {v: nodes[v].greet() for v in nodes}
     yield 0, nodes, inboxes, sent
     for pulse in range(1, program.last_pulse(net) + 1):
         inboxes = {v: [sent[w][back] for w, back in ends[v]] for v in nodes}
@@ -174,7 +186,7 @@ def synchronous_pulses(
         yield pulse, nodes, inboxes, sent
 
 
-def synchronous_run(net: Network, program: type = Colouring) -> dict:
+def synchronous_run(net: Network, program: Program = Colouring) -> dict:
     """The nodes of a program after the last pulse, all pulses being made at once."""
     for _, nodes, _, _ in synchronous_pulses(net, program):
         pass
@@ -215,7 +227,7 @@ class AlphaNode:
     pulse_number: int
     said: bool
 
-    def __init__(self, net: Network, v: int, program: type = Colouring):
+    def __init__(self, net: Network, v: int, program: Program = Colouring):
         self.program, self.last = program(net, v), program.last_pulse(net)
         self.ports = [Port() for _ in net.neighbours[v]]
         self.pulse_number, self.said = 0, False
@@ -312,7 +324,7 @@ class NetState:
     nodes: dict[int, AlphaNode]
     link: dict[tuple[int, int], list[Wire]]
 
-    def __init__(self, net: Network, program: type = Colouring):
+    def __init__(self, net: Network, program: Program = Colouring):
         self.neighbours = net.neighbours
         self.port_to = {
             (v, w): port for v, ws in self.neighbours.items() for port, w in enumerate(ws)
@@ -334,6 +346,7 @@ class NetState:
             if not node.can_pulse():
                 raise Refused("NotReady")
             return node.pulse_number + 1
+        assert port is not None
         wires = node.ports[port].out if kind == "Put" else self.link_to(v, port)
         if not wires:
             raise Refused("NothingToPut" if kind == "Put" else "LinkEmpty")
@@ -346,7 +359,7 @@ class NetState:
         carried = self.carried(kind, v, port)
         if what not in (None, carried):
             raise Refused("WrongWire")
-        if kind == "Pulse":
+        if port is None or isinstance(carried, int):
             self.nodes[v].pulse()
         elif kind == "Put":
             self.link[v, port].append(self.nodes[v].ports[port].out.pop(0))
@@ -411,7 +424,7 @@ def entry_words(state: NetState, entry, refused: Refused) -> str:
     if str(refused) != "WrongWire":
         return missing_words(state, *event)
     due = state.carried(*event)
-    return f": expected pulse {due}" if entry.kind == "Pulse" else f": expected {wire_words(due)}"
+    return f": expected pulse {due}" if isinstance(due, int) else f": expected {wire_words(due)}"
 
 
 def make(state: NetState, entry):

@@ -16,9 +16,10 @@
 
 `me` is the node: `me.id`, `me.degree` (how many ports it has, from 0), `me.barred` (the channels, from 1, that are
 barred at it, ascending), `me.nodes`, `me.greatest_degree`, `me.forests` (U), `me.greatest_bars` (B), `me.random`
-(Python's `random.Random`, by a seed and the identifier), and whatever the file keeps there. The file is loaded anew for
-each node, so that its variables share nothing. A payload is a pair: a word of small letters, and a number from 0. What to send is one payload for all ports, a list with a payload or None for
-each, or None. At the last pulse nothing may be sent.
+(Python's `random.Random`, by a seed and the identifier), and whatever the file keeps there. The file is loaded anew
+for each node, so that its variables share nothing. A payload is a pair: a word of small letters, and a number from
+0. What to send is one payload for all ports, a list with a payload or None for each, or None. At the last pulse
+nothing may be sent.
 
 The file is run as it is, with the rights of who calls the command; what it prints goes to standard error. Nothing is
 proved of it."""
@@ -31,7 +32,7 @@ import threading
 import traceback
 from types import CodeType, FunctionType, ModuleType, SimpleNamespace
 
-from lab.definitions.nodes import synchronous_pulses
+from lab.definitions.nodes import Program, synchronous_pulses
 from lab.definitions.values import by_name, frozen
 from lab.wrong import Wrong, wrong_line
 
@@ -291,7 +292,7 @@ def is_below(number, bound: int | None) -> bool:
 # What a file has to keep to, and what has to hold.
 
 
-def check_repeats(net, program: type) -> None:
+def check_repeats(net, program: Program) -> None:
     """Refuses a program of a file that does something else the second time, or keeps something outside `me`: then the
     rounds, and what nodes find in them, mean nothing. The second time the nodes come in the opposite order.
     """
@@ -310,7 +311,7 @@ def check_repeats(net, program: type) -> None:
             )
 
 
-def rounds_of(net, program: type, order: list[int]):
+def rounds_of(net, program: Program, order: list[int]):
     """(node, where, what it sends or finds and what it keeps) of all rounds, by vertex, the nodes being called in an
     order."""
     for pulse, nodes, _, sent in synchronous_pulses(net, program, order):
@@ -332,7 +333,7 @@ def kept_by(node: OwnNode):
 
 
 def what_is_wrong(
-    net, program: type, found: dict[int, str], function: str = "right", messages: tuple = ()
+    net, program: Program, found: dict[int, str], function: str = "right", messages: tuple = ()
 ) -> str:
     """What the file's `right` or `always` says of what nodes have found, in words; nothing if that is right, or if the
     file has no such function."""
@@ -360,25 +361,25 @@ def by_identifier(net, found: dict[int, str]) -> tuple[dict, dict]:
     return results, {name[v]: sorted(name[w] for w in ws) for v, ws in net.neighbours.items()}
 
 
-def results_of(net, program: type) -> dict[int, str]:
+def results_of(net, program: Program) -> dict[int, str]:
     """What each node has found after the last pulse of the rounds."""
     for _, nodes, _, _ in synchronous_pulses(net, program):
         pass
     return {v: nodes[v].result() for v in nodes}
 
 
-def has_verdict(program: type) -> bool:
+def has_verdict(program: Program) -> bool:
     """Whether a program says which ends are right."""
     return issubclass(program, OwnNode) and "right" in program.of_file
 
 
-def wrong_end(net, program: type) -> str:
+def wrong_end(net, program: Program) -> str:
     """What isn't right at the end of the rounds, and so of every whole run, in words; nothing if it is right, or if
     the program doesn't say."""
     return what_is_wrong(net, program, results_of(net, program)) if has_verdict(program) else ""
 
 
-def asks_for_messages(program: type) -> bool:
+def asks_for_messages(program: Program) -> bool:
     """Whether the file's `always` takes the messages under way."""
     code = getattr(program.of_file.get("always"), "__code__", None)
     return code is not None and code.co_argcount == 3

@@ -6,19 +6,19 @@ from lab.definitions.independent_set import IndependentSet
 from lab.definitions.layers import Layers
 from lab.definitions.leader import Leader
 from lab.definitions.matching import Matching
-from lab.definitions.nodes import Colouring
+from lab.definitions.nodes import Colouring, Program
 from lab.definitions.own_program import own_program
 from lab.definitions.recolouring import Recolouring
 from lab.network import Network
 from lab.wrong import Wrong
 
 # Those that `forestplay` runs.
-PROGRAMS = {
+PROGRAMS: dict[str, Program] = {
     program.name: program
-    for program in (Colouring, Leader, Layers, Matching, IndependentSet, Recolouring)
+    for program in list[Program]((Colouring, Leader, Layers, Matching, IndependentSet, Recolouring))
 }
 # The options that a program has, each of which sets what its class has by this name.
-OPTIONS = {"root": Layers, "passes": Recolouring}
+OPTIONS: dict[str, Program] = {"root": Layers, "passes": Recolouring}
 # How often recolouring may choose anew.
 PASSES = (1, 2, 3)
 # Those whose nodes don't look at their bars; a file may.
@@ -26,7 +26,7 @@ WITHOUT_BARS = (Leader, Layers, Matching)
 HELP = f"what the nodes run: {', '.join(PROGRAMS)}, or a file of your own, as NAME.py; default: colouring"
 
 
-def program_at(name: str, lots: str = "1", **options: int | None) -> type:
+def program_at(name: str, lots: str = "1", **options: int | None) -> Program:
     """The program of a name, or of a file whose name ends in `.py`; `lots` is the seed of its nodes' chance, `root` the
     vertex that is the root of the layers, `passes` how often recolouring chooses anew."""
     given = {option: value for option, value in options.items() if value is not None}
@@ -44,7 +44,7 @@ def program_at(name: str, lots: str = "1", **options: int | None) -> type:
     )
 
 
-def program_words(program: type) -> list[str]:
+def program_words(program: Program) -> list[str]:
     """The words with which a command runs the program of a name."""
     more = [
         word
@@ -55,7 +55,7 @@ def program_words(program: type) -> list[str]:
     return [] if program is Colouring else ["--program", program.name, *more]
 
 
-def program_asked(command: str, given, network: Network | None = None) -> type:
+def program_asked(command: str, given, network: Network | None = None) -> Program:
     """The program of a command line, which may lack options. A root that is no node of the network is refused, and if
     the program ignores the network's bars, that is said on standard error."""
     options = {option: getattr(given, option, None) for option in OPTIONS}

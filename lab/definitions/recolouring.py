@@ -38,8 +38,9 @@ class Recolouring(Sequel):
         self.held |= {slot[1] for slot in inbox if slot}
         if self.old != self.span - later:
             return [None] * self.degree
-        self.colour = self.first.least_free(self.held)
-        return [("Anew", self.colour) if later < self.span else None] * self.degree
+        chosen = self.first.least_free(self.held)
+        self.colour = chosen
+        return [("Anew", chosen) if later < self.span else None] * self.degree
 
     def present(self) -> int:
         """The colour that it has: that of the colouring until it chooses anew, and then what it chose last."""

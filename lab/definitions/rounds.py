@@ -42,7 +42,8 @@ def phase_words(net: Network, p: int) -> str:
 def merge_step(net: Network, p: int) -> tuple[int, int, int]:
     """Forest, three-colour (0 to 2) and old colour (0 to the span) of a merge pulse, 13 to R."""
     forest, step = divmod(p - FIRST_MERGE, 3 * net.channels)
-    return forest, *divmod(step, net.span + 1)
+    three, old = divmod(step, net.span + 1)
+    return forest, three, old
 
 
 def puts_of(net: Network, sent: dict[int, list[Slot]]) -> list[Put]:

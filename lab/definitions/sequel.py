@@ -1,6 +1,8 @@
 """Programs that go on where another one ends, mostly the colouring, at one node, by their definition
 (docs/claim/DEFINITIONS.md), slow and plain. Payloads, ports and pulses are as in lab/definitions/nodes.py."""
-from lab.definitions.nodes import Colouring, Slot
+from typing import Any
+
+from lab.definitions.nodes import Colouring, Program, Slot
 from lab.network import Network
 
 
@@ -9,11 +11,11 @@ class Sequel:
     stays, and it makes pulses of its own, counted from 0. The program is the colouring, or a sequel itself.
     """
 
-    before: type = Colouring
+    before: Program = Colouring
     # The kinds of its own payloads: up to the cut it refuses them.
     kinds: tuple[str, ...]
 
-    first: "Colouring | Sequel"
+    first: Any
     degree: int
     cut: int
 

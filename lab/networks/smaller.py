@@ -1,14 +1,14 @@
 """Networks that are a little smaller than another one, for who looks for the smallest on which something is wrong."""
-from collections.abc import Iterable, Iterator, Mapping
+from collections.abc import Collection, Iterator, Mapping
 
 from lab.network import Network
 
 
 def remade(
     network: Network,
-    edges: Iterable,
+    edges: Collection[tuple[int, int]],
     identifiers: dict[int, int],
-    bars: Mapping[int, Iterable[int]],
+    bars: Mapping[int, Collection[int]],
 ) -> Network:
     """A network of this name with other edges, identifiers and bars."""
     return Network(len(identifiers), edges, identifiers, bars, name=network.name)

@@ -24,7 +24,9 @@ class Vertex:
     """What is drawn of a vertex: a circle with its channel, or if it has none with its number and filled in a colour;
     `words` and its barred channels beside it, and its title; `mark` is the class of its words."""
 
-    mark, channel, fill = None, None, PAPER
+    mark: str | None = None
+    channel: int | None = None
+    fill = PAPER
 
     def __init__(self, network, v):
         number = str(network.identifiers[v]) if network.identifiers[v] != v else ""

@@ -16,7 +16,8 @@ class ProgramRounds:
     has no forests. `wrong` is what the file of a program says isn't right at its end, or nothing.
     """
 
-    forests, first = 0, {}
+    forests = 0
+    first: dict[int, int] = {}
 
     def __init__(self, network, program):
         self.network, self.program = network, program

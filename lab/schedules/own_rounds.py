@@ -6,7 +6,7 @@ and here it is easier to see."""
 from collections.abc import Iterator
 from random import Random
 
-from lab.definitions.nodes import synchronous_pulses
+from lab.definitions.nodes import Program, synchronous_pulses
 from lab.definitions.own_program import check_repeats, results_of, wrong_end
 from lab.network import Network
 from lab.networks.smaller import smaller
@@ -17,9 +17,10 @@ from lab.words import counted, in_words
 MOST_NODES, MOST_TRIED = 12, 2000
 
 
-def rounds_text(net: Network, program: type) -> str:
+def rounds_text(net: Network, program: Program) -> str:
     """The rounds pulse by pulse: a line for each node that hears or sends something, or finds something else."""
-    lines, found = [], {}
+    lines: list[str] = []
+    found: dict[int, str] = {}
     for pulse, nodes, inboxes, sent in synchronous_pulses(net, program):
         lines.append(f"pulse {pulse}")
         for v in net.vertices:
@@ -84,7 +85,7 @@ def is_connected(net: Network) -> bool:
 
 
 def smallest_wrong(
-    program: type, count: int, seed: str, connected: bool
+    program: Program, count: int, seed: str, connected: bool
 ) -> tuple[Network | None, int]:
     """Of so many networks the smallest on which the rounds end wrong, made smaller as far as that goes; and on how
     many they do."""
@@ -102,7 +103,7 @@ def size(net: Network) -> tuple[int, int]:
     return net.nodes, len(net.edges)
 
 
-def shrunk(net: Network, program: type, connected: bool) -> Network:
+def shrunk(net: Network, program: Program, connected: bool) -> Network:
     """A network on which the rounds end wrong, made smaller as long as they do, and as long as it is connected if it
     has to be."""
     tried = 0
@@ -120,7 +121,7 @@ def shrunk(net: Network, program: type, connected: bool) -> Network:
     return net
 
 
-def verdict_of(net: Network, program: type) -> tuple[bool, str]:
+def verdict_of(net: Network, program: Program) -> tuple[bool, str]:
     """Whether the rounds of a network end right, and in words how they end, or all of them if they end wrong."""
     pulses = counted(program.last_pulse(net), "pulse")
     if why := wrong_end(net, program):
@@ -130,7 +131,7 @@ def verdict_of(net: Network, program: type) -> tuple[bool, str]:
 
 
 def verdict_on_many(
-    program: type, count: int, seed: str, connected: bool = False
+    program: Program, count: int, seed: str, connected: bool = False
 ) -> tuple[bool, str]:
     """Whether the rounds end right on so many networks by chance; if not, a smallest one with its rounds."""
     net, wrong = smallest_wrong(program, count, seed, connected)

@@ -11,7 +11,7 @@ on how fast they are. A policy decides nothing about what is right: any order of
 definitions (simulate.py) and students' nodes (the workshop's driver) are played under the same policies."""
 import random
 from dataclasses import dataclass
-from typing import Sequence
+from typing import Collection, Sequence
 
 
 @dataclass
@@ -71,8 +71,8 @@ class Policy:
     def __init__(
         self,
         name: str,
-        vertices: Sequence[int],
-        edges: Sequence[tuple[int, int]],
+        vertices: Collection[int],
+        edges: Collection[tuple[int, int]],
         seed: str,
         slow=(),
         lazy=(),

@@ -1,5 +1,6 @@
 """What the page asks with a call: a network as a text, a program by its name. No call names a file."""
 import re
+from typing import Any
 
 from lab.definitions.nodes import Colouring
 from lab.definitions.programs import PASSES, PROGRAMS, program_at
@@ -8,7 +9,7 @@ from lab.wrong import Wrong
 
 # What the command line gives: the network to begin with, and programs of one's own by name; and whether the programs
 # are proved and built, and the file with what their build says.
-OPENED = {"network": None, "own": {}, "is_proved": False, "log": None}
+OPENED: dict[str, Any] = {"network": None, "own": {}, "is_proved": False, "log": None}
 # Nodes that are drawn; that the rounds, and a run without a clock, are shown of; of which every order is searched.
 MOST_DRAWN, MOST_ROUNDS, MOST_RUN, MOST_SEARCHED = 400, 100, 40, 4
 

@@ -1,7 +1,7 @@
-"""Checks the Python files by their text: the formatter and the linter find nothing,
-and no place is above the limits that the linter doesn't have.
+"""Checks the Python files by their text: the formatter, the linter and the checker of hints find
+nothing, and no place is above the limits that the linter doesn't have.
 
-- `black` and `flake8` have their settings in pyproject.toml and .flake8.
+- `black`, `flake8` and `mypy` have their settings in pyproject.toml and .flake8.
 - A function has at most 12 ways through it: one, and one more for each branch, loop, condition,
   handler and further operand of `and` and `or`. A condition has at most four parts.
 - No conditional expression is inside another one or inside an f-string, no comprehension has three
@@ -145,6 +145,9 @@ class Python(Case):
 
     def test_linter(self):
         self.run_clean("flake8")
+
+    def test_hints(self):
+        self.run_clean("mypy", "--no-incremental")
 
     def test_limits(self):
         for file in files():
