@@ -139,7 +139,7 @@ class Command(Played):
             *self.wrong_node("close_never", "alpha_node.py"),
         )
         self.assertIn("smallest case that is wrong: stuck", done.stdout)
-        self.assertRegex(done.stdout, r"\ncase   \d: \w+, oldest; 2 nodes, edges 1-2\n")
+        self.assertRegex(done.stdout, r"\ncase   \d: a part of \w+, oldest; 2 nodes, edges 1-2\n")
 
     def test_the_smallest_case_is_wrong_in_the_same_way(self):
         """This node is wrong in the shift of two nodes, and never says its channel, which shows on one node."""
