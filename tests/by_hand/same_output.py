@@ -1,0 +1,107 @@
+"""Compares what a user sees in two trees, command by command: python3 -m tests.by_hand.same_output OLD NEW.
+
+The commands are those of this tree's pages, and each kind of picture, `simulate`, `explore`,
+`channels`, `network` and `sheet` on networks of its examples. Both trees need their programs
+built. Status, output and errors have to be the same bytes. What differs is printed, and last how
+many did."""
+
+import argparse
+import os
+import subprocess
+import sys
+import tempfile
+from concurrent.futures import ThreadPoolExecutor
+from itertools import product
+
+NETWORKS = "triangle path petersen drops barred chain6 four_cycle star queen5_5 two".split()
+PICTURES = (
+    "map plan results forests rounds bits why overview player watch schedules adversary run".split()
+)
+PROGRAMS = "leader layers matching independent-set recolouring".split()
+POLICIES = "random slow-link slow-node fast-node bursts newest oldest".split()
+RULES = "safes acks early fifo digit shift root children parent pair earlier".split()
+MADE = (
+    "path 7",
+    "ring 8",
+    "star 9",
+    "complete 6",
+    "grid 3 4",
+    "queen 4 4",
+    "random 12 20 --seed 4",
+    "tree 12 --seed 3",
+    "disk 20 --radius 0.3 --seed 2",
+)
+# Seconds for a command.
+LIMIT = 120
+
+
+def of_pages():
+    """The commands of the pages of the tree in which this runs."""
+    from tests.programs.install import PAGES, lines_of, listed_commands, shown_commands
+
+    for page in PAGES:
+        lines = lines_of(page)
+        yield from (command.removeprefix("./") for _, command, _ in shown_commands(lines))
+        yield from (command.partition(" > ")[0] for _, command in listed_commands(lines))
+
+
+def of_networks():
+    for name in NETWORKS:
+        file = f"examples/{name}.col"
+        for kind in PICTURES:
+            yield f"forestlab picture {kind} {file}" + (" --vertex 2" if kind == "why" else "")
+        yield f"forestlab network tell {file}"
+        yield f"forestlab explore {file}"
+        yield f"forestplan transcript --workers 1 < {file} | forestlab transcript check {file} -"
+        yield f"forestlab simulate {file} --seed 5 | forestlab transcript check {file} -"
+        yield f"forestplan plain < {file} | forestlab channels 1 6 11 36"
+    for name, policy, seed in product(NETWORKS, POLICIES, (1, 2, 3)):
+        yield f"forestlab simulate examples/{name}.col --policy {policy} --seed {seed}"
+
+
+def others():
+    for program, kind in product(PROGRAMS, ("results", "rounds", "player", "overview")):
+        for name in ("petersen", "path", "star", "drops"):
+            yield f"forestlab picture {kind} examples/{name}.col --program {program}"
+    for rule in RULES:
+        for name in ("triangle", "path", "two"):
+            yield f"forestlab explore examples/{name}.col --without {rule}"
+        yield f"forestlab picture broken --without {rule}"
+    for words in MADE:
+        yield f"forestlab network {words}"
+    for seed, lesson in product((1, 2), range(1, 8)):
+        yield f"forestlab sheet --seed {seed} --lesson {lesson} --answers"
+
+
+def outcome(top, command, home):
+    env = dict(os.environ, PATH=f"{top}/bin:{os.environ['PATH']}", HOME=home)
+    streams = {"stdin": subprocess.DEVNULL, "capture_output": True}
+    try:
+        done = subprocess.run(["bash", "-c", command], cwd=top, env=env, timeout=LIMIT, **streams)
+    except subprocess.TimeoutExpired:
+        return None
+    return done.returncode, done.stdout, done.stderr
+
+
+def main():
+    words = argparse.ArgumentParser(usage="python3 -m tests.by_hand.same_output OLD NEW")
+    words.add_argument("old", type=os.path.abspath)
+    words.add_argument("new", type=os.path.abspath)
+    given = words.parse_args()
+    commands = [*dict.fromkeys([*of_pages(), *of_networks(), *others()])]
+    differ = 0
+    with tempfile.TemporaryDirectory() as home, ThreadPoolExecutor(2) as pool:
+
+        def both(command):
+            return [outcome(top, command, home) for top in (given.old, given.new)]
+
+        for command, (old, new) in zip(commands, pool.map(both, commands)):
+            if old != new:
+                differ += 1
+                print(f"{command}\n  was {str(old)[:300]}\n  is  {str(new)[:300]}", flush=True)
+    print(f"{len(commands)} commands, {differ} differ")
+    return 1 if differ else 0
+
+
+if __name__ == "__main__":
+    sys.exit(main())
