@@ -185,6 +185,7 @@ def main(words: list[str]) -> int:
     refuse_words(given)
     try:
         table = channels_asked(given, given.table, "channels")
+        given.stated.check_found()
     except Unsaid as why:
         raise Wrong(commands_for(why, ["channels"], words)) from None
     text = text_at("-")

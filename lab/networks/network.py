@@ -20,7 +20,7 @@ from lab.networks.plan_text import clashes, read_plan
 from lab.networks.reading import form_read, listed_of, made_of
 from lab.networks.stated import Unsaid, decoded
 from lab.networks.texts import text_of
-from lab.words import bytes_at, in_words, one_line, source_of, text_at, write
+from lab.words import bytes_at, one_line, source_of, text_at, write
 from lab.wrong import Wrong
 
 # No file of a network within the limits is longer.
@@ -70,7 +70,6 @@ def was_read(given):
     path = given.file if given.file is not None else given.sites
     name = one_line(path)
     form = None if given.file is None else form_read(given.file, given.stated)
-    refuse_options(given, form)
     licence = channels_asked(given, words_of_channels(given), "network")
     found = Listed("sites") if given.file is None else file_listed(given, name, form)
     if given.sites:
@@ -80,6 +79,7 @@ def was_read(given):
             tables.join_near(found, sites, given.reach)
     if given.bars:
         tables.with_bars(found, *text_asked(given, given.bars), given.stated, licence)
+    given.stated.check_found()
     network, notes = made_of(found, name)
     for note in notes:
         say(f"{name}: {note}")
@@ -104,24 +104,6 @@ def refuse_words(given):
         given.refuse("--as is of a FILE")
     if [given.file, given.sites, given.bars].count("-") > 1:
         given.refuse("standard input is one file, not two")
-
-
-def refuse_options(given, form):
-    """Refuses what is said of columns that no table of this call has."""
-    columns = set()
-    if form == "pairs":
-        columns.update(tables.PAIRS)
-    for path, more in (
-        (given.sites, tables.SITES),
-        (given.bars, tables.BARS),
-        (file_in(words_of_channels(given)), tables.LICENCE),
-    ):
-        columns.update(more if path else ())
-    others = sorted(given.stated.columns.keys() - columns)
-    if others:
-        given.refuse(f"--columns: nothing that is read here has a column {in_words(others)}")
-    if not given.stated.has_heading and not columns:
-        given.refuse("--no-heading: no table is read here")
 
 
 def text_asked(given, path):
@@ -174,6 +156,7 @@ def was_named(given):
     if is_stated(given) and file_in(words) is None:
         given.refuse("--columns, --no-heading and --encoding are of a TABLE in a file")
     table = channels_asked(given, words, "network")
+    given.stated.check_found()
     plan = read_plan(text_at("-"), "the plan", network)
     for v, w in clashes(network, plan)[:1]:
         raise Wrong(

@@ -120,7 +120,9 @@ def read_any(data: bytes, name: str, form: str, stated: Stated) -> tuple[Network
     """The network of a file as the studio opens it, and what is said of it."""
     if form == "dimacs":
         return network_of(data, name), []
-    made, notes = made_of(listed_of(data, name, form, stated), name)
+    found = listed_of(data, name, form, stated)
+    stated.check_found()
+    made, notes = made_of(found, name)
     network = read_network(text_of(made), name)
     network.name = stem(name)
     return network, notes

@@ -53,14 +53,23 @@ OTHERS = {
 class Stated:
     """What is stated of the files of one call.
 
-    `columns` has the titles of columns that aren't called by a standard title. Without a heading they are numbers of
-    columns, from 1.
+    `columns` has the titles of columns that aren't called by a standard title, in the tables that have them. Without a
+    heading they are numbers of columns, from 1. `found` has the columns that a table had as they are stated.
     """
 
     form: str | None = None
     columns: dict[str, str] = field(default_factory=dict)
     has_heading: bool = True
     encoding: str | None = None
+    found: set[str] = field(default_factory=set)
+
+    def check_found(self) -> None:
+        """Refuses what is stated of columns that no table had."""
+        for column, title in self.columns.items():
+            if column not in self.found:
+                raise Wrong(f"--columns: no table here has {title} as its column {column}")
+        if not self.has_heading and not self.found:
+            raise Wrong("--no-heading: no table is read here")
 
 
 class Unsaid(Wrong):

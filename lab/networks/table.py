@@ -82,8 +82,8 @@ class Table:
                 raise self.doubled(column, [self.titles[at] for at in places])
             if places:
                 self.columns[column] = places[0]
-            elif column in self.named:
-                raise self.missing(self.line, column)
+            if places and self.is_as_stated(column):
+                stated.found.add(column)
         rows = islice(rows_of(text, name, self.mark), int(stated.has_heading), None)
         self.rows = [self.read(row) for row in rows]
         if not self.rows:
@@ -131,12 +131,18 @@ class Table:
         return [str(at) for at in range(1, len(first) + 1)]
 
     def places_of(self, column: str, titles: list[str]) -> list[int]:
-        """Where a column may be."""
+        """Where a column may be: by the title that is stated, if it is there, or by a standard one."""
+        small = [title.casefold() for title in titles]
         named = self.named.get(column)
         if named in titles:
             return [at for at, title in enumerate(titles) if title == named]
-        known = TITLES[column] if named is None else (named.strip().casefold(),)
-        return [at for at, title in enumerate(titles) if title.casefold() in known]
+        known = (named.casefold(),) if named and named.casefold() in small else TITLES[column]
+        return [at for at, title in enumerate(small) if title in known]
+
+    def is_as_stated(self, column: str) -> bool:
+        """Whether the column is called as it is stated, if it is."""
+        named = self.stated.columns.get(column)
+        return named is None or self.titles[self.columns[column]].casefold() == named.casefold()
 
     # What is refused.
 

@@ -6,9 +6,9 @@ from lab.networks.fields import shown, whole
 from lab.networks.listed import Listed, known_nodes, name_of, nearest
 from lab.networks.network_text import IDENTIFIERS, MAX_BARS, MAX_CHANNEL, MAX_EDGES
 from lab.networks.places import across_of, near, on_ground, on_map
-from lab.networks.stated import Stated
-from lab.networks.table import Table
-from lab.words import counted
+from lab.networks.stated import Stated, Unsaid
+from lab.networks.table import Table, words_of
+from lab.words import counted, in_words
 from lab.wrong import Wrong
 
 # How many digits a real number of a channel has at most, as a frequency in kHz.
@@ -53,7 +53,7 @@ def real_channel(table: Table, line: int, row: dict[str, str]) -> int:
 class Sites:
     """A table of sites: the line of each, its identifier and its place, in degrees or in kilometres, if it has them."""
 
-    path: str
+    table: Table
     lines: dict[str, int]
     identifiers: dict[str, int]
     places: dict[str, Place]
@@ -66,20 +66,35 @@ def sites_of(text: str, path: str, stated: Stated) -> Sites:
     table = Table(text, path, stated, SITES[:1], SITES[1:])
     columns = next((pair for pair in UNITS if table.columns.keys() >= set(pair)), None)
     notes = table.unread({"site", "identifier", *(columns or ())})
-    sites = Sites(path, {}, {}, {}, columns == DEGREES, notes)
+    sites = Sites(table, {}, {}, {}, columns == DEGREES, notes)
     for line, row in table.rows:
         name = name_of(row["site"], path, line)
         if name in sites.lines:
             raise table.wrong(line, f"a second site {shown(name)}")
         sites.lines[name] = line
-        if row.get("identifier"):
-            sites.identifiers[name] = identifier_of(table, line, row["identifier"], sites)
         if columns and any(row[column] for column in columns):
             sites.places[name] = place_of(table, line, row, columns)
+    read_identifiers(table, sites)
     if columns and sites.places:
         across = across_of(on_picture(sites).values())
         notes.append(f"places are by {' and '.join(columns)}, and {across:,.3g} km across")
     return sites
+
+
+def read_identifiers(table: Table, sites: Sites) -> None:
+    """The identifiers of the sites that have one; none comes twice."""
+    numbers: set[int] = set()
+    for name, (line, row) in zip(sites.lines, table.rows):
+        field = row.get("identifier", "")
+        number = whole(field)
+        if not field:
+            continue
+        if number is None or number >= IDENTIFIERS:
+            raise table.wrong(line, f"no identifier below 2^128: `{shown(field)}`")
+        if number in numbers:
+            raise table.wrong(line, f"a second site of the identifier {number}")
+        numbers.add(number)
+        sites.identifiers[name] = number
 
 
 def place_of(table: Table, line: int, row: dict[str, str], columns: tuple[str, str]) -> Place:
@@ -87,15 +102,6 @@ def place_of(table: Table, line: int, row: dict[str, str], columns: tuple[str, s
     if columns == DEGREES and not (-90 <= x <= 90 and -180 <= y <= 360):
         raise table.wrong(line, "no latitude and longitude in degrees: are they exchanged?")
     return x, y
-
-
-def identifier_of(table: Table, line: int, field: str, sites: Sites) -> int:
-    number = whole(field)
-    if number is None or number >= IDENTIFIERS:
-        raise table.wrong(line, f"no identifier below 2^128: `{shown(field)}`")
-    if number in sites.identifiers.values():
-        raise table.wrong(line, f"a second site of the identifier {number}")
-    return number
 
 
 def on_picture(sites: Sites) -> dict[str, Place]:
@@ -107,18 +113,34 @@ def on_picture(sites: Sites) -> dict[str, Place]:
 
 def with_sites(found: Listed, sites: Sites, path: str) -> None:
     """Makes the sites of a table the nodes, in its order, with their identifiers and places."""
-    known_nodes(found, sites.lines, path, sites.path)
+    known_nodes(found, sites.lines, path, sites.table.name)
     found.nodes = dict(sites.lines)
     found.identifiers |= sites.identifiers
     found.places |= on_picture(sites)
-    begin = "" if path == sites.path else f"{sites.path}: "
+    begin = "" if path == sites.table.name else f"{sites.table.name}: "
     found.notes += [begin + note for note in sites.notes]
+
+
+def without_places(sites: Sites) -> Wrong:
+    """The refusal of a table whose sites have no places."""
+    table = sites.table
+    what = table.wrong(table.line, "no site has a place, so --reach joins none")
+    read = {table.columns["site"], table.columns.get("identifier")}
+    titles = [title for at, title in enumerate(table.titles) if title and at not in read]
+    if len(titles) < 2:
+        return what
+    choices = []
+    for columns in UNITS:
+        meant = dict(zip(columns, titles))
+        said = in_words(f"{column} is {shown(title)}" for column, title in meant.items())
+        choices.append((words_of(meant), said))
+    return Unsaid(str(what), choices)
 
 
 def join_near(found: Listed, sites: Sites, reach: float) -> None:
     """Joins the sites that are less than the reach apart."""
     if not sites.places:
-        raise Wrong(f"{sites.path}: no site has a place, so --reach joins none")
+        raise without_places(sites)
     names = list(sites.places)
     points = [
         on_ground(*place) if sites.is_globe else (*place, 0.0) for place in sites.places.values()
@@ -130,7 +152,7 @@ def join_near(found: Listed, sites: Sites, reach: float) -> None:
         if frozenset(ends) not in there:
             found.edges.append((sites.lines[names[at]], *ends))
         if len(found.edges) > before + MAX_EDGES:
-            raise Wrong(f"{sites.path}: more than {MAX_EDGES} edges within {reach:g} km")
+            raise Wrong(f"{sites.table.name}: more than {MAX_EDGES} edges within {reach:g} km")
     joined = counted(len(found.edges) - before, "pair")
     without = counted(len(sites.lines) - len(names), "site")
     found.notes.append(

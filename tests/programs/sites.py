@@ -22,7 +22,7 @@ TABLES = (
     ("site\nUlm\nUlm\n", "", "line 3: a second site Ulm"),
     ("name,id\na,b\n", "", "line 1: name and id may each be the column site"),
     ("site,lat\nUlm,1\n", "", "no site has a place, so --reach joins none"),
-    ("site,x,y\nUlm,1,2\n", "", "no site has a place"),
+    ("site,x,y\nUlm,1,2\n", "", "line 1: no site has a place"),
     ("site,lat,lon\nUlm,100.5,48\n", "", "line 2: no latitude and longitude in degrees"),
     ("site,lat,lon\nUlm,48.1,\n", "", "line 2: no number"),
     ('site,x_m,y_m\nUlm,"1,234",0\n', "", "line 2: no number, or one with thousands"),
@@ -92,6 +92,24 @@ class Sites(Case):
             self.same(
                 f"places in {unit}", edges_of(self.read(None, table, "--reach 3")[1]), {(1, 2)}
             )
+
+    def test_columns(self):
+        """A title that is stated is looked for in each table, and has to be in one."""
+        sites = self.file("sites.csv", "Ort;x_km;y_km\nUlm;0;0\nAue;1;0\n")
+        words = (
+            "--sites",
+            sites,
+            "--reach",
+            3,
+            "--bars",
+            self.file("bars.csv", "site,channel\nUlm,6\n"),
+        )
+        done = call("read", *words, "--columns", "site=Ort")
+        self.same("a title of one table", (done[0], b"\nb 1 6\n" in done[1]), (0, True))
+        done = call("read", *words, "--columns", "site=Ort,channel=Kanal")
+        self.refusal("of none", done, 1, b"no table here has Kanal as its column channel")
+        done = call("read", "path3", "--no-heading")
+        self.refusal("no table", done, 1, b"--no-heading: no table is read here")
 
     def test_known_sites(self):
         """Each node of a file has to be a site, whatever form the file has."""

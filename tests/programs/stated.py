@@ -26,6 +26,11 @@ ASKED = (
     ({"a.csv": "source,target,land\nUlm,Aue,K\xf6ln\n".encode("latin-1")}, "a.csv", 1),
     ({"a.txt": "source,target\nUlm,Aue\n", "s.csv": "Ort\nUlm\nAue\n"}, "a.txt --sites s.csv", 1),
     ({"s.csv": "Ort,x_m,y_m\nUlm,0,0\nAue,9,9\n"}, "--sites s.csv --reach 1", 1),
+    (
+        {"s.csv": "Name,X,Y\nUlm,0,0\nAue,1,1\n", "b.csv": "Standort;Kanal\nUlm;3\n"},
+        "--sites s.csv --reach 5000 --bars b.csv",
+        3,
+    ),
     ({"s.csv": "name,id,x_m,y_m\nUlm,Aue,0,0\nAue,Ulm,9,9\n"}, "--sites s.csv --reach 1", 2),
     ({"a.csv": "source,target\nUlm,Aue\n", "b.csv": "Ort,Kanal\nUlm,3\n"}, "a.csv --bars b.csv", 1),
     (
