@@ -2,6 +2,7 @@
 answer, and each thread that was started comes to its end. A push to a deque that is refused changes nothing in the
 answer."""
 import time
+from itertools import product
 
 from lab.definitions.colours import plan_text
 from lab.networks.network_text import network_of
@@ -79,13 +80,18 @@ class RefusedThreads(Case):
         got = [self.run_of(PLAN, ["plan", word])[2] for word in ("--workers=+7", "--workers=007")]
         self.same("a number of workers with a sign or zeros before it", got, [[7, 7, 7]] * 2)
 
-    def test_threads_of_run(self):
-        """`forestplay run` starts as many threads as `--workers` says, whatever the nodes run."""
-        for program in ("colouring", "leader", "layers"):
-            for workers in (1, 2, 5, MOST_WORKERS):
-                words = ["run", "--program", program, "--workers", str(workers)]
-                answer, _, threads = self.run_of(PLAY, words)
-                self.same(f"threads of {words}", (answer[0], threads), (0, [workers] * 3))
+    def test_threads_of_other_runs(self):
+        """`transcript` and `run` start as many threads as `--workers` says, whatever nodes run and what is printed."""
+        runs = [
+            (PLAY, ["run", "--program", program, *shown])
+            for program, shown in product(("colouring", "leader", "layers"), ([], ["--transcript"]))
+        ]
+        for (program, words), workers in product(
+            [(PLAN, ["transcript"]), *runs], (1, 2, 5, MOST_WORKERS)
+        ):
+            words = [*words, "--workers", str(workers)]
+            answer, _, threads = self.run_of(program, words)
+            self.same(f"threads of {words}", (answer[0], threads), (0, [workers] * 3))
 
     def test_growths_of_workers(self):
         """With several workers a growth of one number is another one in each run. Each is refused, up to twenty more

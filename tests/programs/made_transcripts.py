@@ -5,6 +5,7 @@ A run is held as its entries (lab/transcripts/reading.py), in the order in which
 import re
 from collections import deque
 
+from lab.definitions.nodes import Colouring
 from lab.schedules.simulate import Player, text_of_run
 from lab.transcripts.reading import line_of
 
@@ -82,9 +83,9 @@ def transcript_text(nodes, entries):
     return "".join(line + "\n" for line in [f"transcript 1 {nodes}", *lines]).encode()
 
 
-def merged_text(nodes, entries):
-    """As the program writes edition 2."""
-    return text_of_run(nodes, entries).encode()
+def merged_text(nodes, entries, program=Colouring):
+    """As the program writes edition 2, or of a program beside the colouring edition 3."""
+    return text_of_run(nodes, entries, program).encode()
 
 
 def entries_of(text):
@@ -174,8 +175,9 @@ class Run:
     """The run of one worker thread, by the definition of looks and turns: it is the same each time, and the number of
     looks that it needs shows whether capacity and turns reached the run."""
 
-    def __init__(self, net, capacity):
-        self.player, self.nodes, self.looks = Player(net), net.nodes, 0
+    def __init__(self, net, capacity, program=Colouring):
+        self.player, self.nodes, self.looks = Player(net, program), net.nodes, 0
+        self.program = program
         state, pool = self.player.state, deque(net.vertices)
         while pool:
             self.looks, v = self.looks + 1, pool.popleft()
@@ -188,4 +190,4 @@ class Run:
         return transcript_text(self.nodes, self.player.made)
 
     def merged(self):
-        return merged_text(self.nodes, self.player.made)
+        return merged_text(self.nodes, self.player.made, self.program)

@@ -1,14 +1,19 @@
-"""`plan` on worker threads: runs that stop, by the definition of a turn, and that its options reach them. No time
-decides a result. plain_networks.py has its bytes, whatever the options are."""
-from lab.definitions.colours import plan_text
+"""`plan` and `run` on worker threads: runs that stop, by the definition of a turn, and that options reach them. No time
+decides a result. plain_networks.py has the bytes of `plan`, whatever the options are."""
+import itertools
+
+from lab.definitions.colours import plan_text, text_of
 from lab.networks.network_text import network_of
 from tests.cases import Case, called, text
 from tests.commands import TRIANGLE as THREE
 from tests.programs.made_transcripts import Run
+from tests.programs.node_programs import play, program_of
+from tests.programs.sequel_runs import ended
 from tests.settings import PLAN
 
 TRIANGLE, TRIANGLE_PLAN = text(THREE), b"plan\n1 2\n2 3\n3 1\n"
 STOPPED = b"forestplan: stopped\n"
+STOPPED_PLAY = b"forestplay: stopped\n"
 # (words after `plan`, input, status, standard output, standard error); codes.py has a run that stops at once.
 WORKED_RUNS = [
     (["--turns", "0"], b"p edge 0 0\n", 0, b"plan\n", b""),
@@ -70,3 +75,28 @@ class Plans(Case):
             got,
             [(3, b"", STOPPED), (0, TRIANGLE_PLAN, b"")],
         )
+
+    def test_turns_of_run(self):
+        """So does `forestplay run`, which prints the states of any program's nodes, or the transcript of the run."""
+        for asked in ("colouring", "leader", "layers --root 2", "matching"):
+            program = program_of(asked)
+            for data, capacity in itertools.product((TRIANGLE, b"p edge 2 1\ne 1 2\n"), (1, 2, 64)):
+                net = network_of(data)
+                whole = Run(net, capacity, program)
+                last = program.last_pulse(net)
+                nodes = whole.player.state.nodes
+                states = text_of(
+                    f"node {v} pulse {last} {ended(net, v, node.program.result())}"
+                    for v, node in nodes.items()
+                )
+                for shown, answer in (([], states), (["--transcript"], whole.merged())):
+                    words = ["run", asked, *shown, "--workers", 1, "--capacity", capacity]
+                    got = [
+                        play(*words, "--turns", turns, data=data)
+                        for turns in (whole.looks - 1, whole.looks)
+                    ]
+                    self.same(
+                        f"{whole.looks} turns of {words} for {data[:12]!r}, and no less",
+                        got,
+                        [(3, b"", STOPPED_PLAY), (0, answer, b"")],
+                    )
