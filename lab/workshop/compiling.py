@@ -10,7 +10,8 @@ from typing import BinaryIO
 
 from lab.workshop.guard import Guard, Limits
 
-SECONDS, MEGABYTES = 60, 2048
+# Less than the time in which a part has to end beside its runs.
+SECONDS, MEGABYTES = 40, 2048
 # Before each class a line with its size and its name.
 COMPILE = """\
 mkdir classes && javac -proc:none -d classes "$0" && cd classes &&
