@@ -105,7 +105,9 @@ class Grades(Submitted):
 
     def test_if_the_one_that_grades_is_killed(self):
         self.submit("anna", rounds_node_py=f"import os\nos.execvp('sleep', ['sleep', '{MARK}'])\n")
-        grading = subprocess.Popen([*DOOR, "grade", self.subs], stderr=subprocess.DEVNULL)
+        given = {**os.environ, "TMPDIR": self.folder}  # what it leaves goes with the test
+        words = [*DOOR, "grade", self.subs]
+        grading = subprocess.Popen(words, stderr=subprocess.DEVNULL, env=given)
         self.assertTrue(wait_until(left, LIMIT))
         grading.kill()
         grading.wait()
