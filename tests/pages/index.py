@@ -94,6 +94,11 @@ class Index(Case):
             (before.count("!["), after.count("![")), (1, 0), "one picture, before the claim"
         )
 
+    def test_kit(self):
+        """README names the kit for which the sources are."""
+        kit = text_in("build", "kit_name.txt").split()[0]
+        self.same("kits of README", re.findall(r"rattle-kit-\w+", text_in("README.md")), [kit])
+
     def test_crates_below(self):
         """LAYERS says how many crates are above each, and LOOKUP which ones a first call of each program
         leaves unproved: those that aren't below it."""
