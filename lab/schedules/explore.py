@@ -17,15 +17,12 @@ from lab.words import add_output, add_seed, count, counted, parser_of, write
 from lab.wrong import Wrong
 
 MOST_NODES, LIMIT, BYTES_A_STATE = 4, 1_000_000, 420
-
 # The most networks by chance.
 MOST_NETWORKS = 10_000
-
 # What is said after the rounds of a network that is too large for all schedules.
-ROUNDS_ALONE = f"""the rounds alone: every schedule is played of at most {MOST_NODES} nodes; in each of them a node finds
-what it finds in the rounds, if the file keeps everything in `me`
+ROUNDS_ALONE = f"""the rounds alone: every schedule is played of at most {MOST_NODES} nodes; in each of them
+a node finds what it finds in the rounds, if the file keeps everything in `me`
 """
-
 # What is printed in place of what a reduced search doesn't know.
 REDUCED = "reduced: a safe or close is taken at once, so schedules, pulses apart and wires under way aren't counted"
 

@@ -386,8 +386,8 @@ class OwnAlgorithms(Case):
             self.note(f"the function of the page, {change}", good, got)
 
     def test_verdicts(self):
-        """By hand: in three rounds of a row of six, node 1 hears of 4 and no further. A file that is wrong in the rounds
-        is shown with them, pulse by pulse; `simulate` and `transcript check` end with 1."""
+        """By hand: in three rounds of a row of six, node 1 hears of 4 and no further. A file that is wrong in the
+        rounds is shown with them, pulse by pulse; `simulate` and `transcript check` end with 1."""
         status, text, fault = self.told(TOO_SHORT, network="path6")
         rows = text.splitlines()
         self.same(
