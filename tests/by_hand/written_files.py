@@ -184,10 +184,13 @@ def writers_by_hand(_) -> list[Writer]:
 
 def rows_say(text):
     """The heading has `source` and `target`, maybe among others, and the mark that separates them."""
-    heading = next(line for line in text.split("\n") if "source" in line)
+    lines = [line.strip("\ufeff") for line in text.split("\n")]
+    heading = next(line for line in lines if "source" in line.lower())
     mark = next(mark for mark in ";\t," if mark in heading)
+    text = "\n".join(lines)
     rows = csv.reader(io.StringIO(text), delimiter=mark, strict=True, skipinitialspace=True)
     titles, *rows = [row for row in rows if any(map(str.strip, row))]
+    titles = [title.strip().lower() for title in titles]
     places = [titles.index(title) for title in ("source", "target")]
     return [], [[row[place] for place in places] for row in rows]
 
