@@ -114,8 +114,9 @@ def text_asked(given, path):
 
 def file_listed(given, name, form):
     """What FILE lists."""
+    data = bytes_of_file(given.file)
     try:
-        return listed_of(bytes_of_file(given.file), name, form, given.stated)
+        return listed_of(data, name, form, given.stated)
     except Unsaid:
         raise
     except Wrong as why:

@@ -22,18 +22,7 @@ Entry = collections.namedtuple("Entry", "stamp node kind other wire")
 
 
 # Keys of a table, or of a graph in lists, that are no nodes.
-COLUMNS = {
-    "source",
-    "target",
-    "from",
-    "to",
-    "weight",
-    "nodes",
-    "edges",
-    "links",
-    "V",
-    "E",
-}
+COLUMNS = {"source", "target", "from", "to", "weight", "nodes", "edges", "links", "V", "E"}
 
 
 class Refused(ValueError):
@@ -42,9 +31,7 @@ class Refused(ValueError):
     def __init__(self, said, order):
         fault = said.partition(": ")[2] or said or "no words"
         numbers = (
-            [int(word) for word in fault.split()[2:] if word.isdigit()]
-            if " vert" in fault
-            else []
+            [int(word) for word in fault.split()[2:] if word.isdigit()] if " vert" in fault else []
         )
         self.code = fault.split()[0]
         self.nodes = [order[v - 1] for v in numbers if 0 < v <= len(order)]
@@ -68,8 +55,7 @@ class _Answer:
             kind = self.kinds[self.network.count("\n") > self.most]
             return (
                 _lab(
-                    ["picture", kind, "-", self.option, file.name, "--title", "graph"],
-                    self.network,
+                    ["picture", kind, "-", self.option, file.name, "--title", "graph"], self.network
                 )
                 or None
             )
@@ -106,9 +92,7 @@ def plan(G, bars=None, licence=None, workers=None):
         raise ValueError(
             f"the plan takes {max(numbers)} channels, and the licence has {len(licence)}"
         )
-    found.update(
-        zip(order, numbers if licence is None else (licence[k - 1] for k in numbers))
-    )
+    found.update(zip(order, numbers if licence is None else (licence[k - 1] for k in numbers)))
     return found
 
 
@@ -120,24 +104,16 @@ def check(G, plan, bars=None, licence=None):
         raise TypeError(
             f"a {type(plan).__name__} is no plan: a dict with the channel of each node is wanted"
         )
-    number, counted, rows = (
-        {node: v for v, node in enumerate(order, 1)},
-        _counted(licence),
-        [],
-    )
+    number, counted, rows = ({node: v for v, node in enumerate(order, 1)}, _counted(licence), [])
     for node, channel in plan.items():
         if node not in number:
             raise ValueError(f"the plan has {node!r}, which is no node of the graph")
         own = counted(channel, f"the channel of {node!r}")
         if own is None:
-            raise ValueError(
-                f"{node!r} has channel {channel!r}, which isn't in the licence"
-            )
+            raise ValueError(f"{node!r} has channel {channel!r}, which isn't in the licence")
         rows.append(f"{number[node]} {own}\n")
     return int(
-        _called(
-            "forestplan", ["check"], f"{network}plan\n{''.join(rows)}", order
-        ).split()[1]
+        _called("forestplan", ["check"], f"{network}plan\n{''.join(rows)}", order).split()[1]
     )
 
 
@@ -150,9 +126,7 @@ def rounds(G, bars=None):
             found.append(Pulse(int(fields[1]), " ".join(fields[2:]), [], []))
         elif fields[1] == "put":
             sender, receiver = order[int(fields[0]) - 1], order[int(fields[2]) - 1]
-            found[-1].messages.append(
-                Message(sender, receiver, fields[5], int(fields[6]))
-            )
+            found[-1].messages.append(Message(sender, receiver, fields[5], int(fields[6])))
         else:
             found[-1].states.append((order[int(fields[0]) - 1], " ".join(fields[1:])))
     return found
@@ -185,14 +159,8 @@ def text_of(G, bars=None, licence=None):
     order = list(dict.fromkeys([*G, *(node for pair in pairs for node in pair)]))
     number = {node: v for v, node in enumerate(order, 1)}
     barred = _barred(bars or {}, number, _counted(licence))
-    edges = {
-        tuple(sorted((number[one], number[other])))
-        for one, other in pairs
-        if one != other
-    }
-    lines = [
-        f"c name {v} {' '.join(str(node).split())}" for v, node in enumerate(order, 1)
-    ]
+    edges = {tuple(sorted((number[one], number[other]))) for one, other in pairs if one != other}
+    lines = [f"c name {v} {' '.join(str(node).split())}" for v, node in enumerate(order, 1)]
     lines.append(f"p edge {len(order)} {len(edges)}")
     lines += [f"b {v} {channel}" for v, channel in sorted(barred)]
     lines += [f"e {v} {w}" for v, w in sorted(edges)]
@@ -218,11 +186,7 @@ def _pairs(G):
         raise _no_graph(f"a {type(G).__name__} is no graph")
     if G and COLUMNS.issuperset(G):
         raise _no_graph(f"a dict with {', '.join(map(repr, G))} is a table")
-    return [
-        (one, other)
-        for one, several in G.items()
-        for other in _neighbours(one, several, G)
-    ]
+    return [(one, other) for one, several in G.items() for other in _neighbours(one, several, G)]
 
 
 def _neighbours(one, several, G):
@@ -266,9 +230,7 @@ def _no_graph(what):
 
 def _items(several, what):
     """What is in a list or a set; a text isn't taken letter by letter."""
-    if isinstance(several, (str, bytes)) or not isinstance(
-        several, collections.abc.Iterable
-    ):
+    if isinstance(several, (str, bytes)) or not isinstance(several, collections.abc.Iterable):
         raise TypeError(f"the {what} are {several!r}, and have to be a list or a set")
     return several
 
@@ -286,9 +248,7 @@ def _counted(licence):
 
     if licence is None:
         return lambda channel, what: whole(channel, what, 1, 2048)
-    if isinstance(licence, (str, bytes)) or not isinstance(
-        licence, collections.abc.Sequence
-    ):
+    if isinstance(licence, (str, bytes)) or not isinstance(licence, collections.abc.Sequence):
         raise TypeError(
             f"the licence is {licence!r}, and has to be a list of whole numbers, in order of preference"
         )
@@ -306,23 +266,15 @@ def home():
     here = os.path.dirname(os.path.dirname(os.path.dirname(os.path.realpath(__file__))))
     for folder in (
         here,
-        *(
-            os.path.join(base, "share", "forestplan")
-            for base in (sys.prefix, site.getuserbase())
-        ),
+        *(os.path.join(base, "share", "forestplan") for base in (sys.prefix, site.getuserbase())),
     ):
         if os.path.isfile(os.path.join(folder, "lab", "programs.py")):
             return folder
-    raise FileNotFoundError(
-        "there is no folder of forestplan that is installed or built"
-    )
+    raise FileNotFoundError("there is no folder of forestplan that is installed or built")
 
 
 def _program(name):
-    places = (
-        os.path.join(home(), *parts, name)
-        for parts in (("crates", name, "out"), ("lib",))
-    )
+    places = (os.path.join(home(), *parts, name) for parts in (("crates", name, "out"), ("lib",)))
     found = next((place for place in places if os.access(place, os.X_OK)), None)
     if found is None:
         raise FileNotFoundError(f"{name} isn't built in {home()}")
@@ -331,9 +283,7 @@ def _program(name):
 
 def _called(name, words, text, order):
     done = subprocess.run(
-        [_program(name), *words],
-        input=text.encode("utf-8", "replace"),
-        capture_output=True,
+        [_program(name), *words], input=text.encode("utf-8", "replace"), capture_output=True
     )
     if done.returncode:
         raise Refused(done.stderr.decode("utf-8", "replace").strip(), order)

@@ -25,12 +25,8 @@ def build_wheel(folder, config_settings=None, metadata_directory=None):
         f"{info}/WHEEL": f"Wheel-Version: 1.0\nGenerator: forestplan\nRoot-Is-Purelib: false\nTag: {tag}\n",
     }
     record = []
-    with zipfile.ZipFile(
-        os.path.join(folder, name), "w", zipfile.ZIP_DEFLATED
-    ) as wheel:
-        for path, source in sorted(
-            files(f"forestplan-{version}.data/data/share/forestplan")
-        ):
+    with zipfile.ZipFile(os.path.join(folder, name), "w", zipfile.ZIP_DEFLATED) as wheel:
+        for path, source in sorted(files(f"forestplan-{version}.data/data/share/forestplan")):
             wheel.write(source, path)
             with open(source, "rb") as file:
                 record.append(row(path, file.read()))
@@ -55,7 +51,5 @@ def files(share):
 
 
 def row(path, data):
-    digest = (
-        base64.urlsafe_b64encode(hashlib.sha256(data).digest()).rstrip(b"=").decode()
-    )
+    digest = base64.urlsafe_b64encode(hashlib.sha256(data).digest()).rstrip(b"=").decode()
     return f"{path},sha256={digest},{len(data)}\n"

@@ -21,6 +21,8 @@ RUN_OF_APART, RUN_OF_PETERSEN = transcript(APART, "refused"), transcript(
     example("petersen"), "refused"
 )
 RUN_OF_TRIANGLE = transcript(example("triangle"), "refused")
+# Stored pictures that version 0.5 drew, of kinds that there are no more.
+OF_NO_KIND = ("petersen-automaton.svg", "petersen-tally.svg")
 # What rows name: networks and texts by the names of their files.
 FILES = {
     "net": APART,
@@ -280,6 +282,8 @@ class Pictures(PictureCase):
             r"^forestlab picture (.*) -o docs/pictures/(\S+)$", text_in(folder, "draw.sh"), re.M
         )
         stored = sorted(name for name in os.listdir(folder) if name.endswith((".svg", ".html")))
+        for name in OF_NO_KIND:
+            stored.remove(name)
         self.same(
             "each stored picture has its command", sorted(name for _, name in commands), stored
         )

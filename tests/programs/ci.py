@@ -20,8 +20,8 @@ INSTALLS = 'for name; do :; done; [ "$name" = chromium ] || { echo > "$HERE/$nam
 class Ci(Case):
     needs_programs = False
 
-    def run_with(self, apt, user=0, there=()):
-        """Status and both outputs of .ci/run, and the words of each call of apt-get."""
+    def run_with(self, apt, user=0, there=(), limit=60):
+        """Status and both outputs of .ci/run, with so many seconds for apt-get, and the words of each call of it."""
         here, log = os.path.join(self.folder, "bin"), os.path.join(self.folder, "log")
         tree = os.path.join(self.folder, "tree")
         for folder in (here, tree):
@@ -37,8 +37,8 @@ class Ci(Case):
         for name in there:
             self.program(os.path.join(here, name), "#!/bin/sh\n")
         self.file(log, "")
-        env = {"PATH": here, "LOG": log, "HERE": here, "CI_APT_LIMIT": "2"}
-        done = called(os.path.join(tree, ".ci", "run"), env=env, limit=60)
+        env = {"PATH": here, "LOG": log, "HERE": here, "CI_APT_LIMIT": str(limit)}
+        done = called(os.path.join(tree, ".ci", "run"), env=env, limit=300)
         with open(log, encoding="utf-8") as file:
             return done, [line.split()[-1] for line in file]
 
@@ -56,7 +56,7 @@ class Ci(Case):
         done, calls = self.run_with(FAILS)
         self.check("apt fails", done, ALL)
         self.same("apt fails: each is tried", calls, ["update", *ALL.split()])
-        done, _ = self.run_with(HANGS)
+        done, _ = self.run_with(HANGS, limit=2)
         self.check("apt hangs", done, ALL)
         done, _ = self.run_with(INSTALLS)
         self.check("apt installs all but one", done, "python3-networkx bubblewrap chromium")

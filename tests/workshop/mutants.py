@@ -82,7 +82,9 @@ def mutants(text: str) -> Iterator[tuple[str, str]]:
 
 def node_class(assignment: str, texts: dict[str, str]) -> type:
     """The class of a node in modules of these texts, which import each other."""
-    before = {name: sys.modules.pop(name, None) for name in texts}
+    before = {}
+    for name in texts:
+        before[name] = sys.modules.pop(name, None)
     sys.path.insert(0, os.path.join(EXAMPLES, "python"))
     try:
         for name, text in texts.items():
