@@ -70,13 +70,18 @@ the toolchain and `python3 build` is about the repository of that commit.
 """
 
 
+# What README says of the toolchain, and its links to what the repository alone has.
+OF_THE_KIT = " Rows with a star need [the kit](#two-commands), the others Python 3 alone."
+OF_THE_REPOSITORY = r"\[([^\]]+)\]\((?:crates/[^)]+|CONTRIBUTING\.md)\)"
+
+
 def readme():
     """The text of README as it is in a folder: with the commands that the folder has, as they are called."""
     with open(os.path.join(TOP, "README.md"), encoding="utf-8") as file:
         text = file.read()
-    return re.sub(
-        r"^## Two commands\n.*?(?=^Command \| )", SECTION, text, flags=re.M | re.S
-    ).replace("./forestplan", "forestplan")
+    text = re.sub(r"^## Two commands\n.*?(?=^Command \| )", SECTION, text, flags=re.M | re.S)
+    text = text.replace(OF_THE_KIT, "").replace(" * | ", " | ")
+    return re.sub(OF_THE_REPOSITORY, r"\1", text)
 
 
 def make(room):

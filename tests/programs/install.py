@@ -132,9 +132,11 @@ class Install(Case):
         """The script of the stored pictures draws all of them, and each as it is stored."""
         folder = os.path.join(self.target, "docs", "pictures")
         stored = all_of(folder)
-        for name in stored[folder]:
-            if name.endswith((".svg", ".html")):
-                os.remove(os.path.join(folder, name))
+        drawn = re.findall(
+            r"-o docs/pictures/(\S+)$", contents(os.path.join(folder, "draw.sh")).decode(), re.M
+        )
+        for name in drawn:
+            os.remove(os.path.join(folder, name))
         done = self.line("sh docs/pictures/draw.sh")
         self.note("docs/pictures/draw.sh", done[0] == 0 and all_of(folder) == stored, done)
 

@@ -204,7 +204,8 @@ FAULTS = [
     (
         ["examples/triangle.col", "--limit", "16472"],
         1,
-        "explore: there are more than 16,472 states: use --limit for more, at some 420 bytes each\n",
+        "explore: there are more than 16,472 states: --reduce leaves most of them out, --limit allows more, "
+        "at some 420 bytes each\n",
     ),
     (["no.col"], 1, "explore: no.col: No such file or directory\n"),
     (["README.md"], 1, "explore: README.md line 1: `#` begins no line of a network (F8)\n"),
@@ -355,12 +356,11 @@ class Schedules(Case):
             lines, first = listed.splitlines(), said.split("\n")[0]
             rest = sum(not line.startswith("put ") for line in lines)
             kinds = "take or pulse" if rest == 1 else "takes and pulses"
-            events = f"{counted(count, 'event')} ({rest} {kinds})"
-            self.note(
-                f"{name} without {without}",
-                status == 1 and (what is None or first == f"broken after {events}: {what}"),
-                said,
-            )
+            is_first = True
+            if what is not None:
+                events = f"{counted(count, 'event')} ({rest} {kinds})"
+                is_first = first == f"broken after {events}: {what}"
+            self.note(f"{name} without {without}", status == 1 and is_first, said)
             self.same(
                 f"the list of {name} without {without}",
                 [line.split(":")[0] for line in said.splitlines()[1 : 1 + len(lines)]],
