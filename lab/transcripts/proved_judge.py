@@ -8,17 +8,17 @@ from lab.wrong import Wrong
 
 @dataclass
 class Verdict:
-    """`name` is the refusal's name, or None if the run is right and whole. `at` is the index of the entry
+    """`name` is the refusal's name, and empty if the run is right and whole. `at` is the index of the entry
     that is refused, `words` what the judge says of it, `line` the judge's own line."""
 
-    name: str | None = None
-    at: int | None = None
+    name: str = ""
+    at: int = 0
     words: str = ""
     line: str = ""
 
     @property
     def is_about_an_entry(self) -> bool:
-        return self.name not in (None, "NotWhole")
+        return self.name not in ("", "NotWhole")
 
 
 def verdict_of(network: str, transcript: str, words: list[str]) -> Verdict:

@@ -58,12 +58,12 @@ class AlphaRun:
         one of them is wrong, for certain."""
         for v in self.network.vertices:
             if not self.is_answered(
-                nodes, v, own_data(self.network, v, "alpha", self.rounds), OWN_DATA
+                nodes, v, own_data(self.network, v, "alpha", self.rounds.own_lines), OWN_DATA
             ):
                 return
         while self.links and len(self.entries) <= self.rounds.events:
-            link = self.policy.choose(list(self.links.values()))
-            v, w = link.node, link.neighbour
+            w, v = self.policy.choose(list(self.links.values())).link
+            link = self.links[w, v]
             words, stamp, _ = link.wires.popleft()
             if link.wires:
                 link.renew()

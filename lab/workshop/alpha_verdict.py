@@ -8,7 +8,7 @@ from lab.networks.texts import plain_text
 from lab.transcripts.proved_judge import Verdict, verdict_of
 from lab.transcripts.rules import Standing, rule_of, rules_of_dues
 from lab.workshop.alpha_run import OWN_DATA, AlphaRun, Entry
-from lab.workshop.findings import Finding, first_of, kind_of, last_of, listed
+from lab.workshop.findings import Fault, Finding, first_of, kind_of, last_of, listed
 from lab.workshop.right_rounds import RightRounds, words_of
 from lab.workshop.why import Why
 
@@ -121,7 +121,7 @@ def finding_of(run: AlphaRun) -> Finding | None:
     if verdict.is_about_an_entry:
         return wrong_entry(run, entries, verdict)
     if run.stop:
-        return no_answer(run, entries)
+        return no_answer(run, entries, *run.stop)
     return stuck(run, entries, verdict) if verdict.name == "NotWhole" else wrong_result(run)
 
 
@@ -143,8 +143,7 @@ def wrong_entry(run: AlphaRun, entries: list[Entry], verdict: Verdict) -> Findin
     return Finding(verdict.name, v, at.pulse, lines, verdict.at, way=kind_of(words))
 
 
-def no_answer(run: AlphaRun, entries: list[Entry]) -> Finding:
-    v, fault, asked = run.stop
+def no_answer(run: AlphaRun, entries: list[Entry], v: int, fault: Fault, asked: str) -> Finding:
     at = at_node(run.rounds, entries, v)
     inbox = f", for which {run.rounds.came(at.pulse + 1, v)} came" if at.can_pulse else ""
     lines = [

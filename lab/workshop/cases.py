@@ -37,10 +37,16 @@ class Case:
     league: dict[str, int] | None = None
     is_part: bool = False
 
+    @property
+    def wrong(self) -> Finding:
+        """What is wrong, of a case that is."""
+        assert self.finding
+        return self.finding
+
     def size(self) -> tuple[int, int, int, int]:
         """What makes a case that isn't right small."""
-        found, bars = self.finding, sum(map(len, self.network.bars.values()))
-        place = found.pulse if found.entry is None else found.entry
+        place = self.wrong.pulse if self.wrong.entry is None else self.wrong.entry
+        bars = sum(map(len, self.network.bars.values()))
         return self.network.nodes, len(self.network.edges), bars, place
 
 

@@ -15,10 +15,19 @@ from lab.wrong import Wrong
 
 
 class ClockRun(Rounds):
-    """`puts` is what the nodes sent so far, and `rounds` the right rounds, if there are any. The two kinds have
-    `assignment`; `hear(v, line, fields)`, which takes any line but `put`; and `is_over(p)`."""
+    """`puts` is what the nodes sent so far, and `own_lines` what a node's first message has besides. `hear` takes any
+    line of an answer but `put`."""
 
-    rounds = league = None
+    assignment: str
+    program = COLOURING
+    own_lines: dict[str, int | None] = {}
+    league: dict[str, int] | None = None
+
+    def hear(self, v: int, line: str, fields: tuple[str, ...]) -> None:
+        raise NotImplementedError
+
+    def is_over(self, p: int) -> bool:
+        raise NotImplementedError
 
     def difference(self, p: int, v: int) -> Finding | None:
         """What is wrong in a node's answer, which has been read."""
@@ -55,7 +64,7 @@ class ClockRun(Rounds):
             }
 
     def first_message(self, v: int) -> list[str]:
-        return own_data(self.network, v, self.assignment, self.rounds)
+        return own_data(self.network, v, self.assignment, self.own_lines)
 
     def answered(self, p: int, v: int, answer: Answer) -> Finding | None:
         try:
@@ -78,7 +87,7 @@ class ClockRun(Rounds):
 
     def read(self, v: int, answer: list[str]) -> None:
         puts = self.puts[-1][v] = {}
-        forms = forms_of(self.assignment, self.rounds.program if self.rounds else COLOURING)
+        forms = forms_of(self.assignment, self.program)
         for line in answer:
             match fields_of(line, forms, len(self.ports[v])):
                 case "put", port, *words:
@@ -99,7 +108,13 @@ class RoundsRun(ClockRun):
 
     def __init__(self, rounds: RightRounds):
         super().__init__(rounds.network)
-        self.rounds, self.said, self.pulse_words = rounds, {}, rounds.pulse_words
+        self.rounds, self.program, self.own_lines = rounds, rounds.program, rounds.own_lines
+        self.said: dict[int, dict[str, str]] = {}
+
+    def pulse_words(self, p):
+        """`pulse 3 (step)`; a program without phases has `pulse 3`."""
+        phase = " ".join(self.rounds.phase[p])
+        return super().pulse_words(p) + (f" ({phase})" if phase else "")
 
     def read(self, v, answer):
         self.said[v] = {}

@@ -6,7 +6,7 @@ import re
 import shutil
 import subprocess
 import tempfile
-from typing import BinaryIO
+from typing import IO
 
 from lab.workshop.guard import Guard, Limits
 
@@ -41,7 +41,7 @@ def compiled(command: list[str], folder: str, guard: Guard) -> list[str]:
     return [*JAVA, name] if f"{name}.class" in names else command
 
 
-def unpack(classes: BinaryIO, folder: str) -> list[str]:
+def unpack(classes: IO[bytes], folder: str) -> list[str]:
     """Puts the classes into a folder, up to the first that isn't whole; returns their names."""
     names = []
     for line in classes:

@@ -4,6 +4,7 @@ import os
 import resource
 import signal
 import time
+from typing import Any
 
 from lab.workshop.findings import Fault
 from lab.workshop.leftovers import (
@@ -87,7 +88,11 @@ class Guard:
             if os.getppid() != workshop:
                 os._exit(1)
 
-        told = {"cwd": self.place, "env": self.environment(), "start_new_session": True}
+        told: dict[str, Any] = {
+            "cwd": self.place,
+            "env": self.environment(),
+            "start_new_session": True,
+        }
         if self.user is not None:
             told |= {"user": self.user, "group": self.user, "extra_groups": []}
         return told | {"preexec_fn": enter}

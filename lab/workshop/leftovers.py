@@ -6,7 +6,7 @@ import resource
 import signal
 import stat
 from dataclasses import dataclass
-from typing import Collection, Iterator, Sequence
+from typing import Collection, Iterator
 
 # Numbers of Linux, the same on all machines.
 PARENT_DEATH_SIGNAL, DUMPABLE, SUBREAPER, IS_SUBREAPER = 1, 4, 36, 37
@@ -63,7 +63,7 @@ def processes() -> Iterator[Running]:
             )
 
 
-def below_this(kept: Collection[int] = ()) -> Iterator[Running]:
+def below_this(kept: Collection[int | None] = ()) -> Iterator[Running]:
     """All processes below this one, but those that are kept with what is below them."""
     below: dict[int, list[Running]] = {}
     for process in processes():
@@ -87,7 +87,7 @@ def unnamed(running: list[Running]) -> int:
     return sum(sizes.values())
 
 
-def end_all(kept: Sequence[int] = ()) -> None:
+def end_all(kept: Collection[int | None] = ()) -> None:
     """Ends and collects all processes below this one. What is stopped starts no more, so all are stopped before one is
     killed."""
     stopped: set[int] = set()

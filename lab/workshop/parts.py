@@ -10,13 +10,14 @@ import subprocess
 import sys
 import tempfile
 import time
+from multiprocessing.context import ForkProcess
 from multiprocessing.connection import Connection, wait
 
 from lab.door import held
 from lab.programs import TOP
 from lab.workshop.cases import cases_of
 from lab.workshop.compiling import compiled
-from lab.workshop.guard import Unguarded
+from lab.workshop.guard import Guard, Unguarded
 from lab.workshop.leftovers import PARENT_DEATH_SIGNAL, control, end_all, shut
 from lab.workshop.options import parsed
 from lab.workshop.playing import Player
@@ -55,8 +56,8 @@ def play(part: Part, given: argparse.Namespace, room: str) -> dict:
     place = tempfile.mkdtemp(dir=room)
     copy = os.path.join(place, "submission")
     shutil.copytree(part.folder, copy, symlinks=True)
+    guard: Guard = Unguarded()
     if given.before:
-        guard = Unguarded()
         command = [*(word.replace("{}", copy) for word in given.before), *part.command]
     else:
         guard = sandbox_of(copy, given, room, given.users[part.student])
@@ -97,7 +98,8 @@ def say(part: Part, words: str) -> None:
 
 def play_all(parts: list[Part], given: argparse.Namespace, jobs: int, room: str) -> None:
     """Plays parts, so many at a time."""
-    waiting, running = parts[::-1], {}
+    waiting = parts[::-1]
+    running: dict[Connection, tuple[Part, ForkProcess, float]] = {}
     try:
         while waiting or running:
             while waiting and len(running) < jobs:
@@ -123,7 +125,7 @@ def play_all(parts: list[Part], given: argparse.Namespace, jobs: int, room: str)
             end_all()
 
 
-def finished(process, pipe: Connection) -> dict:
+def finished(process: ForkProcess, pipe: Connection) -> dict:
     """What a process has found: only what it says itself and ends well on is a result."""
     said = b""
     if not pipe.poll():  # its time is over
@@ -134,7 +136,7 @@ def finished(process, pipe: Connection) -> dict:
     if process.exitcode == 0:
         return json.loads(said)
     ending = f"status {process.exitcode}"
-    if process.exitcode < 0:
+    if process.exitcode and process.exitcode < 0:
         ending = signal.Signals(-process.exitcode).name
     return {"why": f"no result: its process ended with {ending}"}
 

@@ -55,18 +55,19 @@ class Player:
     def play(self, case: Case) -> bool:
         """Whether it is right; what was played and found is then in the case."""
         case.owners = case.owners or [(v - 1) % len(self.commands) for v in case.network.vertices]
-        case.run = self.run_of(case)
+        run = case.run = self.run_of(case)
         try:
             with self.nodes(case) as nodes:
-                found = case.finding = case.run.play(nodes)
+                found = run.play(nodes)
         except Fault as fault:  # a command can't be started
             raise Wrong(fault.words) from None
-        if self.options.assignment == "alpha":
-            found = case.finding = finding_of(case.run)
+        if isinstance(run, AlphaRun):
+            found = finding_of(run)
         else:
-            case.league = case.run.league
+            case.league = run.league
+        case.finding = found
         if found and len(self.commands) > 1:
-            self.name_owner(case)
+            self.name_owner(case, found)
         if found and self.options.one_process and found.pulse <= 1:
             found.lines.append(("note", APART))
         return found is None
@@ -81,9 +82,8 @@ class Player:
             rounds, Policy(case.policy, case.network.vertices, case.network.edges, case.seed)
         )
 
-    def name_owner(self, case: Case) -> None:
+    def name_owner(self, case: Case, found: Finding) -> None:
         """Says whose node is wrong, and whose the others are."""
-        found = case.finding
         found.owner = case.owners[found.node - 1]
         words = []
         for owner, command in enumerate(self.commands):
@@ -131,18 +131,18 @@ class Player:
         if other is first or not self.is_mute(first) or not self.is_mute(other):
             return False
         for case in (first, other):
-            case.finding.lines.append(("note", UNPLAYED))
-        left_out(cases, other.finding)
+            case.wrong.lines.append(("note", UNPLAYED))
+        left_out(cases, other.wrong)
         return True
 
     def is_mute(self, case: Case) -> bool:
         """Whether a program is silent from its first message on."""
-        return not self.play(case) and case.finding.kind == "silent" and case.finding.is_first
+        return not self.play(case) and case.wrong.kind == "silent" and case.wrong.is_first
 
     def shrunk(self, case: Case) -> Case:
         """A smaller case that is wrong in the same way, as long as one is found, and as few runs allow. What took all
         the time that it may take isn't tried again."""
-        left = 0 if case.finding.kind in ("silent", "late") else MOST_SHRINKS
+        left = 0 if case.wrong.kind in ("silent", "late") else MOST_SHRINKS
         while left and time.monotonic() < self.over:
             found = None
             for network, vertices in smaller(case.network):
@@ -150,7 +150,7 @@ class Player:
                 self.say(f"looking for a smaller case that is wrong, {MOST_SHRINKS - left} tried")
                 owners = [case.owners[v - 1] for v in vertices]
                 other = Case(case.number, network, case.policy, case.seed, owners, is_part=True)
-                if not self.play(other) and other.finding.is_like(case.finding):
+                if not self.play(other) and other.wrong.is_like(case.wrong):
                     found = other
                 if found or not left:
                     break

@@ -29,9 +29,9 @@ START_HINT = (
     "ends, and is it called as `./FILE` or `python3 FILE`?"
 )
 ENDED_BY = 128
-SIGNALS = {int(one): one.name for one in signal.Signals}
+SIGNALS: dict[int, str] = {int(one): one.name for one in signal.Signals}
 # What a signal means that is one of a limit.
-OF_LIMITS = {
+OF_LIMITS: dict[int, str] = {
     signal.SIGXFSZ: " (it wrote too much to a file or to standard error)",
     signal.SIGXCPU: " (it used too much processor time)",
 }
@@ -42,7 +42,7 @@ class Process:
 
     def __init__(self, command: list[str], limits: Limits, guard: Guard, tasks: int):
         self.limits, self.guard, self.asked, self.until = limits, guard, 0, 0.0
-        self.command, self.errors = command, None
+        self.command = command
         try:
             self.errors = tempfile.TemporaryFile()
             self.process = subprocess.Popen(
@@ -54,11 +54,11 @@ class Process:
                 **guard.start(limits, tasks),
             )
         except OSError as why:
-            if self.errors:
-                self.errors.close()
             raise Fault("start", not_started(command, why.strerror)) from None
         guard.programs.add(self.process.pid)
-        self.input, self.output = self.process.stdin.fileno(), self.process.stdout.fileno()
+        assert self.process.stdin and self.process.stdout
+        self.pipes = self.process.stdin, self.process.stdout
+        self.input, self.output = (pipe.fileno() for pipe in self.pipes)
         os.set_blocking(self.input, False)
         self.readable, self.writable = select.poll(), select.poll()
         self.readable.register(self.output, select.POLLIN)
@@ -155,7 +155,7 @@ class Process:
     def end(self) -> None:
         """No more messages: a program that reads to the end of its input ends now."""
         with contextlib.suppress(OSError):
-            self.process.stdin.close()
+            self.pipes[0].close()
 
     def stop(self, until: float) -> None:
         """Kills it, and what it started, unless it ends by itself until then. The group is killed before the
@@ -166,7 +166,7 @@ class Process:
             os.killpg(self.process.pid, signal.SIGKILL)
         self.process.wait()
         self.guard.programs.discard(self.process.pid)
-        self.process.stdout.close()
+        self.pipes[1].close()
         self.errors.close()
 
 

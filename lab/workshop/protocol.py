@@ -41,12 +41,11 @@ FIELDS = {
 NUMBER = "0{0,40}([0-9]{1,39})"
 
 
-def own_data(network: Network, v: int, assignment: str, rounds=None) -> list[str]:
-    """The lines before `end`; two of them are of the right rounds, which an own algorithm hasn't."""
-    barred, of_rounds = (
-        network.bars.get(v, []),
-        {"forests": rounds.forests, "last": rounds.last} if rounds else {},
-    )
+def own_data(
+    network: Network, v: int, assignment: str, of_rounds: dict[str, int | None]
+) -> list[str]:
+    """The lines before `end`; some are of the right rounds, which an own algorithm hasn't."""
+    barred = network.bars.get(v, [])
     numbers = {
         "identifier": network.identifiers[v],
         "degree": len(network.neighbours[v]),

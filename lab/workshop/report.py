@@ -63,7 +63,7 @@ def described(case: Case) -> list[str]:
             for v, channels in network.bars.items()
         ]
         lines.append(f"bars   {', '.join(first_of(bars))}")
-    return lines + case.finding.text()
+    return lines + case.wrong.text()
 
 
 def report(cases: list[Case], shown: Case | None, seconds: float) -> list[str]:
@@ -77,7 +77,7 @@ def report(cases: list[Case], shown: Case | None, seconds: float) -> list[str]:
     lines += ["", *rows] if rows else []
     if shown:
         what = "smallest case that is wrong" if len(cases) > 1 else "wrong"
-        lines += ["", f"{what}: {shown.finding.kind}", *described(shown)]
+        lines += ["", f"{what}: {shown.wrong.kind}", *described(shown)]
     return lines
 
 

@@ -22,7 +22,8 @@ class Rounds:
     """`puts[p][v][port]`, the words that v sends in pulse p; `ports[v][w]`, v's port to w."""
 
     def __init__(self, network: Network):
-        self.network, self.puts = network, []
+        self.network = network
+        self.puts: list[dict[int, dict[int, str]]] = []
         self.ports = {
             v: {w: port for port, w in enumerate(network.neighbours[v])} for v in network.vertices
         }
@@ -51,7 +52,11 @@ class RightRounds(Rounds):
 
     def __init__(self, network: Network, program: str = COLOURING):
         super().__init__(network)
-        self.program, self.phase, self.colours, self.chose, self.results = program, [], [], [], {}
+        self.program = program
+        self.phase: list[list[str]] = []
+        self.colours: list[dict[int, list[int]]] = []
+        self.chose: list[dict[int, int]] = []
+        self.results: dict[int, str] = {}
         head, *lines = self.asked("forestplay", "rounds", program).splitlines()
         self.forests = network.forest_count if program in (COLOURING, *SEQUELS) else None
         self.last = int(head.split()[-1])
@@ -75,8 +80,9 @@ class RightRounds(Rounds):
         match fields:
             case ["pulse", _, *phase]:
                 self.phase.append(phase)
-                for table in (self.puts, self.colours, self.chose):
-                    table.append({})
+                self.puts.append({})
+                self.colours.append({})
+                self.chose.append({})
             case [v, "put", w, "payload", _, *words]:
                 self.puts[-1].setdefault(int(v), {})[self.ports[int(v)][int(w)]] = " ".join(words)
             case [v, "colour", _, colour]:
@@ -86,6 +92,7 @@ class RightRounds(Rounds):
             case [v, *result]:
                 self.results[int(v)] = " ".join(result)
 
-    def pulse_words(self, p: int) -> str:
-        """`pulse 3 (step)`; a program without phases has `pulse 3`."""
-        return f"pulse {p}" + (f" ({' '.join(self.phase[p])})" if self.phase[p] else "")
+    @property
+    def own_lines(self) -> dict[str, int | None]:
+        """What each node learns of them before they begin."""
+        return {"forests": self.forests, "last": self.last}

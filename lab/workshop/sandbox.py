@@ -87,10 +87,14 @@ class Sandbox(Guard):
 
     def try_out(self) -> None:
         """Refuses a system on which nothing can be started so."""
-        user = {} if self.user is None else {"user": self.user, "group": self.user}
         try:
             done = subprocess.run(
-                self.words(["true"]), cwd=self.place, capture_output=True, text=True, **user
+                self.words(["true"]),
+                cwd=self.place,
+                capture_output=True,
+                text=True,
+                user=self.user,
+                group=self.user,
             )
         except FileNotFoundError:
             raise Wrong(

@@ -96,19 +96,17 @@ class Why:
             start = 13 + 3 * self.network.channels * forest
             numbers = [self.in_forest(13, forest), self.merged(start), self.passed(start + 1, p)]
             return phase, {"forest": forest, "colour": colour, "old": old}, numbers
-        if port is None and forest is None:
-            return "choice", {}, []
+        if forest is None:
+            if port is None:
+                return "choice", {}, []
+            forest = self.forest_by[port]
         names, neighbours = self.network.identifiers, self.network.neighbours[self.v]
         higher = ", ".join(
             f"{names[neighbours[up]]} (port {up}) in forest {f}"
             for f, up in sorted(self.up.items())
         )
         given = {"name": names[self.v], "higher": higher or "none", "dropped": DROPPED.get(p)}
-        if p < 2:
-            return phase, given, []
-        if forest is None:
-            forest = self.forest_by[port]
-        return phase, given, [self.in_forest(p, forest)]
+        return phase, given, [] if p < 2 else [self.in_forest(p, forest)]
 
     def of_sequel(self, p: int) -> tuple[str, dict, list[str]]:
         """The same of a pulse after the colouring."""

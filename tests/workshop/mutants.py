@@ -156,7 +156,7 @@ def is_wrong(make: type, rounds: RightRounds, policy: str | None = None) -> bool
         return True
     if policy is None:
         return found is not None
-    return bool(run.stop) or run.verdict().name is not None or run.results != rounds.results
+    return bool(run.stop or run.verdict().name) or run.results != rounds.results
 
 
 class Mutants(Case):
