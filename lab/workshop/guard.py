@@ -85,6 +85,7 @@ class Guard:
             signal.pthread_sigmask(signal.SIG_SETMASK, ())
             limit(limits, tasks)
             control(PARENT_DEATH_SIGNAL, signal.SIGKILL)
+            self.enter()
             if os.getppid() != workshop:
                 os._exit(1)
 
@@ -96,6 +97,9 @@ class Guard:
         if self.user is not None:
             told |= {"user": self.user, "group": self.user, "extra_groups": []}
         return told | {"preexec_fn": enter}
+
+    def enter(self) -> None:
+        """What a process does besides before it becomes the program."""
 
     def look(self, program: int, memory: int) -> None:
         """Raises a fault if a program takes too much, with all that it has started; looks now and then."""

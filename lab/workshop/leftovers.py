@@ -9,13 +9,20 @@ from dataclasses import dataclass
 from typing import Collection, Iterator
 
 # Numbers of Linux, the same on all machines.
-PARENT_DEATH_SIGNAL, DUMPABLE, SUBREAPER, IS_SUBREAPER = 1, 4, 36, 37
+PARENT_DEATH_SIGNAL, DUMPABLE, SECCOMP, SUBREAPER, IS_SUBREAPER, NO_NEW_RIGHTS = (
+    1,
+    4,
+    22,
+    36,
+    37,
+    38,
+)
 SYSTEM = ctypes.CDLL(None, use_errno=True)
 
 
-def control(what: int, value: int) -> None:
+def control(what: int, value: int, more: int = 0) -> None:
     """Sets one of these of this process."""
-    if SYSTEM.prctl(what, *map(ctypes.c_ulong, (value, 0, 0, 0))) < 0:
+    if SYSTEM.prctl(what, *map(ctypes.c_ulong, (value, more, 0, 0))) < 0:
         raise OSError(ctypes.get_errno(), os.strerror(ctypes.get_errno()))
 
 

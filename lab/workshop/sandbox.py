@@ -5,17 +5,20 @@ messages, the host's name and the network.
   those that are hidden are empty.
 - It writes into rooms in memory alone, its HOME and TMPDIR (/tmp) and /dev/shm, of a stated size; nothing of them is
   there once it has ended. It begins in /tmp, which has a link to each entry of its folder.
+- It has no calls by which nodes that share no folder could give each other signs (SIGNS), and none of 32 bits.
 - All that it has started ends with it, and it ends with the process that plays it."""
 import contextlib
+import ctypes
 import os
+import platform
 import stat
 import subprocess
 from pathlib import Path
 from typing import Iterable
 
 from lab.workshop.findings import Fault
-from lab.workshop.guard import MEGABYTE, Guard
-from lab.workshop.leftovers import Running
+from lab.workshop.guard import MEGABYTE, Guard, Limits
+from lab.workshop.leftovers import NO_NEW_RIGHTS, SECCOMP, Running, control
 from lab.wrong import Wrong
 
 ROOM, SHARED = "/tmp", "/dev/shm"
@@ -27,6 +30,13 @@ ALONE = ("--unshare-all", "--unshare-user", "--disable-userns", "--die-with-pare
 SYSTEM = ("--ro-bind", "/", "/", "--dev", "/dev", "--proc", "/proc")
 # What the programs of submissions are if root grades: each submission another of the numbers that nobody has.
 USERS = range(61184, 65520)
+# On x86-64: keys of the kernel, which a whole login shares, and locks, watches and marks of files, by the numbers of
+# calls and by the commands of `fcntl`.
+SIGNS, FCNTL, OF_FCNTL = (73, 248, 249, 250, 254, 301), 72, (5, 6, 7, 36, 37, 38, 1024, 1026, 1036)
+X86_64, OTHER_NUMBERS = 0xC000003E, 0x40000000
+# A filter of calls reads a word of the call, compares it, and says what becomes of the call: an error, or nothing.
+LOAD, IS_EQUAL, IS_ABOVE, END, REFUSED, ALLOWED = 0x20, 0x15, 0x35, 0x06, 0x50001, 0x7FFF0000
+MACHINE, NUMBER, SECOND_WORD, BY_FILTER = 4, 0, 24, 2
 # How bubblewrap begins what it says of a command that can't be started.
 NO_START = "bwrap: execvp "
 INSTEAD = (
@@ -80,6 +90,9 @@ class Sandbox(Guard):
         own = {"HOME": ROOM, "TMPDIR": ROOM}
         return {name: os.environ[name] for name in NAMES if name in os.environ} | own
 
+    def enter(self) -> None:
+        refuse_signs()
+
     def check(self, running: list[Running], memory: int) -> None:
         super().check(running, memory)
         if running and max(map(files_seen_by, running)) > MOST_FILES:
@@ -90,11 +103,9 @@ class Sandbox(Guard):
         try:
             done = subprocess.run(
                 self.words(["true"]),
-                cwd=self.place,
                 capture_output=True,
                 text=True,
-                user=self.user,
-                group=self.user,
+                **self.start(Limits(1, 2048, 1), self.tasks()),
             )
         except FileNotFoundError:
             raise Wrong(
@@ -104,6 +115,29 @@ class Sandbox(Guard):
             raise Wrong(
                 f"bubblewrap (0.8 or later) can't start here ({done.stderr.strip()}): {INSTEAD}"
             )
+
+
+def refuse_signs() -> None:
+    """Refuses SIGNS to this process and all that it starts."""
+    if platform.machine() != "x86_64":
+        return
+
+    def row(what: int, value: int, if_so: int = 0, if_not: int = 0) -> int:
+        """One step of the filter, which passes over so many of the next ones."""
+        return what | if_so << 16 | if_not << 24 | value << 32
+
+    refuse, allow = row(END, REFUSED), row(END, ALLOWED)
+    rows = [row(LOAD, MACHINE), row(IS_EQUAL, X86_64, 1), refuse, row(LOAD, NUMBER)]
+    rows += [row(IS_ABOVE, OTHER_NUMBERS, 0, 1), refuse]
+    for number in SIGNS:
+        rows += [row(IS_EQUAL, number, 0, 1), refuse]
+    rows += [row(IS_EQUAL, FCNTL, 1), allow, row(LOAD, SECOND_WORD)]
+    for number in OF_FCNTL:
+        rows += [row(IS_EQUAL, number, 0, 1), refuse]
+    steps = (ctypes.c_uint64 * (len(rows) + 1))(*rows, allow)
+    filter_of_calls = (ctypes.c_uint64 * 2)(len(steps), ctypes.addressof(steps))
+    control(NO_NEW_RIGHTS, 1)
+    control(SECCOMP, BY_FILTER, ctypes.addressof(filter_of_calls))
 
 
 def files_seen_by(process: Running) -> int:

@@ -21,7 +21,7 @@ from tests.workshop.base import JAVA, LIMIT
 from tests.workshop.misbehaving import MARK, left
 
 BEGIN = """\
-import ctypes, os, resource, signal, socket, stat, sys, time
+import ctypes, fcntl, os, resource, signal, socket, stat, sys, time
 SYSTEM, WORKSHOP, said = ctypes.CDLL(None, use_errno=True), os.getppid(), []
 def tries(name, attack):
     try:
@@ -81,6 +81,10 @@ ATTACKS = {
     "meets_by_name": "connected(socket.AF_UNIX, chr(0) + {mark!r})",
     "segment": "call(SYSTEM.shmget({key}, 0, 0))",
     "queue": "call(SYSTEM.msgget({key}, 0))",
+    "key": "call(SYSTEM.syscall(248, b'user', b'x', b'x', 1, -1))",
+    "lock": "fcntl.flock(open('/usr/bin/env'), fcntl.LOCK_EX)",
+    "shared_lock": "fcntl.lockf(open('/usr/bin/env'), fcntl.LOCK_SH)",
+    "watch": "call(SYSTEM.inotify_add_watch(SYSTEM.inotify_init(), b'/usr/bin/env', 32))",
     "users": "unshared()",
     "fills": "filled()",
 }
