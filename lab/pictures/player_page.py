@@ -6,15 +6,19 @@ from lab.pictures.pages import net_of, page
 from lab.pictures.program_picture import is_new
 from lab.words import counted
 
+# In a newcomer's words, and then the term.
 SAY = {
-    "greet": "Every node tells its neighbours its identifier.",
-    "orient": "Each numbers its higher neighbours and tells each its forest: the edges are parted.",
-    "seed": "Each begins, in every forest, with its identifier as colour, and sends it to its children.",
-    "step": "Bit step: i is the lowest place in which its binary digits differ from its parent’s; its new colour is "
-    "2·i plus its own digit there.",
-    "shift": "Shift: each takes its parent’s colour, a root another one.",
-    "drop": "Drop: who has colour {} takes the least of 0, 1, 2 that is free.",
-    "merge": "Merge: those whose turn it is choose the least free channel and tell it.",
+    "greet": "Each node tells its neighbours its identifier (greeting).",
+    "orient": "Each node numbers its neighbours with a higher identifier, from 0, and tells each its "
+    "number: an edge is in the forest of its number (orientation).",
+    "seed": "In every forest each node begins with its identifier as its colour, and sends it to its children.",
+    "step": "Each node now compares its colour with its parent’s, in binary digits: i is the lowest "
+    "place in which the two differ, and the new colour is 2·i plus its own digit there (bit step).",
+    "shift": "Each node takes its parent’s colour, and a root another one than its own (shift-down).",
+    "drop": "Each node of colour {} takes the least of the colours 0, 1 and 2 that neither its parent nor a child has "
+    "(drop).",
+    "merge": "Nodes take turns: those whose turn it is choose the least channel that they may have, "
+    "and tell it (merge).",
 }
 
 
@@ -99,8 +103,8 @@ def caption(rounds, number):
         forest, colour, old = pulse.step
         title += f" · forest {forest}"
         said += (
-            f" Now the pair K = {colour}, J = {old}: colour {colour} in forest {forest}, colour {old} "
-            f"(channel {old + 1}) so far." + ("" if pulse.chosen else " There is no such node.")
+            f" It is the turn of the nodes with colour {colour} in forest {forest} and channel {old + 1} so far (the "
+            f"pair K = {colour}, J = {old})." + ("" if pulse.chosen else " There is none.")
         )
     elif number >= SEED:
         title += " · forest 0" if forests == 1 else f" · forests 0 to {forests - 1}"

@@ -79,8 +79,7 @@ class Stepwise(Player):
         own = [one for one in self.steps.get(v, ()) if (one.kind, one.neighbour) == (kind, w)]
         if self.is_over or not own:
             return False
-        may_overtake = "fifo" in self.without and place < len(self.words_on(w, v))
-        if place and not may_overtake:
+        if place and ("fifo" not in self.without or place >= len(self.words_on(w, v))):
             return False
         self.step(own[0], place)
         return True

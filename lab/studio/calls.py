@@ -3,7 +3,7 @@
 from lab.pictures import adversary_page, schedules_space
 from lab.pictures.svg import escaped
 from lab.schedules.rules import OF_SCHEDULES
-from lab.studio import building, networks, rounds, runs
+from lab.studio import building, networks, predictions, rounds, runs
 from lab.studio.asked import MOST_SEARCHED, network_asked, program_asked, rules_asked
 
 
@@ -29,13 +29,17 @@ CALLS = {
     "plan": rounds.plan,
     "check": rounds.check,
     "rounds": rounds.rounds,
+    "rounds_page": rounds.rounds_page,
     "why": rounds.why,
     "broken": rounds.broken,
     "picture": rounds.picture,
     "run": runs.run,
+    "run_page": runs.run_page,
     "replay": runs.replay,
     "judge": runs.judge,
     "steps": runs.steps,
+    "predict": predictions.predict,
+    "waits": predictions.waits,
     "build": building.begin,
     "built": building.so_far,
 }

@@ -5,6 +5,22 @@ import re
 
 from lab.programs import TOP
 
+# Of a lesson's exercises those that are predictions, each with its place.
+QUESTIONS = {
+    3: [
+        ("node 8 after pulse 3", "example=petersen&tab=rounds&at=2&forest=0&node=8&predict=1"),
+        ("node 10 after pulse 3", "example=petersen&tab=rounds&at=2&forest=0&node=10&predict=1"),
+        (
+            "node 3 of nine after pulse 12",
+            "example=drops&tab=rounds&at=11&forest=0&node=3&predict=1",
+        ),
+    ],
+    4: [("node 2 in pulse 26", "example=triangle&tab=rounds&at=25&node=2&predict=1")],
+    5: [("what node 1 waits for", "example=triangle&tab=adversary&node=1&predict=1")],
+    7: [
+        ("node 2 after pulse 19", "example=path&tab=rounds&program=matching&at=18&node=2&predict=1")
+    ],
+}
 PLACES = [
     (
         "example=petersen&tab=draw",
@@ -54,11 +70,49 @@ PLACES = [
 ]
 
 
+def page_of(name):
+    """A page of docs/learn."""
+    with open(os.path.join(TOP, "docs", "learn", name), encoding="utf-8") as file:
+        return file.read()
+
+
+def numbered(page, title):
+    """{number: text} of the list below a title."""
+    section = page.partition(f"\n## {title}\n")[2].partition("\n## ")[0].partition("\n### ")[0]
+    items = re.findall(r"^(\d)\. (.*?)(?=^\d\. |\Z)", section, re.M | re.S)
+    return {int(number): words for number, words in items}
+
+
 def lessons():
-    """All lessons, as the studio's page has them."""
-    with open(os.path.join(TOP, "docs", "learn", "TUTORIAL.md"), encoding="utf-8") as file:
-        heads = re.findall(r"^## (\d)\. (.*)\n\n\*(.*?)\*", file.read(), re.M)
+    """All lessons, as the studio's page has them: with the whole text, in Markdown, a hint and an answer."""
+    page = page_of("TUTORIAL.md")
+    heads = re.findall(r"^## (\d)\. ([^\n]*)\n\n\*(.*?)\*(.*?)(?=^## )", page, re.M | re.S)
+    hints, answers = numbered(page, "Hints"), numbered(page, "Answers")
     return [
-        {"number": int(number), "title": title, "ask": ask, "open": place, "see": see, "do": do}
-        for (number, title, ask), (place, see, do) in zip(heads, PLACES, strict=True)
+        {
+            "number": int(number),
+            "title": title,
+            "ask": ask,
+            "open": place,
+            "see": see,
+            "do": do,
+            "text": text.partition("\n\n")[2],
+            "hint": hints[int(number)],
+            "answer": answers[int(number)],
+            "questions": QUESTIONS.get(int(number), []),
+        }
+        for (number, title, ask, text), (place, see, do) in zip(heads, PLACES, strict=True)
+    ]
+
+
+def lecture():
+    """The places of the twenty minutes: {minutes, title, open, say}."""
+    rows = re.findall(
+        r"^- \*\*(.*?)\*\*, \[(.*?)\]\(\S*?#(\S*?)\): (.*?)(?=^- |^$)",
+        page_of("TEACHING.md"),
+        re.M | re.S,
+    )
+    return [
+        {"minutes": minutes, "title": title, "open": place, "say": " ".join(say.split())}
+        for minutes, title, place, say in rows
     ]

@@ -1,8 +1,9 @@
 """The calls on networks: what there is, examples, files, networks that are made, and layouts."""
 import base64
 import os
+import re
 from argparse import ArgumentParser
-from math import isqrt
+from math import isqrt, prod
 
 from lab.definitions.programs import PROGRAMS
 from lab.networks.kinds import KINDS
@@ -17,11 +18,14 @@ from lab.programs import TOP
 from lab.schedules.policies import POLICIES
 from lab.schedules.rules import OF_PROGRAMS, OF_SCHEDULES
 from lab.studio.asked import MOST_DRAWN, OPENED, network_asked
-from lab.studio.lessons import lessons
+from lab.studio.dares import DARES
+from lab.studio.lessons import lecture, lessons
 from lab.wrong import Wrong
 
 # How many letters of a file's name are shown.
 MOST_NAME = 80
+# How far two nodes of a random disk are joined, in sides of its square.
+REACH = 0.26
 EXAMPLES = os.path.join(TOP, "examples")
 
 
@@ -38,6 +42,7 @@ def hello(_asked, _tell):
     """What there is to choose from."""
     return {
         "proved": OPENED["is_proved"],
+        "most": MOST_DRAWN,
         "opened": OPENED["network"],
         "examples": sorted(stem(file) for file in os.listdir(EXAMPLES) if file.endswith(".col")),
         "kinds": {
@@ -50,6 +55,8 @@ def hello(_asked, _tell):
             "rounds": {name: said_of(of) for name, of in OF_PROGRAMS.items()},
         },
         "lessons": lessons(),
+        "lecture": lecture(),
+        "dares": DARES,
     }
 
 
@@ -97,18 +104,20 @@ def command_line():
     return options
 
 
+def whole_number(said, name):
+    if not re.fullmatch("[0-9]{1,9}", str(said)):
+        raise Wrong(f"{name}: a whole number from 0 to 999,999,999 is asked for")
+    return int(said)
+
+
 def make(asked, _tell):
     kind = asked["kind"]
-    sizes = [int(asked["sizes"][size]) for size in KINDS[kind].sizes]
-    if (
-        max(sizes) > MOST_DRAWN
-        or len(sizes) == 2
-        and kind != "random"
-        and sizes[0] * sizes[1] > MOST_DRAWN
-    ):
+    sizes = [whole_number(asked["sizes"].get(size, ""), size) for size in KINDS[kind].sizes]
+    nodes = sizes[0] if kind == "random" else prod(sizes)
+    if nodes > MOST_DRAWN:
         raise Wrong(f"the studio draws at most {MOST_DRAWN} nodes")
-    seed = [int(asked["seed"])] if KINDS[kind].is_by_chance else []
-    more = [float(asked.get("reach") or 0.26), *seed] if kind == "disk" else seed
+    seed = [whole_number(asked["seed"], "seed")] if KINDS[kind].is_by_chance else []
+    more = [REACH, *seed] if kind == "disk" else seed
     network = read_network(text_of(KINDS[kind].make(*sizes, *more)), kind)
     network.name = "-".join(map(str, [kind, *sizes, *more]))
     network.places = by_shape(kind, *sizes) or network.places

@@ -5,11 +5,10 @@ import re
 from lab.definitions.nodes import Colouring, last_pulse
 from lab.networks.codes import code_of
 from lab.networks.plan_text import read_plan
-from lab.pictures import broken_picture, why_picture
+from lab.pictures import broken_picture, player_page, why_picture
 from lab.definitions.rounds import Rounds
 from lab.pictures.pages import net_of
 from lab.pictures.picture import OF_PLAN, OF_RUN, Asked, Text, drawing
-from lab.pictures.player_page import film_of
 from lab.pictures.program_rounds import ProgramRounds
 from lab.schedules.ruled_rounds import ruled, smallest_wrong
 from lab.schedules.rules import OF_PROGRAMS
@@ -66,8 +65,16 @@ def rounds(asked, _tell):
     network = network_asked(asked, MOST_ROUNDS)
     program = program_asked(asked)
     if program is not Colouring:
-        return film_of(ProgramRounds(network, program))
-    return film_of(rounds_of(network, asked["network"]))
+        return player_page.film_of(ProgramRounds(network, program))
+    return player_page.film_of(rounds_of(network, asked["network"]))
+
+
+def rounds_page(asked, _tell):
+    """A page that plays the rounds and needs no server, as the command `picture player` draws it."""
+    network, program = network_asked(asked, MOST_ROUNDS), program_asked(asked)
+    if program is not Colouring:
+        return player_page.draw(ProgramRounds(network, program))
+    return player_page.draw(rounds_of(network, asked["network"]))
 
 
 def why(asked, _tell):

@@ -2,8 +2,8 @@
 made step by step."""
 from lab.definitions.nodes import Colouring
 from lab.definitions.programs import program_words
-from lab.pictures.program_rounds import ProgramRounds, is_own, least_wires, rounds_of
-from lab.pictures.watch_page import MOST_ENTRIES, Run, Steps, look_of, steps_of_text
+from lab.pictures.program_rounds import is_own, least_wires, rounds_of
+from lab.pictures.watch_page import MOST_ENTRIES, Run, Steps, draw, look_of, steps_of_text
 from lab.schedules.policies import POLICIES, Policy
 from lab.schedules.rules import OF_SCHEDULES
 from lab.schedules.simulate import Player, events_of, text_of_run
@@ -17,6 +17,7 @@ from lab.studio.asked import (
     program_asked,
     rules_asked,
 )
+from lab.studio.dares import judged as dare_judged, results_of
 from lab.studio.judges import beginning_judged, by_definitions, judged, text_from
 from lab.transcripts.reading import line_of
 from lab.wrong import Wrong
@@ -73,8 +74,11 @@ def played(asked, network, program, tell):
 
 def first_steps(asked, net, program):
     """(kind, vertex, port) of the events that steps of somebody's come to."""
+    steps = str(asked.get("steps") or "")
+    if not steps:
+        return  # even the greetings are the policy's, as `forestlab simulate` plays them
     stepwise = Stepwise(net, program)
-    stepwise.follow(str(asked.get("steps") or "").split("_"))
+    stepwise.follow(steps.split("_"))
     for _, kind, v, port, _ in events_of("\n".join(stepwise.lines), "the steps"):
         yield kind, v, port
 
@@ -128,6 +132,13 @@ def run(asked, tell):
     }
 
 
+def run_page(asked, _tell):
+    """The same of a run, as the command `picture watch` draws it."""
+    network, program = network_asked(asked, MOST_RUN), program_asked(asked)
+    steps = steps_of_text("the run", network, str(asked["transcript"]), None, program)
+    return draw([Run("the run", network, steps)])
+
+
 def singled_out(asked, network):
     """The link or the node that the policy has chosen by its seed, if it chooses one."""
     if asked.get("transcript") or asked.get("how") == "threads":
@@ -139,11 +150,7 @@ def singled_out(asked, network):
 
 def compared(found, network, program):
     """(pulses whose payloads are those of the rounds, pulses compared, payloads), and what the rounds find."""
-    there = rounds_of(network, program)
-    if isinstance(there, ProgramRounds):
-        results = [there.pulses[-1].results[v] for v in network.vertices]
-    else:
-        results = [there.merged[-1][v] + 1 for v in network.vertices]
+    there, results = rounds_of(network, program), results_of(network, program)
     pulses = range(found.pulses[0], found.pulses[1] + 1)
     sent = {
         p: sorted((v, w, f"{word} {what}") for v, w, word, what in there.pulses[p].puts)
@@ -216,6 +223,9 @@ def steps(asked, _tell):
         "list": player.lines,
         "entries": len(player.made),
     }
+    if asked.get("dare"):
+        without = rules_asked(asked, OF_SCHEDULES)
+        told["dare"] = dare_judged(network, program, without, player.chosen, asked["dare"])
     if asked.get("without") or player.is_over:
         return told
     lines = [line_of(entry) for entry in player.made]

@@ -24,6 +24,7 @@ import traceback
 from urllib.parse import parse_qs
 
 from lab.pictures import pages
+from lab.programs import TOP
 from lab.studio import calls
 from lab.studio.building import Building
 from lab.wrong import Wrong
@@ -31,6 +32,9 @@ from lab.wrong import Wrong
 HOST = "127.0.0.1"
 FOLDERS = os.path.join(os.path.dirname(os.path.abspath(__file__)), "page"), pages.FOLDER
 FILES = {name: os.path.join(folder, name) for folder in FOLDERS for name in os.listdir(folder)}
+# The pictures of the lessons.
+PICTURES = os.path.join(TOP, "docs", "pictures")
+FILES |= {f"pictures/{name}": os.path.join(PICTURES, name) for name in os.listdir(PICTURES)}
 KINDS = {
     ".html": "text/html",
     ".css": "text/css",
@@ -41,6 +45,10 @@ KINDS = {
 MOST_ASKED, SECONDS, PROCESSOR_SECONDS, MEMORY = 8 << 20, 120, 110, 2 << 30
 # A browser opens connections on which it says nothing yet.
 SECONDS_TO_ASK, MOST_AT_ONCE = 10, 32
+NO_TOKEN = (
+    "The token is missing or another: open the address that `studio` has printed; if it is open, "
+    "reload this page."
+)
 # The page runs its own scripts alone, and a frame of an answer can reach nothing: it has no origin.
 OF_PAGE = (
     "default-src 'none'; script-src 'self'; style-src 'self' 'unsafe-inline'; img-src 'self' data: blob:; "
@@ -94,7 +102,8 @@ class Answer:
         self.handler, self.lock, self.told = handler, threading.Lock(), 0.0
 
     def line(self, **what):
-        text = json.dumps(what, separators=(",", ":"), ensure_ascii=False).encode() + b"\n"
+        words = json.dumps(what, separators=(",", ":"), ensure_ascii=False)
+        text = words.encode(errors="replace") + b"\n"
         with self.lock:
             self.handler.wfile.write(text)
 
@@ -116,7 +125,7 @@ def object_of(body):
     """The object in JSON that a body is, or None."""
     try:
         found = json.loads(body)
-    except ValueError:
+    except (ValueError, RecursionError):
         return None
     return found if isinstance(found, dict) else None
 
@@ -125,6 +134,11 @@ class Handler(http.server.BaseHTTPRequestHandler):
     """One request; then the connection ends."""
 
     timeout, server_version, sys_version = SECONDS_TO_ASK, "studio", ""
+
+    def setup(self):
+        # One limit for the whole request, however slowly its bytes come: this process ends.
+        signal.alarm(SECONDS_TO_ASK)
+        super().setup()
 
     def log_message(self, *_):
         pass
@@ -145,6 +159,9 @@ class Handler(http.server.BaseHTTPRequestHandler):
             and origin in [None, *(f"http://{name}" for name in own)]
             and site in (None, "same-origin", "none")
         )
+
+    def has_token(self, given):
+        return hmac.compare_digest(given.encode(), self.server.token.encode())
 
     def headed(self, status, kind, policy, length=None):
         self.send_response(status)
@@ -171,6 +188,7 @@ class Handler(http.server.BaseHTTPRequestHandler):
         """A file of the page: they are no secret, and have none in them. A link from elsewhere may open the page."""
         if self.headers.get("Host") not in self.own_names():
             return self.refuse(403, "This server answers to its own address alone.")
+        signal.alarm(0)
         path = self.path.split("?")[0]
         name = "page.html" if path == "/" else path[1:]
         kind = KINDS.get(os.path.splitext(name)[1])
@@ -189,30 +207,31 @@ class Handler(http.server.BaseHTTPRequestHandler):
         _, way, name = (self.path + "//").split("/")[:3]
         if not self.is_from_page():
             return self.refuse(403, "This call isn't from the studio's own page.")
+        if way != "frame" and not self.has_token(self.headers.get("X-Token", "")):
+            return self.refuse(403, NO_TOKEN)
         length = length_of(self.headers.get("Content-Length", ""))
         if length is None or length > MOST_ASKED:
             return self.refuse(413, f"A call has at most {MOST_ASKED:,} bytes.")
         body = self.rfile.read(length)
+        signal.alarm(0)
         if way == "frame":
-            form = parse_qs(body.decode("utf-8", "replace"))
-            asked = {key: values[-1] for key, values in form.items()}
-            given = asked.pop("token", "")
-        else:
-            given = self.headers.get("X-Token", "")
-        if not hmac.compare_digest(given.encode(), self.server.token.encode()):
-            return self.refuse(
-                403,
-                "The token is missing or another: open the address that `studio` has printed; if "
-                "it is open, reload this page.",
-            )
-        if way == "frame" and name in calls.FRAMES:
-            return self.answer_frame(calls.FRAMES[name], asked)
+            return self.frame_asked(name, body)
         if way != "call" or name not in calls.CALLS:
             return self.refuse(404, "There is no such call.")
         asked = object_of(body)
         if asked is None:
             return self.refuse(400, "A call is an object in JSON.")
         return self.answer_call(calls.CALLS[name], asked)
+
+    def frame_asked(self, name, body):
+        """A form has its token among its fields."""
+        form = parse_qs(body.decode("utf-8", "replace"))
+        asked = {key: values[-1] for key, values in form.items()}
+        if not self.has_token(asked.pop("token", "")):
+            return self.refuse(403, NO_TOKEN)
+        if name not in calls.FRAMES:
+            return self.refuse(404, "There is no such call.")
+        return self.answer_frame(calls.FRAMES[name], asked)
 
     def answer_call(self, call, asked):
         self.headed(200, "application/x-ndjson", OF_PAGE)
@@ -224,7 +243,7 @@ class Handler(http.server.BaseHTTPRequestHandler):
     def answer_frame(self, call, asked):
         with limited(self.connection, lambda why: None):
             found = outcome(call, asked, lambda *_, **_more: None)
-        body = (found.get("answer") or calls.page_of_words(found["wrong"])).encode()
+        body = (found.get("answer") or calls.page_of_words(found["wrong"])).encode(errors="replace")
         self.headed(200, "text/html", OF_FRAME, len(body))
         self.wfile.write(body)
 
@@ -237,7 +256,7 @@ def outcome(call, asked, tell):
         return {"wrong": str(why)}
     except MemoryError:
         return {"wrong": "it took too much memory, so it was ended"}
-    except (KeyError, TypeError, ValueError, AttributeError) as why:
+    except Exception as why:  # noqa: BLE001
         at = traceback.extract_tb(why.__traceback__)[-1]
         return {
             "wrong": f"a fault of the studio itself: {type(why).__name__}: {why} "

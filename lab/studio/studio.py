@@ -14,9 +14,10 @@ from lab.networks.reading import form_read, read_any
 from lab.networks.stated import Stated, Unsaid
 from lab.studio.asked import OPENED
 from lab.studio.building import are_built
+from lab.studio.links import judge
 from lab.studio.networks import shown
 from lab.studio.serving import Server
-from lab.words import Parser, called
+from lab.words import Parser, called, text_at
 from lab.wrong import Wrong
 
 PORT, NEXT_PORTS = 8321, 20
@@ -42,8 +43,11 @@ With --own the nodes can run a program of your own, too (docs/learn/OWN_ALGORITH
 the page names no file, it has the choice between those given here. It is run as it is,
 with your rights.
 
-Status: 0 ended by Ctrl-C, 1 the network can't be read or the port is taken, 2 the command
-line is refused.
+With --links it opens nothing: it judges links that a class hands in, a line each, of the
+tab Adversary with a dare in it, and says which are won.
+
+Status: 0 ended by Ctrl-C, or all links could be read, 1 the network or a link can't be
+read or the port is taken, 2 the command line is refused.
 
 Example:
   forestlab studio petersen
@@ -64,6 +68,11 @@ def command_line():
         type=int,
         metavar="N",
         help=f"the port, and no other; else {PORT} or one of the next",
+    )
+    words.add_argument(
+        "--links",
+        metavar="FILE",
+        help="judge the links of a class, a dare a line, and end; - for standard input",
     )
     words.add_argument("--no-browser", action="store_true", help="only print the address")
     words.add_argument(
@@ -129,6 +138,8 @@ def opened(path):
 
 def main(words):
     given = command_line().parse_args(words)
+    if given.links is not None:
+        return judge_links(given.links)
     with tempfile.TemporaryDirectory(prefix="forestplan-studio-") as folder:
         try:
             if given.network is not None:
@@ -144,6 +155,17 @@ def main(words):
             f"studio: {server.address()}\nstudio: Ctrl-C ends it{also}", file=sys.stderr, flush=True
         )
         return serve(server, None if given.no_browser or not can_open() else folder)
+
+
+def judge_links(path):
+    """Says of each link of a file whether it wins its dare."""
+    try:
+        said, are_read = judge(text_at(path).splitlines())
+    except Wrong as why:
+        print(f"studio: {why}", file=sys.stderr)
+        return 1
+    print("\n".join(said))
+    return 0 if are_read else 1
 
 
 def serve(server, folder):

@@ -121,7 +121,7 @@ class Page(Case):
         cls.addClassCleanup(cls.page.end)
         cls.page.size(1280, 800)
         cls.page.go(cls.address)
-        cls.page.until("window.studio && studio.seen.hello", 60)
+        cls.page.until("window.studio && studio.seen.hello && studio.rounds.film", 60)
 
     @classmethod
     def end_server(cls):
@@ -150,11 +150,202 @@ class Page(Case):
     def click(self, place):
         self.page.click(*self.at(place))
 
+    def leave_out(self, boxes, rule):
+        """Clicks the box of a rule: it is left out, or no more."""
+        self.page.value(f"document.querySelector('#{boxes} [value={rule}]').click()")
+
     def sees(self, name, words, seconds=40):
         self.note(name, self.page.until(words, seconds), self.page.text("wrong"))
 
 
 class Drawn(Page):
+    def test_welcome(self):
+        """The rounds of a small network play before the first click, behind three buttons."""
+        self.page.go("about:blank")
+        self.page.go(self.address)
+        self.sees("it plays", "window.studio && studio.time.at > 2")
+        self.sees("to the end", "studio.time.at === 48 && !studio.time.timer", 90)
+        links = self.page.value("Array.from(document.querySelectorAll('#welcome a'), a => a.text)")
+        self.same("three buttons", links, ["Lesson 1", "An example", "Draw your own"])
+        for number, wanted in (
+            (3, "studio.seen.tab === 'draw' && !studio.net.nodes.length"),
+            (2, "studio.seen.tab === 'draw' && studio.net.nodes.length === 10"),
+            (1, "studio.seen.lesson === 1"),
+        ):
+            self.page.value(f"document.querySelector('#welcome a:nth-child({number})').click()")
+            self.sees(links[number - 1], wanted)
+            self.note(
+                "without the buttons", self.page.value("document.getElementById('welcome').hidden")
+            )
+
+    def test_changes(self):
+        """A button, and what plays, leave out the pulses in which nothing happens."""
+        self.go_to("example=petersen&tab=rounds&at=13")
+        self.sees("a place", "document.getElementById('when').textContent === 'pulse 13 of 48'")
+        film = "studio.rounds.film.found.pulses"
+        for wanted in (17, 25, 26):
+            self.page.click_on("#change")
+            self.same("the next change", self.page.value("studio.time.at"), wanted)
+        idle = self.page.value(f"{film}.slice(18, 25).map(one => one.puts.length)")
+        self.same("nothing is sent between", idle, [0] * 7)
+        self.page.value("studio.time.set(17.99); studio.time.toggle()")
+        self.sees("played past", "studio.time.at >= 25")
+        self.note("and soon", self.page.value("studio.time.at") < 27)
+        self.page.value("studio.time.stop()")
+
+    def test_question(self):
+        """A prediction is judged with the reason, and then looked at; a dare goes with the steps."""
+        self.go_to("example=petersen&tab=rounds&at=2&forest=0&node=8&predict=1")
+        self.sees("a question", "document.querySelector('#question input')")
+        answer = "document.querySelector('#question input').value = {}; "
+        answer += "document.querySelector('#question form').requestSubmit()"
+        for said, mark in (("3", "✗ Not 3: 2."), ("2", "✓ Yes: 2.")):
+            self.page.value(answer.format(said))
+            self.sees(mark, f"document.getElementById('question').textContent.includes('{mark}')")
+        self.page.click_on("#question .quiet")
+        self.sees("looked at", "studio.time.at === 3")
+        self.sees(
+            "the next one", "document.getElementById('question').textContent.includes('pulse 4')"
+        )
+        self.go_to("example=path&tab=adversary&dare=ends&lazy=1")
+        self.sees("a dare", "document.getElementById('dared').textContent.startsWith('☐')")
+        self.page.click_on("#chance20")
+        self.sees("on the way", "studio.steps.made.length")
+        for _ in range(3):
+            self.page.value("document.getElementById('chance20').click()")
+            time.sleep(1)
+        self.sees("is won", "document.getElementById('dared').textContent.startsWith('☑')")
+        self.sees("its steps are in the address", "/steps=.*dare=ends/.test(location.hash)")
+
+    def test_saves(self):
+        """What is saved: the network, its run, and pages that play without a server."""
+        self.page.value(KEEP)
+        self.go_to("example=two&tab=run&seed=3")
+        self.sees(
+            "a run", "studio.run.found && studio.run.found.judge && studio.net.nodes.length === 2"
+        )
+        for what, words in (
+            ("network", "e 1 2"),
+            ("transcript", "transcript 2 2"),
+            ("rounds", "pulse by pulse"),
+            ("run", "a run without a clock"),
+        ):
+            self.page.value("kept.length = 0")
+            self.page.choose("save", what)
+            self.sees(f"{what} is saved", "kept.length")
+            saved = self.page.value("kept[0].text()")
+            self.note(f"{what} is itself", words in saved, saved[:200])
+            if what in ("rounds", "run"):
+                self.note("it needs no server", not re.search(r'src="|href="(?!data:)', saved))
+
+    def test_words(self):
+        """What a screen reader is told of a node, and the arrows between the tabs."""
+        label = "document.querySelector('#net [data-node=\"1\"]').getAttribute('aria-label')"
+        for words, wanted in (
+            ("example=two&tab=draw", "node 1: channel 1, neighbours 2"),
+            ("example=two&tab=rounds&at=3&forest=0", "node 1: pulse 3, colour 1 in forest 0"),
+            ("example=two&tab=rounds&at=18", "node 1: pulse 18, channel 1"),
+            ("example=two&tab=adversary", "node 1: pulse 0, waits for ack of 2; safe of 2"),
+            ("example=two&tab=check&plan=0_2", "node 1: no channel"),
+        ):
+            self.go_to(words)
+            self.sees(words, f"{label} === {json.dumps(wanted)}")
+        self.page.value("document.querySelector('[data-tab=draw]').focus()")
+        self.page.key("ArrowLeft", code="ArrowLeft", windowsVirtualKeyCode=37)
+        self.sees("an arrow from the first tab to the last", "studio.seen.tab === 'pictures'")
+
+    def test_lessons(self):
+        """Each lesson has its text with its pictures, a hint and an answer; the lecture its places."""
+        parts = "document.querySelectorAll('#lesson details details')"
+        for number in range(1, 8):
+            self.go_to(f"lesson={number}")
+            self.sees(
+                f"lesson {number}", f"studio.seen.lesson === {number} && {parts}.length === 3"
+            )
+            self.page.value(f"{parts}.forEach(part => {{ part.open = true; }})")
+            self.sees("opened", f"Array.from({parts}).every(part => part.children.length > 1)")
+            said = self.page.text("lesson")
+            left = [mark for mark in ("](", "**", "    $", "\n|") if mark in said]
+            self.note(f"lesson {number} has no marks of its source", not left, left)
+            pictures = "Array.from(document.querySelectorAll('#lesson img'))"
+            self.sees("its pictures", f"{pictures}.every(one => one.naturalWidth)")
+        self.page.choose("lecture", "4")
+        self.sees("minute 12", "studio.time.at === 13 && studio.rounds.film")
+        self.note("what to ask", "whose turn is it?" in self.page.text("lesson"))
+
+    def test_token(self):
+        """A token counts when the server has taken it: a link with a wrong one harms no later one."""
+        place = self.address.partition("?")[0]
+        for name, address in (
+            ("with a wrong token", f"{place}?token=wrong#example=two"),
+            ("after it", f"{place}#example=petersen"),
+        ):
+            self.page.go("about:blank")
+            self.page.go(address)
+            self.sees(f"a link {name}", "window.studio && studio.net.nodes.length > 1")
+        # What the browser itself notes of the wrong one.
+        self.page.faults = [fault for fault in self.page.faults if "403" not in fault]
+
+    def test_back(self):
+        """The browser's Back restores the place, the node and what waits."""
+        self.go_to("example=petersen&tab=rounds&at=15&node=6")
+        self.sees("a place", "studio.time.at === 15 && studio.rounds.film")
+        self.page.click_on("[data-tab=check]")
+        self.sees("another tab", "studio.seen.tab === 'check' && studio.check.verdict")
+        self.page.value("history.back()")
+        self.sees(
+            "Back to it",
+            "studio.time.at === 15 && studio.seen.node === 6 && studio.seen.tab === 'rounds'",
+        )
+        self.go_to("example=chain6&tab=run&seed=7&at=50&slow=2-3")
+        self.sees("a run", "studio.run.found && studio.run.found.judge && studio.time.at === 50")
+        self.page.click_on("[data-tab=rounds]")
+        self.sees("its rounds", "studio.seen.tab === 'rounds' && studio.time.at === 0")
+        self.page.value("history.back()")
+        self.sees("Back to the run", "studio.time.at === 50 && studio.seen.slow.join() === '2,3'")
+        self.go_to("net=0.0_90.0_90.90~1-2_2-3&tab=draw")
+        self.sees("a drawing", "studio.net.nodes.length === 3")
+        self.page.click_on("[data-tab=check]")
+        self.sees("its check", "studio.seen.tab === 'check'")
+        self.page.value("history.back()")
+        self.sees("Back to the drawing", "studio.seen.tab === 'draw'")
+        self.note("nothing was replaced", "Undo" not in self.page.text("hint"))
+
+    def test_numbers(self):
+        """What waits, and the typed plan, keep their nodes when one is deleted, and when that is undone."""
+        self.go_to("example=chain6&tab=check&plan=1_2_1_2_1_2")
+        self.sees("a plan", "studio.check.verdict && studio.check.verdict.ok")
+        numbers = "JSON.stringify([studio.seen.slow, studio.seen.lazy, studio.check.plan])"
+        self.page.value("Object.assign(studio.seen, {slow: [[5, 6]], lazy: [1, 4], node: null})")
+        self.page.click_on("[data-tab=draw]")
+        self.click(1)
+        self.page.click_on("#delete")
+        found = self.page.value(numbers)
+        self.same("without node 1", found, "[[[4,5]],[3],[2,1,2,1,2]]")
+        self.page.click_on("#undo")
+        self.same("undone", self.page.value(numbers), "[[[5,6]],[4],[0,2,1,2,1,2]]")
+        self.page.click_on("#redo")
+        self.same("and done again", self.page.value(numbers), "[[[4,5]],[3],[2,1,2,1,2]]")
+
+    def test_make(self):
+        """The form takes what the server makes."""
+        self.go_to("tab=draw")
+        for sizes, is_made in (
+            ((30, 420, 1000), True),
+            ((401, 12, 1), False),
+            (("", 12, 1), False),
+        ):
+            fields = dict(zip(("nodes", "edges", "seed"), sizes))
+            self.page.value(
+                f"Object.entries({json.dumps(fields)}).forEach(([name, value]) => "
+                "{ document.querySelector(`#make [name=${name}]`).value = value; })"
+            )
+            valid = self.page.value("document.getElementById('make').checkValidity()")
+            self.same(f"sizes {sizes}", valid, is_made)
+            if is_made:
+                self.page.click_on("#make button")
+                self.sees("it is there", f"studio.net.edges.length === {sizes[1]}")
+
     def test_draw(self):
         """Four clicks, four edges, the plan, a drag and its undo, and a link."""
         self.go_to("tab=draw")
@@ -200,18 +391,28 @@ class Drawn(Page):
         )
         self.page.click_on("#next")
         self.note("one step on", self.page.value("studio.time.at") == 5)
-        self.page.choose("without2", "digit")
+        self.leave_out("without2", "digit")
         self.sees(
             "without a rule",
             "document.getElementById('broken').textContent.includes('both have colour')",
         )
+        self.note(
+            "nothing is said of the rounds with all rules",
+            self.page.value("document.getElementById('allrules').hidden"),
+        )
+        self.leave_out("without2", "root")
+        self.sees(
+            "without two rules",
+            "document.querySelector('#picture img[alt=\"without digit,root\"]') && "
+            "location.hash.includes('broken=digit,root')",
+        )
 
     def test_rules_of_other_programs(self):
         """The rules that can be left out are those of the chosen program, and what goes wrong is drawn."""
-        rules = "Array.from(document.getElementById('without2').options, one => one.value).join()"
+        rules = "Array.from(document.querySelectorAll('#without2 input'), one => one.value).join()"
         self.go_to("example=path&tab=rounds&program=matching")
-        self.sees("its rules", f"{rules} === ',partner,last'")
-        self.page.choose("without2", "partner")
+        self.sees("its rules", f"{rules} === 'partner,last'")
+        self.leave_out("without2", "partner")
         self.sees(
             "what goes wrong",
             "document.getElementById('broken').textContent.includes('partner of node 1 is 2')",
@@ -222,7 +423,8 @@ class Drawn(Page):
         self.sees(
             "the address has the rule", "/program=matching.*broken=partner/.test(location.hash)"
         )
-        self.page.choose("without2", "last")
+        self.leave_out("without2", "partner")
+        self.leave_out("without2", "last")
         self.sees(
             "what goes right",
             "document.getElementById('broken').textContent.includes('1,094 networks')",
@@ -232,9 +434,9 @@ class Drawn(Page):
             "document.getElementById('picture').hidden && document.querySelector('#net .node')",
         )
         self.page.choose("program2", "recolouring")
-        self.sees("rules of another program", f"{rules} === ',bars,anew' && !studio.rounds.without")
+        self.sees("rules of another program", f"{rules} === 'bars,anew' && !studio.rounds.without")
         self.page.choose("program2", "leader")
-        self.sees("which may have none", "document.getElementById('without2').parentNode.hidden")
+        self.sees("which may have none", "document.getElementById('rules2').hidden")
         self.go_to("example=two&tab=rounds&program=recolouring&broken=bars")
         self.sees(
             "as the address says",
@@ -250,14 +452,27 @@ class Drawn(Page):
             "document.getElementById('judge').textContent.includes('accepts these 866')",
         )
         self.note("the same as the rounds", "✓" in self.page.text("same"), self.page.text("same"))
+        self.page.value(
+            "window.real = fetch; window.fetch = (to, ...more) => to.includes('replay') "
+            "? Promise.resolve(new Response('no judge', {status: 500})) : real(to, ...more)"
+        )
+        self.page.choose("slider", "60")
+        self.sees(
+            "a judge that fails", "document.getElementById('wrong').textContent === 'no judge'"
+        )
+        self.page.value("window.fetch = real")
         self.page.choose("slider", "120")
         self.sees(
             "judged up to here", "document.getElementById('judgehere').textContent.startsWith('✓')"
         )
+        self.note("takes its line back", not self.page.text("wrong"), self.page.text("wrong"))
         self.click((4, 5))
         self.sees("a click makes a link wait", "studio.seen.slow.length === 2")
         self.go_to("example=chain6&tab=run&seed=7&other=newest.2&at=5")
         self.sees("another order beside", "document.querySelectorAll('#second .node').length === 6")
+        for name in ("judge2", "same2"):
+            said = self.page.text(name)
+            self.note(f"the verdict {name} on it", said.startswith("Second run: ✓"), said)
         self.sees(
             "rows of both", "document.getElementById('now').textContent.includes('second, stamp')"
         )
@@ -294,10 +509,14 @@ class Drawn(Page):
         )
         self.sees("a key that is held makes steps", "studio.steps.made.length > 3")
         self.page.value("clearInterval(often)")
-        self.go_to("example=two&tab=adversary&without=acks&steps=1-2")
+        self.go_to("example=two&tab=adversary&without=acks,fifo&steps=1-2")
         self.sees(
-            "a rule left out",
-            "document.getElementById('rule').textContent.includes('says safe at once')",
+            "two rules left out",
+            "/says safe at once.*may overtake/.test(document.getElementById('rule').textContent)",
+        )
+        self.leave_out("without", "acks")
+        self.sees(
+            "one of them again", "studio.steps.without === 'fifo' && !studio.steps.made.length"
         )
 
     def picture(self, kind, does, *words):
@@ -366,14 +585,20 @@ class Drawn(Page):
         for words, said in (
             ("net=0.0_90.0~1-1", "a wrong edge"),
             ("net=x", "no network"),
-            (two + "~n1-%E0", "malformed"),
+            (two + "~n1-%E0", "can’t be read"),
+            (two + "_1-2", "a wrong edge"),
+            (two + "&tab=run&seed=%", "can’t be read"),
             ("example=../x", "no example"),
-            (two + "&tab=rounds&forest=99&node=9&at=-1", ""),
-            (two + "&tab=constructor", ""),
-            (two + "&tab=run&policy=constructor&slow=1-9_x&lazy=9_x", ""),
-            (two + "&tab=adversary&without=toString", ""),
-            (two + "&tab=pictures&kind=toString", ""),
-            (two + "&tab=pictures&kind=results&program=recolouring&passes=9", ""),
+            (two + "&tab=rounds&forest=99&node=9&at=-1", "left out: forest=99, node=9, at=-1."),
+            (two + "&tab=constructor", "tab=constructor"),
+            (
+                two + "&tab=run&policy=constructor&slow=1-9_x&lazy=9_x",
+                "policy=constructor, slow=1-9_x, lazy=9_x",
+            ),
+            (two + "&tab=adversary&without=toString", "without=toString"),
+            (two + "&tab=pictures&kind=toString", "kind=toString"),
+            (two + "&tab=pictures&kind=results&program=recolouring&passes=9", "passes=9"),
+            (two + "&tab=rounds&at=2&node=1&broken=digit,root", ""),
         ):
             self.go_to(words)
             time.sleep(1)

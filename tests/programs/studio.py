@@ -1,6 +1,7 @@
 """Tests of the server of the studio: whom it answers, what it refuses, what it answers, and that a call ends with its
 browser."""
 import base64
+import contextlib
 import http.client
 import json
 import os
@@ -11,10 +12,12 @@ import socket
 import subprocess
 import sys
 import tempfile
+import threading
 import time
 
+from lab.schedules.policies import POLICIES
 from tests import TOP
-from tests.cases import Case
+from tests.cases import Case, examples, said_by
 
 TRIANGLE = "p edge 3 3\ne 1 2\ne 1 3\ne 2 3\n"
 SLOW = "p edge 4 6\n" + "".join(f"e {v} {w}\n" for v in range(1, 5) for w in range(v + 1, 5))
@@ -190,19 +193,38 @@ class Refusals(Server):
                 "wrong" in self.answer("why", **asked),
                 self.answer("why", **asked),
             )
+        for size in ("", "1e2", "-1", None, float("inf"), 401):
+            got = self.answer("make", kind="ring", sizes={"nodes": size})
+            self.note(f"a ring of {size}", "fault" not in got.get("wrong", "fault"), got)
+        nested = "[" * 100_000
+        self.same("what is nested deeply", self.ask("/call/plan", nested)[0], 400)
+        self.note("half a letter", "\ud800" not in str(self.answer("example", name="\ud800")))
         self.note("still there", self.answer("hello")["answer"]["examples"])
 
     def test_silent(self):
-        """Connections that say nothing, or less than they announce, keep nobody waiting."""
-        silent = [socket.create_connection(("127.0.0.1", self.port)) for _ in range(33)]
-        for end in silent[:3]:
-            end.sendall(
-                f"POST /call/hello HTTP/1.1\r\nHost: 127.0.0.1:{self.port}\r\nX-Token: {self.token}\r\n"
-                "Content-Length: 500\r\n\r\n{".encode()
-            )
+        """Connections whose bytes come slowly, or never, keep nobody waiting for long."""
+        slow = [socket.create_connection(("127.0.0.1", self.port)) for _ in range(33)]
+        request = (
+            f"POST /call/hello HTTP/1.1\r\nHost: 127.0.0.1:{self.port}\r\nX-Token: {self.token}\r\n"
+            "Content-Length: 500\r\n\r\n"
+        ).encode()
+
+        def drip():
+            for byte in request + b"{" * 400:
+                for end in slow:
+                    with contextlib.suppress(OSError):
+                        end.sendall(bytes([byte]))
+                if is_answered.wait(0.25):
+                    return
+
+        is_answered = threading.Event()
+        dripping = threading.Thread(target=drip)
+        dripping.start()
         # It is asked with a limit of its own.
         self.note("33 of them", self.answer("hello").get("answer"))
-        for end in silent:
+        is_answered.set()
+        dripping.join()
+        for end in slow:
             end.close()
 
     def test_port(self):
@@ -323,6 +345,18 @@ class Answers(Server):
         got = self.answer("check", network=TRIANGLE + "b 1 2\n", plan=[2, 3, 1])["answer"]
         self.note("a barred channel", (got["code"], got["at"]) == ("C8", [1]), got)
 
+    def test_seeds(self):
+        """A run by a seed is that of `forestlab simulate`, under each policy."""
+        path = os.path.join(TOP, "examples", "two.col")
+        with open(path, encoding="ascii") as file:
+            network = file.read()
+        for policy in POLICIES:
+            asked = {"network": network, "how": "seed", "policy": policy, "seed": "7"}
+            words = [path, "--policy", policy, "--seed", "7"]
+            wanted = said_by("simulate", *words)[1]
+            got = self.answer("run", **asked)["answer"]
+            self.same(f"policy {policy}", got["text"], wanted)
+
     def test_steps(self):
         """A run made by hand: what is possible, what goes wrong without a rule, and the rest of it by chance."""
         two = "p edge 2 1\ne 1 2\n"
@@ -375,6 +409,55 @@ class Answers(Server):
         self.note(
             "the rest by chance", run["judge"]["ok"] and ["3", "take"] in begins, run["judge"]
         )
+
+    def test_dares(self):
+        """A dare is won by steps, in the studio and in a list of links."""
+        rows = [
+            ("path", {"dare": "ends", "lazy": [1]}, True, "2 of 2 pulses apart"),
+            ("path", {"dare": "apart", "lazy": [1]}, False, "1 of 2 pulses"),
+            ("two", {"dare": "results"}, False, "the same results"),
+            ("path", {"dare": "results", "lazy": [1]}, False, "not all nodes"),
+            ("path", {"dare": "wrong"}, False, "nothing is wrong"),
+        ]
+        networks = {name: text.decode() for name, text in examples().items()}
+        links = ["", "https://localhost/#tab=adversary"]
+        for name, asked, is_won, said in rows:
+            network = networks[name]
+            got = self.answer("steps", network=network, by=200, seed="1", **asked)["answer"]
+            self.same(f"{asked}", got["dare"]["won"], is_won)
+            self.note(f"{asked}, in words", said in got["dare"]["said"], got["dare"])
+            place = f"dare={asked['dare']}&steps={'_'.join(got['made'])}"
+            links.append(f"http://127.0.0.1:8321/#example={name}&tab=adversary&{place}")
+        network = "net=0.0_90.0~1-2~i1-77_2-5~b1-3~n1-Oslo"
+        overtaken = "without=acks,fifo&steps=1-2-1_1"
+        links.append(f"#{network}&{overtaken}&dare=wrong")
+        status, out, _ = said_by("studio", "--links", "-", data="\n".join(links).encode())
+        found = [line.split(": ")[1] for line in out.splitlines()]
+        wanted = ["can't be read", "won", "not won", "not won", "not won", "not won", "won"]
+        self.same("a list of links", (status, found), (1, wanted))
+
+    def test_predictions(self):
+        """What a student says comes beside what the definitions find: colours as lesson 3 works them out."""
+        petersen = examples()["petersen"].decode()
+        edge = "p edge 2 1\ne 1 2\n"
+        for network, asked, found in (
+            *((petersen, {"vertex": 8, "pulse": p}, c) for p, c in enumerate("82311", 2)),
+            *((petersen, {"vertex": 10, "pulse": p}, c) for p, c in enumerate(("10", *"0000"), 2)),
+            (TRIANGLE, {"vertex": 2, "pulse": 26}, "3"),
+            (TRIANGLE, {"vertex": 2, "pulse": 25}, "-"),
+            (edge, {"vertex": 1, "pulse": 1, "program": "leader"}, "leader 2"),
+        ):
+            for said in (f" {found.upper()} ", f"{found}1"):
+                got = self.answer("predict", network=network, said=said, **asked)["answer"]
+                wanted = (said != f"{found}1", found, True)
+                self.same(f"{asked} {said}", (got["right"], got["found"], bool(got["why"])), wanted)
+        for steps, found in (
+            ("", "ack 2, safe 2"),
+            ("1-2", "ack 2, safe 2"),
+            ("2-1_1-2_1-2", "safe 2"),
+        ):
+            got = self.answer("waits", network=edge, vertex=1, steps=steps, said=found)["answer"]
+            self.same(f"what node 1 waits for after {steps}", got["found"], found)
 
     def test_results(self):
         """The picture of what nodes have found, of each program that goes on where the colouring ends. Of a row the

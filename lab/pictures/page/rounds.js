@@ -32,6 +32,36 @@ export class RoundsFilm {
     const {step} = this.found.pulses[p];
     return step ? step[0] : p >= ORIENT && p <= LAST_COLOUR && this.forests ? chosen : null;
   }
+  // Whether nothing is chosen, found or sent in a pulse; and the next one in which something is, or the last one.
+  isIdle(p) {
+    const {step, chosen, results, new: found, puts} = this.found.pulses[p];
+    return p > 0 && p < this.last && !puts.length && (results ? !found.length : step && !Object.keys(chosen).length);
+  }
+  nextChange(p) {
+    let next = Math.min(p + 1, this.last);
+    while (this.isIdle(next)) next++;
+    return next;
+  }
+  // What can be asked of a node at the next pulse: [words, answers to tap], or null.
+  question(v, p, forest) {
+    const next = this.found.pulses[p + 1];
+    if (!next || p < 1) return null;
+    if (next.results) return [`After pulse ${p + 1}: what has node ${v} found?`, []];
+    if (next.step) {
+      const width = this.forests ? (this.last - 12) / this.forests / 3 : 0;
+      const channels = Array.from({length: Math.min(width, 12)}, (_, k) => String(k + 1));
+      return [`In pulse ${p + 1}: which channel does node ${v} choose? (- for none)`, ["-", ...channels]];
+    }
+    return [`After pulse ${p + 1}: which colour has node ${v} in forest ${forest}?`,
+      p + 1 < 6 ? [] : ["0", "1", "2", "3", "4", "5"]];
+  }
+  // What a node has at a pulse, in words.
+  words(v, p, forest) {
+    const {results, colours} = this.found.pulses[p];
+    if (results) return results[v - 1] || "nothing found yet";
+    const channel = v in this.merged[p] ? `channel ${this.merged[p][v] + 1}` : "no channel yet";
+    return colours && forest !== null ? `colour ${colours[v - 1][forest]} in forest ${forest}` : channel;
+  }
   hasChosen(v, p) {
     const [, three, old] = this.found.pulses[p].step, width = (this.last - 12) / this.forests / 3;
     for (let at = p - three * width - old; at <= p; at++) if (v in this.found.pulses[at].chosen) return true;
@@ -100,6 +130,7 @@ export class RoundsFilm {
     stage.draw({node: (v, x, y, r) => this.node(stage, p, shown, v, x, y, r), links: () => this.arrows(stage, p, shown),
       above: () => quiet ? [] : this.messages(stage, p, at - p, forest, why),
       below: Boolean(pulse.results && !this.channels || pulse.step),
+      says: v => `pulse ${p}, ${this.words(v, p, shown)}`,
       label: pulse.results && !this.channels ? v => nameOf(this.net, v).slice(String(v).length).trim()
         : quiet ? v => stage.radius < 9 ? "" : String(v) : null,
       ring: v => v === node ? "var(--glow)" : names.has(v) ? "var(--edge)" : null,

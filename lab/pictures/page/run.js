@@ -60,6 +60,11 @@ function grouped(list) {
 }
 // What a node waits for, in words.
 export function waitsWords(is) { return is.e ? "done" : grouped(is.w) || `nothing: may make pulse ${is.p + 1}`; }
+// What a node has and waits for, in words, for whoever doesn't see its marks.
+export function lookWords(is) {
+  const found = typeof is.c === "string" ? is.c : is.c ? `channel ${is.c}` : "";
+  return [`pulse ${is.p}`, found, is.e ? "done" : "waits for " + waitsWords(is)].filter(Boolean).join(", ");
+}
 // A table of what each node (or one of many) waits for and keeps. `more(v)` gives a last column.
 export function waitsTable(looks, {only = null, lit = null, head = "", more = () => ""}) {
   const shown = html("table");
@@ -143,7 +148,7 @@ export class RunFilm {
     stage.draw({node: (v, x, y, r) => alphaMarks(stage, this.look(v, at), v, x, y, r), bars: false, apart: 4.6,
       above: () => this.wires(stage, stamp, at, {node, only}), below: isWord,
       ring: v => last && last[1] === v ? "var(--glow)" : node === v ? "var(--edge)" : null,
-      label: v => nameOf(this.net, v) + (lazy.includes(v) ? " (waits)" : ""),
+      says: v => lookWords(this.look(v, at)), label: v => nameOf(this.net, v) + (lazy.includes(v) ? " (waits)" : ""),
       edge: (v, w) => heldEdge(v, w, waits.has(v + "-" + w))});
     return at;
   }

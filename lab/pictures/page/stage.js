@@ -169,8 +169,9 @@ export class Stage {
   // Draws all. `edge(v, w)` gives an edge's attributes, `node(v, x, y, r)` the marks of a node, `label(v)` its words;
   // `links()` and `above()` are marks; `ring(v)` is the colour of a ring around it, or nothing. `below` says that
   // something is written below each node. `still` is all that they depend on but for what is above: as long as it is
-  // the same, only that is drawn anew.
-  draw({edge, node, label, ring, links = () => [], above = () => [], bars = true, apart = 2.9, below = false, still}) {
+  // the same, only that is drawn anew. `says(v)` is what a node shows, in words.
+  draw({edge, node, label, says = () => "", ring, links = () => [], above = () => [], bars = true, apart = 2.9,
+    below = false, still}) {
     this.apart = apart;
     this.measure();
     const isStill = still && still.length === this.still.length && still.every((one, k) => one === this.still[k]);
@@ -180,11 +181,11 @@ export class Stage {
       patch(this.edges, this.net.edges.map(([v, w]) => this.line(v, w, {stroke: "var(--edge)", "stroke-width": 1.6,
         ...(edge ? edge(v, w) : {}), "data-edge": v + "-" + w})));
       patch(this.arrows, links());
-      patch(this.nodes, this.net.nodes.map((_, k) => this.group(k + 1, {node, label, ring, bars, below})));
+      patch(this.nodes, this.net.nodes.map((_, k) => this.group(k + 1, {node, label, says, ring, bars, below})));
     }
     patch(this.over, above());
   }
-  group(v, {node, label, ring, bars, below}) {
+  group(v, {node, label, says, ring, bars, below}) {
     const x = this.X(v), y = this.Y(v), r = this.radius, size = Math.max(10, Math.min(13, r * 0.75));
     const colour = ring && ring(v), said = label ? label(v) : nameOf(this.net, v), own = this.net.nodes[v - 1].bars;
     const taken = (below ? [1.57] : []).concat(bars && own.length ? [0.8] : []), turn = this.turn(v, taken);
@@ -199,7 +200,7 @@ export class Stage {
     if (bars) own.slice(0, 4).forEach((bar, n) => parts.push(...barMark(x + r + 8 + n * 19, y + r + 5, 9, bar)));
     const more = `+${own.length - 4}`;
     if (bars && own.length > 4) parts.push(words(x + r + 90, y + r + 5, 11, "var(--wrong)", more, HALO));
-    return mark("g", {class: "node", tabindex: 0, role: "button", "data-node": v, "aria-label": `node ${said || v}`},
+    return mark("g", {class: "node", tabindex: 0, role: "button", "data-node": v, "aria-label": [`node ${said || v}`, says(v)].filter(Boolean).join(": ")},
       parts);
   }
 }

@@ -1,9 +1,10 @@
 import {element} from "./marks.js";
 
-// A slider with a play button. `show` is called with each new place; `speed` says how much of it passes in a second.
+// A slider with a play button. `show` is called with each new place; `speed` says how much of it passes in a second;
+// `past` leaves out places where nothing happens.
 export class Time {
-  constructor({slider, play, back, next, speed}, {show, step, rate, ended}) {
-    Object.assign(this, {slider, button: play, speed, show, step, rate, ended: ended || (() => 0), timer: null, at: 0});
+  constructor({slider, play, back, next, speed}, {show, step, rate, ended = () => 0, past = at => at}) {
+    Object.assign(this, {slider, button: play, speed, show, step, rate, ended, past, timer: null, at: 0});
     play.onclick = () => this.toggle();
     back.onclick = () => { this.stop(); step(-1); };
     next.onclick = () => { this.stop(); step(1); };
@@ -29,7 +30,8 @@ export class Time {
     this.button.textContent = "❚❚ stop";
     let before = null;
     const tick = now => {
-      if (before !== null) this.set(this.at + Math.min(100, now - before) / 1000 * this.speed.value * this.rate());
+      const more = before === null ? 0 : Math.min(100, now - before) / 1000 * this.speed.value * this.rate();
+      if (more) this.set(this.past(this.at + more));
       before = now;
       if (this.at >= +this.slider.max) { this.stop(); return this.ended(); }
       this.timer = requestAnimationFrame(tick);

@@ -1,11 +1,8 @@
 // Calls of the server. A later call of the same key ends the one before: the server ends its process then.
 const KEPT = "studio-token";
-const given = new URLSearchParams(location.search).get("token");
-if (given) {
-  localStorage.setItem(KEPT, given);
-  history.replaceState(null, "", location.pathname + location.hash);
-}
-export const token = given || localStorage.getItem(KEPT) || "";
+const given = new URLSearchParams(location.search).get("token"), kept = localStorage.getItem(KEPT) || "";
+if (given) history.replaceState(null, "", location.pathname + location.hash);
+export let token = given || kept;
 const running = new Map();
 
 // What the server says isn't so.
@@ -53,4 +50,16 @@ export async function call(name, asked = {}, {key = name, progress, part} = {}) 
   } finally {
     if (running.get(key) === control) running.delete(key);
   }
+}
+
+// What there is to choose from. A token counts when the server has taken it: a wrong one in an address takes away none
+// that was kept.
+export async function hello() {
+  const got = await call("hello").catch(fault => {
+    if (!kept || token === kept) throw fault;
+    token = kept;
+    return call("hello");
+  });
+  if (got) localStorage.setItem(KEPT, token);
+  return got;
 }

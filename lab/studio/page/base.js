@@ -18,6 +18,14 @@ export function hide(id, isHidden) { by(id).toggleAttribute("hidden", isHidden);
 export function show() { hooks.show(); }
 export function go(tab, more) { hooks.go(tab, more); }
 export const KEYS = matchMedia("(pointer: coarse)").matches ? "" : "Space plays, arrows step.";
+// What a screen reader says: at most once a second, and nothing while it plays.
+let announcing = null, announced = 0;
+export function announce(words) {
+  clearTimeout(announcing);
+  if (time.timer) return;
+  announcing = setTimeout(() => { announced = Date.now(); say("live", words); },
+    Math.max(150, announced + 1000 - Date.now()));
+}
 // Makes anew what a place says only if it is something else: what is left as it is needs no layout.
 export function say(id, words) { if (by(id).textContent !== words) by(id).textContent = words; }
 export function fill(id, key, parts) {
@@ -31,6 +39,7 @@ export const time = new Time(Object.fromEntries(["slider", "play", "back", "next
   show,
   step: way => tabs[seen.tab].step(way),
   rate: () => tabs[seen.tab].rate(),
+  past: at => tabs[seen.tab].past ? tabs[seen.tab].past(at) : at,
   ended() {
     hooks.link();
     if (tabs[seen.tab].stopped) tabs[seen.tab].stopped();
@@ -75,6 +84,24 @@ export function asks(name, asked, said, does, key = name) {
     if (got) await does(got);
   });
 }
+// A box for each rule that can be left out. `left` are those that are, as an address has them: names with commas.
+export function ruleBoxes(id, rules, left, choose) {
+  const place = by(id), names = left.split(",").filter(Boolean);
+  by(id + "said").textContent = "leave out: " + (names.join(", ") || "no rule");
+  place.replaceChildren(...Object.entries(rules).map(([name, {says}]) => {
+    const label = html("label"), box = html("input", null, {type: "checkbox", value: name}), words = html("span");
+    box.checked = names.includes(name);
+    box.onchange = () => choose(all(`#${id} :checked`).map(one => one.value).join());
+    words.append(html("b", name), `: ${says}`);
+    label.append(box, words);
+    return label;
+  }));
+}
+// What is left out, in a sentence for each rule.
+export function leftOutWords(rules, left) {
+  const names = left.split(",").filter(Boolean);
+  return names.map(name => `Left out: ${rules[name].says}; ${rules[name].without}.`).join(" ");
+}
 export function option(select, value, said, title = "") {
   select.append(html("option", said || value, {value, title}));
 }
@@ -102,6 +129,7 @@ export function count(n, what) { return `${n.toLocaleString("en")} ${what}${n ==
 // What an address says: a name among others, or nothing; a number from 0; a list; and edges, as 2-3_4-5.
 export function among(of, name) { return Object.hasOwn(of, name) ? name : ""; }
 export function whole(said) { return /^\d{1,6}$/.test(said) ? +said : 0; }
+export function rulesOf(of, said) { return (said || "").split(",").filter(name => Object.hasOwn(of, name)).join(); }
 export function listOf(said) { return (said || "").split("_").filter(Boolean); }
 export function edgesOf(said) { return listOf(said).map(pair => pair.split("-").map(Number)); }
 // A click on an edge has its link wait, or no more; and so with a node.

@@ -24,6 +24,7 @@ function showPlan() {
     return note(...spot, SAID[is.code] || is.code);
   };
   stage.draw({above, ring: v => at.includes(v) ? "var(--wrong)" : null,
+    says: v => plan[v - 1] ? `channel ${plan[v - 1]}` : "no channel",
     node: (v, x, y, r) => plan[v - 1] ? channelCircle(x, y, r, plan[v - 1]) : blank(x, y, r),
     edge: (v, w) => isWrong(v, w) ? {stroke: "var(--wrong)", "stroke-width": 5}
       : plan[v - 1] && plan[v - 1] === plan[w - 1] ? CLASH : {}});

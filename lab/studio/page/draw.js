@@ -10,7 +10,9 @@ let timer = null;
 
 function showPlan() {
   const plan = drawn.plan ? drawn.plan.plan : [];
-  stage.draw({ring: v => v === seen.node ? "var(--glow)" : null,
+  const says = v => [plan[v - 1] ? `channel ${plan[v - 1]}` : "", `neighbours ${neighbours(v).join(", ") || "none"}`]
+    .filter(Boolean).join(", ");
+  stage.draw({says, ring: v => v === seen.node ? "var(--glow)" : null,
     edge: (v, w) => seen.edge && seen.edge.join() === `${v},${w}` ? {stroke: "var(--glow)", "stroke-width": 4} : {},
     node: (v, x, y, r) => plan[v - 1] ? channelCircle(x, y, r, plan[v - 1]) : blank(x, y, r)});
   const [undos, redos] = model.depth();
@@ -172,10 +174,24 @@ function askWhat(file, stated, name, {unsaid, choices, wanted, titles}) {
   by("unsaidchoices").replaceChildren(...choices.map(({stated: more, means}) => say(means, () => more)));
   if (columns.length) by("unsaidchoices").append(...columns, say("read these", chosen));
 }
-function download(words, name) {
-  const link = html("a", null, {href: URL.createObjectURL(new Blob([words], {type: "text/plain"})), download: name});
+// What is saved is a text or a page, for whoever has no studio.
+function download(words, ending) {
+  const type = ending === ".html" ? "text/html" : "text/plain", name = (net.name || "network") + ending;
+  const link = html("a", null, {href: URL.createObjectURL(new Blob([words], {type})), download: name});
   link.click();
   setTimeout(() => URL.revokeObjectURL(link.href), 1000);
+}
+export function save(what) {
+  const asked = {network: text(), name: net.name, program: seen.program};
+  if (what === "network") return download(text(), ".col");
+  if (what === "rounds") return asks("rounds_page", asked, "making the page", page => download(page, ".html"));
+  return tried("save", "playing the run", async () => {
+    const transcript = await tabs.run.transcript(null);
+    if (!transcript) return;
+    if (what === "transcript") return download(transcript, ".transcript");
+    const page = await call("run_page", {...asked, transcript});
+    if (page) download(page, ".html");
+  });
 }
 // Making networks.
 export function makeForm() {
@@ -185,7 +201,9 @@ export function makeForm() {
   const fields = () => {
     const is = kinds[kind.value];
     sizes.replaceChildren(...is.sizes.concat(is.chance ? ["seed"] : []).map(name => {
-      const label = html("label", name), input = html("input", null, {type: "number", name, min: 0, max: 400});
+      const label = html("label", name), isNodes = ["nodes", "rows", "columns"].includes(name);
+      const most = isNodes ? {max: seen.hello.most} : {max: 999999999};
+      const input = html("input", null, {type: "number", name, min: 0, required: "", ...most});
       input.value = usual[name];
       label.append(input);
       return label;
@@ -212,7 +230,6 @@ by("tidy").onclick = () => asks("tidy", {network: text()}, "laying it out", ({no
 });
 by("apply").onclick = () => openFile(new File([by("text").value], "the text"), ["--as", "dimacs"], net.name);
 by("file").onchange = () => { if (by("file").files[0]) openFile(by("file").files[0]); by("file").value = ""; };
-by("save").onclick = () => download(text(), (net.name || "network") + ".col");
 
 // The tab Pictures: what the command `picture` draws.
 const KINDS = {
@@ -261,6 +278,7 @@ Object.keys(KINDS).forEach(one => {
   by("kinds").append(button);
 });
 tabs.pictures = {
+  kinds: Object.keys(KINDS),
   hint: () => "", click: () => 0, show: () => 0,
   follow(given) {
     kind = among(KINDS, given.get("kind")) || kind;

@@ -8,27 +8,35 @@ const past = [], future = [], heard = [];
 export let replaced = false;
 
 export function onChange(listener) { heard.push(listener); }
-function tell(what) { heard.forEach(listener => listener(what)); }
+function tell(what, numbers = {}) { heard.forEach(listener => listener(what, numbers)); }
 function kept() { return JSON.stringify(net); }
 function put(text) { Object.assign(net, JSON.parse(text)); }
 
-// A change that can be undone; one with the same key as the last one is part of it, as the moves of a drag.
+// A change that can be undone; one with the same key as the last one is part of it, as the moves of a drag. `removed`
+// is the node that it takes away: those after it get other numbers, and their own again when it is undone.
 let lastKey = null;
-export function change(does, key = null, what = "edit") {
-  if (key === null || key !== lastKey) { past.push(kept()); future.length = 0; }
+export function change(does, key = null, what = "edit", removed = null) {
+  if (key === null || key !== lastKey) { past.push({text: kept(), removed}); future.length = 0; }
   if (past.length > 200) past.shift();
   lastKey = key;
   does(net);
   net.example = "";
   net.edges.sort((a, b) => a[0] - b[0] || a[1] - b[1]);
-  tell(what);
+  tell(what, {removed});
 }
-export function undo() { if (past.length) { future.push(kept()); put(past.pop()); lastKey = null; tell("undo"); } }
-export function redo() { if (future.length) { past.push(kept()); put(future.pop()); lastKey = null; tell("undo"); } }
+function swap(from, to) {
+  const {text: before, removed} = from.pop();
+  to.push({text: kept(), removed});
+  put(before);
+  lastKey = null;
+  return removed;
+}
+export function undo() { if (past.length) tell("undo", {restored: swap(past, future)}); }
+export function redo() { if (future.length) tell("undo", {removed: swap(future, past)}); }
 export function depth() { return [past.length, future.length]; }
 export function load(found, example = "") {
   replaced = net.nodes.length > 0 && !net.example;
-  if (net.nodes.length) { past.push(kept()); future.length = 0; }
+  if (net.nodes.length) { past.push({text: kept(), removed: null}); future.length = 0; }
   lastKey = null;
   Object.assign(net, {name: found.name || "", nodes: found.nodes, edges: found.edges, example});
   tell("load");
@@ -44,7 +52,7 @@ export function removeNode(v) {
   change(n => {
     n.nodes.splice(v - 1, 1);
     n.edges = n.edges.filter(e => e[0] !== v && e[1] !== v).map(e => e.map(one => one > v ? one - 1 : one));
-  });
+  }, null, "edit", v);
 }
 export function neighbours(v) {
   return net.edges.filter(e => e.includes(v)).map(e => e[0] === v ? e[1] : e[0]).sort((a, b) => a - b);
@@ -73,6 +81,10 @@ export function code() {
   more("n", net.nodes.flatMap((n, k) => n.name ? [`${k + 1}-${escapeName(n.name)}`] : []));
   return parts.join("~");
 }
+// What % stands for; a text that can't be read so is refused.
+export function decoded(said) {
+  try { return decodeURIComponent(said); } catch { throw new Wrong(`the address has ${said}, which can’t be read`); }
+}
 function escapeName(name) { return encodeURIComponent(name).replace(/[~_]/g, c => c === "~" ? "%7E" : "%5F"); }
 export function fromCode(words) {
   const [places, edges, ...more] = words.split("~");
@@ -87,11 +99,14 @@ export function fromCode(words) {
     return [+found[1], found[2]];
   });
   const found = {name: "", nodes, edges: pairs(edges).map(([v, w]) => [Math.min(v, +w), Math.max(v, +w)])};
-  if (found.edges.some(e => !nodes[e[1] - 1] || e[0] === e[1])) throw new Wrong("the address has a wrong edge");
+  const isDouble = new Set(found.edges.map(String)).size < found.edges.length;
+  if (isDouble || found.edges.some(e => !nodes[e[1] - 1] || e[0] === e[1])) {
+    throw new Wrong("the address has a wrong edge");
+  }
   more.forEach(part => pairs(part.slice(1)).forEach(([v, said]) => {
     if (part[0] === "i") nodes[v - 1].id = said.replace(/\D/g, "");
     if (part[0] === "b") nodes[v - 1].bars.push(+said || 1);
-    if (part[0] === "n") nodes[v - 1].name = decodeURIComponent(said);
+    if (part[0] === "n") nodes[v - 1].name = decoded(said);
   }));
   return found;
 }

@@ -1,12 +1,22 @@
 // The tab Rounds: the network at each pulse, why a node has its channel, and what goes wrong without a rule.
 import {call} from "./api.js";
-import {KEYS, among, asks, by, capital, fill, go, hang, hide, picture, say, seen, show, stage, tabs, time, tried, whole}
-  from "./base.js";
+import {KEYS, announce, asks, by, capital, fill, go, hang, hide, hooks, leftOutWords, picture, ruleBoxes, rulesOf, say,
+  seen, show, stage, tabs, time, tried, whole} from "./base.js";
 import {html, patch} from "./marks.js";
 import {load as load_, net, text} from "./model.js";
+import {Question} from "./predict.js";
 import {RoundsFilm, roundsLegend} from "./rounds.js";
 
-export const rounds = {forest: 0, why: null, whyOf: null, film: null, of: null, without: ""};
+export const rounds = {forest: 0, why: null, whyOf: null, film: null, of: null, without: "", predicts: false};
+const question = new Question("question", () => {
+  if (!rounds.predicts || !isReady()) return null;
+  const p = Math.floor(time.at), {film, forest} = rounds, {node, program} = seen;
+  if (!node) return {words: "Click a node: what will it have after the next pulse?"};
+  const found = film.question(node, p, forest);
+  if (!found) return {words: p < 1 ? "Go on to pulse 1." : "This is the last pulse."};
+  return {words: found[0], picks: found[1], call: "predict",
+    asked: {network: text(), program, vertex: node, pulse: p + 1, forest}};
+}, () => time.set(Math.floor(time.at) + 1));
 
 export async function load(program = seen.program) {
   const asked = text(), key = program + asked;
@@ -23,6 +33,8 @@ function showAt() {
   rounds.forest = Math.min(rounds.forest, Math.max(0, film.forests - 1));
   const p = film.draw(stage, time.at, {forest: rounds.forest, node, why}), [caption, said] = film.said(p, node);
   say("when", `pulse ${p} of ${film.last}`);
+  const ofNode = node ? ` Node ${node}: ${film.words(node, p, film.forestAt(p, rounds.forest))}.` : "";
+  announce(`pulse ${p}. ${said}${ofNode}`);
   fill("said", caption + said, () => [html("b", caption), html("br"), said]);
   const chips = by("forests"), hasFocus = chips.contains(document.activeElement);
   fill("forests", [p, rounds.forest, film.forests].join(), () => film.chips(p, rounds.forest, f => {
@@ -30,7 +42,10 @@ function showAt() {
     show();
   }));
   if (hasFocus && chips.children.length) chips.children[rounds.forest].focus();
-  const [box, parts] = node && film.forests ? film.strips(p, node) : ["0 0 350 0", []];
+  // What comes is seen when it is looked at.
+  question.show();
+  by("why").hidden = rounds.predicts;
+  const [box, parts] = node && film.forests && !rounds.predicts ? film.strips(p, node) : ["0 0 350 0", []];
   hide("strips", !parts.length);
   by("strips").setAttribute("viewBox", box);
   patch(by("strips"), parts);
@@ -80,11 +95,10 @@ function askBroken() {
   const asked = {network: text(), name: net.name, without: rounds.without, program: seen.program};
   asks("broken", asked, "looking for what goes wrong", ({here, words, found, picture: svg}) => {
     if (seen.tab !== "rounds") return;
-    const rule = rulesHere()[rounds.without];
     const draw = html("button", "draw this smallest network"), back = html("button", "back to all rules");
     draw.onclick = () => load_(found);
-    back.onclick = () => { by("without2").value = ""; by("without2").onchange(); };
-    place.append(html("p", `Left out: ${rule.says}; ${rule.without}.`, {class: "soft"}), html("p",
+    back.onclick = () => leaveOut("");
+    place.append(html("p", leftOutWords(rulesHere(), rounds.without), {class: "soft"}), html("p",
       words.map(capital).join(". ") + (found ? "; the picture is of a smallest network on which they go wrong." : "."),
       {class: here ? "bad" : ""}), found ? draw : "", " ", back);
     if (svg) hang(svg, "without " + rounds.without); else { stageHas(false); stage.fit(); show(); }
@@ -93,7 +107,18 @@ function askBroken() {
 function stageHas(isPicture) {
   by("picture").hidden = !isPicture;
   by("net").style.display = isPicture ? "none" : "";
-  by("time").hidden = isPicture;
+  by("time").hidden = by("allrules").hidden = isPicture;
+}
+function leaveOut(left) {
+  rounds.without = left;
+  showRules();
+  askBroken();
+  show();
+  hooks.link();
+}
+function showRules() {
+  ruleBoxes("without2", rulesHere(), rounds.without, leaveOut);
+  by("rules2").hidden = !Object.keys(rulesHere()).length;
 }
 tabs.rounds = {
   load, forest: () => rounds.forest, show: showAt,
@@ -104,19 +129,16 @@ tabs.rounds = {
     seen.node = v === seen.node ? null : v;
     tried("why", "looking for the reasons", askWhy);
   },
-  enter() {
-    const rules = rulesHere();
+  enter(more = {}) {
     by("program2").value = seen.program;
-    rounds.without = among(rules, rounds.without);
-    fill("without2", seen.program, () => [html("option", "no rule", {value: ""}), ...Object.keys(rules).map(name =>
-      html("option", `${name}: ${rules[name].says}`, {value: name}))]);
-    by("without2").parentNode.hidden = !Object.keys(rules).length;
-    by("without2").value = rounds.without;
+    rounds.without = rulesOf(rulesHere(), rounds.without);
+    showRules();
     tried("rounds", "asking for the rounds", async () => {
       if (!await load() || seen.tab !== "rounds") return;
       time.range(0, rounds.film.last);
       roundsLegend(by("roundslegend"), rounds.film);
       time.set(time.at);
+      if (more.play) time.toggle();
       await askWhy();
     });
     if (!isReady()) {
@@ -128,16 +150,21 @@ tabs.rounds = {
   },
   step: way => time.set(way > 0 ? Math.floor(time.at + 1) : Math.ceil(time.at - 1)),
   rate: () => 0.8,
+  // What plays leaves out the pulses in which nothing happens.
+  past: at => isReady() && rounds.film.isIdle(Math.floor(at)) ? rounds.film.nextChange(Math.floor(at)) : at,
   link(add) {
     add("at", Math.round(time.at * 100) / 100);
     add("forest", rounds.forest);
     add("node", seen.node);
     add("broken", rounds.without);
+    add("predict", rounds.predicts ? 1 : 0);
   },
   follow(given) {
     rounds.forest = whole(given.get("forest"));
-    rounds.without = among(rulesHere(), given.get("broken"));
+    rounds.without = rulesOf(rulesHere(), given.get("broken"));
+    rounds.predicts = by("predicts").checked = given.get("predict") === "1";
   },
 };
 by("program2").onchange = () => { seen.program = by("program2").value; time.at = 0; tabs.rounds.enter(); };
-by("without2").onchange = () => { rounds.without = by("without2").value; askBroken(); show(); };
+by("change").onclick = () => { time.stop(); time.set(rounds.film.nextChange(Math.floor(time.at))); };
+by("predicts").onchange = () => { rounds.predicts = by("predicts").checked; show(); hooks.link(); };

@@ -1,10 +1,10 @@
 // The tab No clock: a run by a seed or by real threads, its verdicts, another order or the rounds beside it.
 import {call} from "./api.js";
-import {KEYS, all, among, by, capital, fill, hide, listOf, progress, say, seen, show, stage, tabs, time,
+import {KEYS, all, among, announce, by, capital, fill, hide, listOf, progress, say, seen, show, stage, tabs, time,
   toggle, tried, wrong} from "./base.js";
-import {net, text} from "./model.js";
+import {decoded, net, text} from "./model.js";
 import {rounds} from "./rounds_tab.js";
-import {RunFilm, runLegend, waitsTable} from "./run.js";
+import {RunFilm, lookWords, runLegend, waitsTable} from "./run.js";
 import {Stage} from "./stage.js";
 
 // `steps` come first, as the tab Adversary has made them; `other` is the policy and the seed of a second run.
@@ -28,7 +28,7 @@ function take(found, {program, network}, isPart) {
   Object.assign(run, {found, film: new RunFilm(found, net), of: program + network, isPart, judgedAt: null});
   by("table").key = null;
   by("judgehere").textContent = "";
-  if (!isPart) return verdicts(found);
+  if (!isPart) return verdicts(found, run.film, "");
   by("same").textContent = "";
   by("judge").className = "verdict soft";
   by("judge").textContent = "This is its beginning: the rest is on its way.";
@@ -51,6 +51,7 @@ async function loadOther() {
   const got = await call("run", wanted, {progress, key: "run2"});
   if (!got) return false;
   Object.assign(run, {key2: key, film2: new RunFilm(got, net), found2: got});
+  verdicts(got, run.film2, "2");
   return true;
 }
 function isReady() { return run.film && run.of === seen.program + text(); }
@@ -126,6 +127,8 @@ function showAt() {
     say("when", "stamp " + Math.floor(time.at));
   }
   run.at = at;
+  const ofNode = seen.node ? ` Node ${seen.node}: ${lookWords(run.film.look(seen.node, at))}.` : "";
+  announce(by("now").textContent + ofNode);
   // What the judge has said of another place isn't left beside this one.
   if (run.judgedAt !== at) say("judgehere", "");
   const results = run.found.results || [], last = run.film.last(at);
@@ -152,23 +155,25 @@ function showRounds(at) {
   by("small").setAttribute("aria-label", `the rounds, pulse ${p}`);
   say("besidesaid", ` (pulse ${p})`);
 }
-// What is said of the whole run.
-function verdicts(found) {
+// What is said of a whole run; `which` is "2" of the other order beside it.
+function verdicts(found, film, which) {
   const {judge} = found, entries = judge.entries.toLocaleString("en"), [same, pulses_, payloads] = found.same;
-  by("judge").className = "verdict " + (judge.ok ? "good" : "bad");
-  by("judge").textContent = judge.ok ? `✓ ${judge.by} accepts these ${entries} entries, a whole run.`
-    : `✗ ${judge.by}: ${judge.said}`;
-  const {film} = run, end = film.table.rows.length;
+  const judged = by("judge" + which), compared = by("same" + which), of = which ? "Second run: " : "";
+  judged.className = "verdict " + (judge.ok ? "good" : "bad");
+  judged.textContent = of + (judge.ok ? `✓ ${judge.by} accepts these ${entries} entries, a whole run.`
+    : `✗ ${judge.by}: ${judge.said}`);
+  const end = film.table.rows.length;
   const ends = found.results.every((result, k) => film.look(k + 1, end).c === result);
   const said = `${same === pulses_ ? "✓" : "✗"} Beside the rounds: the same payloads in ${same} of ${pulses_} pulses `
     + `(${payloads.toLocaleString("en")} of them)`;
-  by("same").className = "verdict " + (same === pulses_ ? "good" : "bad");
-  by("same").textContent = said + (found.cut ? ", as far as it is shown." : ends ? ", and the same results." : ".");
+  compared.className = "verdict " + (same === pulses_ ? "good" : "bad");
+  compared.textContent = of + said + (found.cut ? ", as far as it is shown." : ends ? ", and the same results." : ".");
 }
 function judgeSoon() {
   clearTimeout(judgeTimer);
   if (time.timer || run.film2) return;
-  judgeTimer = setTimeout(() => judgeHere().catch(fault => wrong(fault.message)), 150);
+  const fails = fault => wrong(fault.message, "replay");
+  judgeTimer = setTimeout(() => judgeHere().then(() => wrong("", "replay"), fails), 150);
 }
 // The judge plays the entries up to here, and says where each node is: the page's own account has to agree.
 async function judgeHere() {
@@ -244,14 +249,14 @@ tabs.run = {
     add("beside", by("beside").checked ? 1 : 0);
   },
   follow(given) {
-    by("seed").value = given.has("seed") ? decodeURIComponent(given.get("seed")) : "1";
+    by("seed").value = given.has("seed") ? decoded(given.get("seed")) : "1";
     by("policy").value = among(seen.hello.policies, given.get("policy")) || "random";
     by("made").value = given.get("how") === "threads" ? "threads" : "seed";
     by("beside").checked = given.get("beside") === "1";
     run.transcript = null;
     run.steps = given.get("tab") === "run" ? listOf(given.get("steps")) : [];
     const [policy, seed] = (given.get("other") || "").split(".");
-    run.other = among(seen.hello.policies, policy) ? {policy, seed: decodeURIComponent(seed || "1")} : null;
+    run.other = among(seen.hello.policies, policy) ? {policy, seed: decoded(seed || "1")} : null;
     by("two").checked = Boolean(run.other);
     by("policy2").value = policy && run.other ? policy : "newest";
     by("seed2").value = run.other ? run.other.seed : "2";

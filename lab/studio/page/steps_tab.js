@@ -1,20 +1,29 @@
 // The tab Adversary: whoever looks is the network, and chooses which message is taken next and which node pulses.
 import {token} from "./api.js";
-import {all, among, asks, busy, by, go, hooks, listOf, seen, show, stage, tabs, toggle} from "./base.js";
+import {all, among, announce, asks, busy, by, go, hooks, leftOutWords, listOf, ruleBoxes, rulesOf, say, seen, show,
+  stage, tabs, toggle} from "./base.js";
 import {html} from "./marks.js";
 import {net, text} from "./model.js";
-import {alphaMarks, heldEdge, queueMarks, waitsWords} from "./run.js";
+import {Question} from "./predict.js";
+import {alphaMarks, heldEdge, lookWords, queueMarks, waitsWords} from "./run.js";
 import {nameOf} from "./stage.js";
 
 // `made` are the steps so far, as `3` (node 3 makes its next pulse) or `2-1` (node 2 takes the next wire from node 1).
-export const steps = {made: [], found: null, without: ""};
+export const steps = {made: [], found: null, without: "", predicts: false, dare: ""};
+const question = new Question("question2", () => {
+  if (!steps.predicts) return null;
+  const {node, program} = seen, {without, made} = steps;
+  if (!node) return {words: "Click a node that can’t make its pulse: what does it wait for?"};
+  return {words: `What does node ${node} wait for? As ack 2, safe 3: the word, and of whom; or nothing.`, call: "waits",
+    asked: {network: text(), program, without, steps: made.join("_"), vertex: node}};
+});
 const KEYED = 9;
 
 let asking = 0;
 async function ask(more = {}) {
-  const {slow, lazy, program} = seen, {without, made} = steps;
+  const {slow, lazy, program} = seen, {without, made, dare} = steps;
   asking += 1;
-  await asks("steps", {network: text(), program, slow, lazy, without, steps: made.join("_"), ...more},
+  await asks("steps", {network: text(), program, slow, lazy, without, dare, steps: made.join("_"), ...more},
     "playing these steps", found => { Object.assign(steps, {found, made: found.made}); show(); });
   asking -= 1;
 }
@@ -42,9 +51,12 @@ function showAt() {
   const isWord = typeof is.looks[0].c === "string";
   stage.draw({node: (v, x, y, r) => alphaMarks(stage, is.looks[v - 1], v, x, y, r), bars: false, apart: 4.6,
     below: isWord, ring: v => isFree(String(v)) ? "var(--good)" : v === seen.node ? "var(--edge)" : null,
-    label: v => nameOf(net, v) + (seen.lazy.includes(v) ? " (held)" : ""),
+    says: v => steps.predicts ? `pulse ${is.looks[v - 1].p}` : lookWords(is.looks[v - 1]), label: v => nameOf(net, v) + (seen.lazy.includes(v) ? " (held)" : ""),
     edge: (v, w) => heldEdge(v, w, slow.has(v + "-" + w)), above: () => is.wires.flatMap(queue)});
   sayWhere(is);
+  question.show();
+  by("dared").className = is.dare && is.dare.won ? "good" : "soft";
+  say("dared", is.dare ? `${is.dare.won ? "☑ Won" : "☐ Not yet"}: ${is.dare.said}.` : "");
   listSteps(is);
   by("list").value = is.list.join("\n") + "\n";
   by("list").scrollTop = by("list").scrollHeight;
@@ -66,6 +78,7 @@ function sayWhere(is) {
     lines.push(html("p", `${agrees ? "✓" : "✗"} ${judge.by} ${said}`, {class: agrees ? "good" : "bad"}));
   }
   box.replaceChildren(...lines);
+  announce(box.textContent);
 }
 // What can happen now, node by node, as buttons; of a large network the chosen node's, or the first ones.
 function listSteps(is) {
@@ -79,7 +92,8 @@ function listSteps(is) {
       seen.lazy.includes(v) ? "let go" : "hold its pulse", {class: "quiet", "data-key": "hold " + v,
         "aria-label": `hold the pulse of node ${v}`, "aria-pressed": seen.lazy.includes(v)});
     hold.onclick = () => { toggle("lazy", v); show(); };
-    line.append(html("b", `node ${v} `), html("span", `pulse ${look.p}: ${waitsWords(look)} `, {class: "soft"}), hold);
+    line.append(html("b", `node ${v} `), html("span", `pulse ${look.p}${steps.predicts ? "" : ": " + waitsWords(look)} `,
+      {class: "soft"}), hold);
     (byNode.get(v) || []).forEach(step => {
       const free = isFree(step), button = html("button", null, {"data-step": step, "data-key": step,
         class: kindOf(is, step)});
@@ -152,13 +166,14 @@ tabs.adversary = {
     return true;
   },
   enter(more = {}) {
-    const rule = seen.hello.rules.orders[steps.without];
+    const {orders} = seen.hello.rules;
     by("program3").value = seen.program;
-    by("without").value = steps.without;
-    by("rule").textContent = rule ? `Left out: ${rule.says}; ${rule.without}.` : "";
+    ruleBoxes("without", orders, steps.without, leaveOut);
+    by("rule").textContent = leftOutWords(orders, steps.without);
+    by("dare").value = steps.dare;
     closeFrame();
     by("searchrow").hidden = net.nodes.length > 4;
-    by("handover").disabled = Boolean(rule);
+    by("handover").disabled = Boolean(steps.without);
     steps.found = null;
     ["undostep", "chance", "chance20", "instep"].forEach(id => { by(id).disabled = true; });
     ["stepsaid", "possible"].forEach(id => by(id).replaceChildren());
@@ -169,13 +184,22 @@ tabs.adversary = {
   link(add) {
     add("steps", steps.made.join("_"));
     add("without", steps.without);
+    add("predict", steps.predicts ? 1 : 0);
+    add("dare", steps.dare);
     add("node", seen.node);
   },
   follow(given) {
-    steps.without = among(seen.hello.rules.orders, given.get("without"));
+    steps.without = rulesOf(seen.hello.rules.orders, given.get("without"));
+    steps.predicts = by("predicts2").checked = given.get("predict") === "1";
+    steps.dare = among(seen.hello.dares, given.get("dare"));
     steps.made = given.get("tab") === "adversary" ? listOf(given.get("steps")) : [];
   },
 };
+function leaveOut(left) {
+  steps.without = left;
+  tabs.adversary.enter({fresh: true});
+  hooks.link();
+}
 function seed() { return String(Math.floor(Math.random() * 1e9)); }
 by("undostep").onclick = () => from(steps.made.slice(0, -1));
 by("chance").onclick = () => goOn({by: 1, seed: seed()});
@@ -184,11 +208,8 @@ by("instep").onclick = () => goOn({in_step: true});
 by("anew").onclick = () => from([]);
 by("handover").onclick = () => { by("made").value = "seed"; go("run", {steps: steps.made, at: 0}); };
 by("playlist").onclick = () => ask({list: by("list").value});
-by("without").onchange = () => {
-  steps.without = by("without").value;
-  tabs.adversary.enter({fresh: true});
-  hooks.link();
-};
 by("program3").onchange = () => { seen.program = by("program3").value; tabs.adversary.enter({fresh: true}); };
+by("predicts2").onchange = () => { steps.predicts = by("predicts2").checked; show(); hooks.link(); };
+by("dare").onchange = () => { steps.dare = by("dare").value; ask(); hooks.link(); };
 by("search").onclick = search;
 by("unsearch").onclick = closeFrame;

@@ -1,14 +1,15 @@
 // The studio: its tabs, the mouse on the stage, keys, and the address, which says all that is seen.
-import {call, cancel, token} from "./api.js";
-import {all, asks, by, edgesOf, hooks, listOf, option, say, seen, show, stage, tabs, time, tried, whole, wrong,
+import {call, cancel, hello as greeted, token} from "./api.js";
+import {all, asks, by, edgesOf, hooks, listOf, option, rulesOf, say, seen, show, stage, tabs, time, tried, whole, wrong,
   zoomPicture} from "./base.js";
-import {askPlan, drawn, inspect, makeForm, openFile} from "./draw.js";
+import {askPlan, drawn, inspect, makeForm, openFile, save} from "./draw.js";
 import {check} from "./check.js";
 import {rounds} from "./rounds_tab.js";
 import {run} from "./run_tab.js";
 import {steps} from "./steps_tab.js";
 import {blank, html} from "./marks.js";
 import * as model from "./model.js";
+import {textOf} from "./text.js";
 import {change, net, text} from "./model.js";
 import {watchBuild} from "./proved.js";
 
@@ -23,7 +24,7 @@ hooks.show = () => {
   const tab = tabs[seen.tab], isThere = !net.nodes.length && seen.tab !== "draw" || tab.show() !== false;
   // Nothing is known of this network yet, and nothing of another one is left.
   if (!isThere) { stage.draw({node: (v, x, y, r) => blank(x, y, r)}); say("when", ""); }
-  ["back", "play", "next", "slider"].forEach(id => { by(id).disabled = !isThere; });
+  ["back", "play", "next", "change", "slider"].forEach(id => { by(id).disabled = !isThere; });
   by("empty").hidden = net.nodes.length > 0;
   say("hint", isReplaced ? "Undo (Ctrl-Z, or in Draw) brings your drawing back." : tab.hint());
   say("name", [net.name, seen.program].filter(one => one && one !== "colouring").map(one => "· " + one).join(" "));
@@ -33,21 +34,28 @@ hooks.go = (name, more = {}) => {
   time.stop();
   isReplaced = false;
   left[seen.tab] = time.at;
-  time.at = more.at === undefined ? left[name] || 0 : more.at;
-  // The browser's way back leads to the tab before.
+  // The browser's way back leads to the tab before, and to its place.
   link();
   if (name !== seen.tab) history.pushState(null, "", location.href);
+  time.at = more.at === undefined ? left[name] || 0 : more.at;
   seen.tab = name;
   enter(more);
   link();
 };
+let isWelcomed = false;
 function enter(more = {}) {
   const name = seen.tab;
+  by("welcome").hidden = !isWelcomed;
+  isWelcomed = false;
   // What another tab has asked for isn't wanted any more.
   CALLS.forEach(cancel);
-  all("nav button").forEach(one => one.setAttribute("aria-selected", one.dataset.tab === name));
+  all("nav button").forEach(one => {
+    one.setAttribute("aria-selected", one.dataset.tab === name);
+    one.tabIndex = one.dataset.tab === name ? 0 : -1;
+  });
   all("[data-panel]").forEach(one => { one.hidden = one.dataset.panel !== name; });
   by("time").hidden = !TIMED.includes(name);
+  by("change").hidden = name !== "rounds";
   by("net").style.display = name === "pictures" ? "none" : "";
   by("picture").hidden = name !== "pictures";
   by("picture").replaceChildren();
@@ -58,7 +66,18 @@ function enter(more = {}) {
   tabs[name].enter(more);
   hooks.show();
 }
-model.onChange(what => {
+// A node that goes or comes back gives those after it other numbers: what is held, and the typed plan, go along.
+function renumber({removed, restored}) {
+  if (!removed && !restored) return;
+  const now = v => removed ? (v === removed ? 0 : v - (v > removed)) : v + (v >= restored);
+  seen.slow = seen.slow.map(e => e.map(now)).filter(e => e.every(Boolean));
+  seen.lazy = seen.lazy.map(now).filter(Boolean);
+  seen.node = seen.node && now(seen.node) || null;
+  if (removed) check.plan.splice(removed - 1, 1);
+  else check.plan.splice(restored - 1, 0, 0);
+}
+model.onChange((what, numbers) => {
+  renumber(numbers);
   // Moving changes no plan, and the text only when the node is there.
   isMoved = what === "move";
   if (isMoved) return show();
@@ -95,6 +114,16 @@ function spread() {
   const [a, b] = Array.from(fingers.values()), wide = a.clientX - b.clientX, high = a.clientY - b.clientY;
   return [Math.hypot(wide, high), b.clientX + wide / 2, b.clientY + high / 2];
 }
+// The message under the pointer; a finger may miss it by a few pixels, so that each is 36 wide for it.
+function stepAt(event) {
+  const on = event.target.closest("[data-step]");
+  if (on || event.pointerType !== "touch") return on;
+  const off = ({left, right, top, bottom}) => Math.max(left - event.clientX, event.clientX - right, 0)
+    + Math.max(top - event.clientY, event.clientY - bottom, 0);
+  const near = Array.from(svg.querySelectorAll("[data-step]"), one => [off(one.getBoundingClientRect()), one]);
+  const [far, found] = near.reduce((best, one) => one[0] < best[0] ? one : best, [11, null]);
+  return far < 11 ? found : null;
+}
 svg.onmousedown = event => event.preventDefault();
 svg.onpointerdown = event => {
   if (event.button) return;
@@ -102,7 +131,7 @@ svg.onpointerdown = event => {
   fingers.set(event.pointerId, event);
   svg.setPointerCapture(event.pointerId);
   if (fingers.size > 1) { drag = null; apart = spread(); return; }
-  const v = stage.nodeAt(event, event.pointerType === "touch" ? 14 : 6), token = event.target.closest("[data-step]");
+  const v = stage.nodeAt(event, event.pointerType === "touch" ? 14 : 6), token = stepAt(event);
   drag = {v, step: token && token.dataset.step, x: event.clientX, y: event.clientY, moved: false,
     key: "drag " + Date.now()};
 };
@@ -159,6 +188,8 @@ function link() {
   clearTimeout(linking);
   // Another address is about to be followed: it isn't written over.
   if (!seen.hello || isFollowing || time.timer || drag && drag.moved || location.hash !== linked) return;
+  // The first screen is seen again when the page is.
+  if (!by("welcome").hidden) return;
   const shown = net.example ? "example=" + net.example : net.nodes.length ? "net=" + model.code() : "";
   const words = [shown, "tab=" + seen.tab];
   const add = (name, value) => { if (value) words.push(`${name}=${value}`); };
@@ -177,39 +208,73 @@ function link() {
 function pairsOf(hash) {
   return new Map(hash.split("&").map(part => [part.split("=")[0], part.split("=").slice(1).join("=")]));
 }
-async function follow() {
+// What moves before the first click: the rounds of a small network, behind the first buttons.
+function welcome() {
+  isWelcomed = true;
+  by("speed").value = "3";
+  const play = matchMedia("(prefers-reduced-motion: reduce)").matches ? "at=48" : "play=1";
+  return follow(`#example=petersen&tab=rounds&${play}`);
+}
+async function follow(place = location.hash) {
   if (location.hash === linked && linked) return;
   const mine = ++follows;
   time.stop();
   linked = location.hash;
   isFollowing = true;
   const {hello} = seen;
-  let given = pairsOf(location.hash.slice(1));
+  let given = pairsOf(place.slice(1));
   const lesson = hello.lessons.find(one => String(one.number) === given.get("lesson"));
   seen.lesson = lesson ? lesson.number : null;
   if (lesson && !given.has("tab")) given = pairsOf(lesson.open);
   showLesson(lesson);
   const isRead = await tried("example", "opening", async () => {
-    const example = given.get("example"), got = example && await call("example", {name: example});
+    const example = given.get("example") || "", isHere = example ? example === net.example
+      : given.has("net") ? given.get("net") === model.code() : net.nodes.length > 0;
+    const got = example && !isHere && await call("example", {name: example});
     // Another address has been followed since.
-    if (mine !== follows || example && !got) return;
-    const found = got ? got : given.has("net") ? model.fromCode(given.get("net"))
-      : net.nodes.length ? null : hello.opened;
+    if (mine !== follows || example && !isHere && !got) return;
+    const found = isHere ? null : got || (given.has("net") ? model.fromCode(given.get("net")) : hello.opened);
     seen.tab = "draw";
-    if (found) model.load(found, example || "");
+    if (found) model.load(found, example);
     seen.program = hello.programs.includes(given.get("program")) ? given.get("program") : "colouring";
     const isNode = v => v >= 1 && v <= net.nodes.length, node = whole(given.get("node"));
     Object.assign(seen, {slow: edgesOf(given.get("slow")).filter(e => model.hasEdge(...e)),
       lazy: listOf(given.get("lazy")).map(whole).filter(isNode), node: isNode(node) ? node : null});
     Object.values(tabs).forEach(tab => tab.follow(given));
-    time.at = +given.get("at") || 0;
+    time.at = Math.max(0, +given.get("at") || 0);
     seen.tab = tabs[given.get("tab")] ? given.get("tab") : "draw";
   });
   if (mine !== follows) return;
   isFollowing = false;
-  const why = by("wrong").textContent;
-  enter();
+  const why = by("wrong").textContent, unread = isRead ? notRead(given) : [];
+  enter({play: given.get("play") === "1"});
   if (!isRead) wrong(why);
+  else if (unread.length) wrong("This can’t be read in the address, and is left out: " + unread.join(", ") + ".");
+}
+// What an address says and the page can't read: a value that isn't of its kind, or a word that means nothing.
+const NUMBER = /^\d{1,9}(\.\d+)?$/, isSmall = (said, most) => NUMBER.test(said) && +said <= most;
+function readers() {
+  const {dares, lessons, policies, programs, rules} = seen.hello, isAmong = list => said => list.includes(said);
+  const isRules = of => said => rulesOf(of, said) === said, isPolicy = said => Object.hasOwn(policies, said);
+  const isNode = v => whole(v) >= 1 && whole(v) <= net.nodes.length, any = () => true;
+  return {
+    play: isAmong(["1"]), predict: isAmong(["0", "1"]),
+    dare: said => Object.hasOwn(dares, said),
+    tab: said => Object.hasOwn(tabs, said), lesson: isAmong(lessons.map(one => String(one.number))),
+    example: any, net: any, seed: any, program: isAmong(programs), node: isNode,
+    at: said => NUMBER.test(said), forest: said => isSmall(said, Math.max(0, net.nodes.length - 2)),
+    slow: said => edgesOf(said).every(e => e.length === 2 && model.hasEdge(...e)),
+    lazy: said => listOf(said).every(isNode),
+    broken: isRules(rules.rounds[seen.program] || {}), without: isRules(rules.orders),
+    steps: said => listOf(said).every(step => /^\d+(-\d+){0,2}$/.test(step)),
+    plan: said => listOf(said).every(one => isSmall(one, 9999)),
+    policy: isPolicy, other: said => isPolicy(said.split(".")[0]), how: isAmong(["seed", "threads"]),
+    beside: isAmong(["0", "1"]), kind: isAmong(tabs.pictures.kinds), passes: isAmong(["1", "2", "3"])};
+}
+function notRead(given) {
+  const reads = readers(), isRead = (name, said) => Object.hasOwn(reads, name) && (!said || reads[name](said));
+  return Array.from(given).filter(([name, said]) => name && !isRead(name, said))
+    .map(([name, said]) => `${name}=${said}`.slice(0, 60));
 }
 function showLesson(lesson) {
   const box = by("lesson");
@@ -219,8 +284,27 @@ function showLesson(lesson) {
   close.onclick = () => { seen.lesson = null; box.hidden = true; hooks.link(); };
   const card = html("details", null, {open: ""}), head = html("summary");
   head.append(html("b", `${lesson.number}. ${lesson.title}`));
-  card.append(head, html("i", lesson.ask), html("p", lesson.see), html("p", "Exercise: " + lesson.do));
+  const questions = lesson.questions.flatMap(([words, place]) =>
+    [html("a", words, {href: `#${place}&lesson=${lesson.number}`}), " "]);
+  if (questions.length) questions.unshift("Predict, then look: ");
+  card.append(head, html("i", lesson.ask), html("p", lesson.see), html("p", "Exercise: " + lesson.do), ...questions,
+    folded("the whole lesson", lesson.text), folded("a hint for its exercise", lesson.hint),
+    folded("the answer", lesson.answer));
   box.replaceChildren(close, card);
+}
+// A text that is made when it is opened.
+function folded(title, words) {
+  const place = html("details");
+  place.append(html("summary", title));
+  place.addEventListener("toggle", () => { if (place.open) place.append(...textOf(words)); }, {once: true});
+  return place;
+}
+// A place of the lecture, with what is to be said there.
+function showPlace(place) {
+  const box = by("lesson"), close = html("button", "close", {class: "quiet"});
+  close.onclick = () => { box.hidden = true; };
+  box.replaceChildren(close, html("b", `Minutes ${place.minutes}: ${place.title}`), ...textOf(place.say));
+  box.hidden = false;
 }
 by("copy").onclick = async () => {
   link();
@@ -238,6 +322,13 @@ function menu(id, choose) {
 }
 menu("examples", name => asks("example", {name}, "opening", found => model.load(found, name)));
 menu("lessons", number => { location.hash = "lesson=" + number; });
+menu("save", what => net.nodes.length ? save(what) : wrong("Draw a network first."));
+menu("lecture", async number => {
+  const place = seen.hello.lecture[number];
+  history.pushState(null, "", "#" + place.open);
+  await follow();
+  showPlace(place);
+});
 all("nav button").forEach(one => { one.onclick = () => hooks.go(one.dataset.tab); });
 
 document.onkeydown = event => {
@@ -249,23 +340,32 @@ document.onkeydown = event => {
   else if (mod || event.altKey) return;
   else if (node && (key === "Enter" || key === " ")) tabs[seen.tab].click(node, null, event);
   else if (edge && key === "Enter") tabs[seen.tab].click(null, edgesOf(edge)[0], event);
+  else if (event.target.role === "tab" && /^Arrow(Left|Right)$/.test(key)) nextTab(event.target, key);
+  else if (key === "c" && seen.tab === "rounds") by("change").click();
   else if (key === "+" || key === "=") by("zoomin").click();
   else if (key === "-") by("zoomout").click();
   else if (TIMED.includes(seen.tab) && time.key(event)) return;
   else if (!tabs[seen.tab].key || !tabs[seen.tab].key(event, node)) return;
   event.preventDefault();
 };
+// The arrows lead from tab to tab, and from the last one to the first.
+function nextTab(from, key) {
+  const list = all("nav button"), next = list.indexOf(from) + (key === "ArrowRight" ? 1 : -1);
+  const to = list[(next + list.length) % list.length];
+  to.click();
+  to.focus();
+}
 function drop(event) {
   event.preventDefault();
   document.body.classList.toggle("drop", event.type === "dragover");
   if (event.type === "drop" && event.dataTransfer.files[0]) openFile(event.dataTransfer.files[0]);
 }
 document.ondragover = document.ondragleave = document.ondrop = drop;
-window.onhashchange = follow;
+window.onhashchange = () => follow();
 
 // What there is to choose from; asked again when the programs are built.
 async function greet() {
-  seen.hello = await call("hello");
+  seen.hello = await greeted();
   const threads = by("made").querySelector("[value=threads]");
   threads.disabled = !seen.hello.proved;
   threads.textContent = seen.hello.proved ? "by real threads" : "by real threads (not built)";
@@ -278,14 +378,15 @@ async function begin() {
   all("nav, .tools").forEach(one => { one.hidden = false; });
   hello.examples.forEach(name => option(by("examples"), name));
   hello.lessons.forEach(one => option(by("lessons"), one.number, `${one.number}. ${one.title}`));
+  Object.entries(hello.dares).forEach(([name, says]) => option(by("dare"), name, says));
+  hello.lecture.forEach((one, k) => option(by("lecture"), k, `${one.minutes}: ${one.title}`));
   ["program", "program2", "program3", "program4"].forEach(id => hello.programs.forEach(name => option(by(id), name)));
   ["policy", "policy2"].forEach(id => Object.keys(hello.policies).forEach(name => {
     option(by(id), name, name, hello.policies[name]);
   }));
-  Object.entries(hello.rules.orders).forEach(([name, {says}]) => option(by("without"), name, `${name}: ${says}`));
   makeForm();
   watchBuild(async () => { await greet(); run.key = rounds.of = null; enter(); askPlan(); });
-  await follow();
+  await (location.hash || hello.opened ? follow() : welcome());
 }
 window.studio = {net, seen, time, drawn, run, rounds, check, steps, stage};
 begin();

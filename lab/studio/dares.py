@@ -1,0 +1,72 @@
+"""The dares of the tab Adversary: a goal for any network, won by steps that the definitions play."""
+from lab.definitions.nodes import Colouring
+from lab.pictures.layout import distances
+from lab.pictures.program_rounds import rounds_of
+from lab.pictures.watch_page import look_of
+from lab.schedules.stepwise import Stepwise
+from lab.words import counted
+from lab.wrong import Wrong
+
+# In words that go on a sentence which begins with "I dare you to".
+DARES = {
+    "apart": "bring two neighbours two pulses apart",
+    "ends": "bring the two nodes that are farthest from each other as many pulses apart as they are links apart",
+    "wrong": "have a node make a pulse with another inbox than that of its round",
+    "results": "have all nodes halt with other results than those of the rounds",
+}
+
+
+def judged(network, program, without, steps, dare):
+    """{won, said} of steps: whether they win the dare, and how far they come."""
+    if dare not in DARES:
+        raise Wrong(f"there is no dare {dare}")
+    player = Stepwise(network, program, without)
+    pairs, least = goal(network, dare)
+    most = 0
+    for step in filter(None, steps):
+        player.follow([step])
+        most = max([most, *(pulses_apart(player.state, *pair) for pair in pairs)])
+    count = counted(len(player.chosen), "step")
+    if pairs:
+        return {"won": most >= least, "said": f"{most} of {least} pulses apart, in {count}"}
+    if dare == "wrong":
+        return {
+            "won": bool(player.fault),
+            "said": f"{player.fault or 'nothing is wrong'}, in {count}",
+        }
+    return results_judged(player, network, program)
+
+
+def goal(network, dare):
+    """The pairs of which one has to come apart, and by how many pulses."""
+    if dare == "apart":
+        return network.edges, 2
+    if dare != "ends":
+        return [], 0
+    ways = {v: distances(network.neighbours, v) for v in network.vertices}
+    pairs = [(v, w) for v in ways for w in sorted(ways[v]) if v < w]
+    if not pairs:
+        raise Wrong("no two nodes are joined")
+    v, w = max(pairs, key=lambda pair: ways[pair[0]][pair[1]])
+    return [(v, w)], ways[v][w]
+
+
+def pulses_apart(state, v, w):
+    return abs(state.nodes[v].pulse_number - state.nodes[w].pulse_number)
+
+
+def results_of(network, program):
+    """What the nodes find in the rounds: their channels, or the words of another program."""
+    rounds = rounds_of(network, program)
+    if program is Colouring:
+        return [rounds.merged[-1][v] + 1 for v in network.vertices]
+    return [rounds.pulses[-1].results[v] for v in network.vertices]
+
+
+def results_judged(player, network, program):
+    looks = [look_of(player.state, v) for v in network.vertices]
+    if player.is_over or not all(look["e"] for look in looks):
+        return {"won": False, "said": "not all nodes have halted"}
+    if [look["c"] for look in looks] == results_of(network, program):
+        return {"won": False, "said": "they halted with the same results"}
+    return {"won": True, "said": "they halted with other results"}

@@ -1,0 +1,37 @@
+// Predict, then look: a question on the chosen node, whose answer the server judges, with the reason.
+import {asks, by} from "./base.js";
+import {html} from "./marks.js";
+
+export class Question {
+  // `ask()` gives the question that there is now, {words, call, asked, picks}, or null; `look()` leads to where its
+  // answer is seen. A pick is an answer that is tapped.
+  constructor(id, ask, look) { Object.assign(this, {id, ask, look, key: null}); }
+  show() {
+    const is = this.ask(), key = JSON.stringify(is), place = by(this.id);
+    place.hidden = !is;
+    if (!is || key === this.key) return;
+    this.key = key;
+    place.replaceChildren(html("p", is.words));
+    if (is.call) place.append(this.form(is), html("p", null, {role: "status"}));
+  }
+  form(is) {
+    const form = html("form", null, {class: "row chips"});
+    const said = html("input", null, {size: 14, "aria-label": "your answer"});
+    form.append(said, html("button", "is it so?"), ...(is.picks || []).map(pick => {
+      const button = html("button", pick, {type: "button"});
+      button.onclick = () => this.judge(is, pick);
+      return button;
+    }));
+    form.onsubmit = event => { event.preventDefault(); if (said.value.trim()) this.judge(is, said.value); };
+    return form;
+  }
+  judge(is, said) {
+    return asks(is.call, {...is.asked, said}, "looking for the answer", ({right, found, why}) => {
+      const place = by(this.id).lastChild, look = html("button", "look", {type: "button", class: "quiet"});
+      look.onclick = this.look;
+      place.className = "verdict " + (right ? "good" : "bad");
+      place.replaceChildren(right ? `✓ Yes: ${found}. ` : `✗ Not ${said}: ${found}. `, html("span", why + " ",
+        {class: "soft"}), ...(this.look ? [look] : []));
+    });
+  }
+}

@@ -1,0 +1,90 @@
+"""Predict, then look: what a node has after a pulse, or what it waits for, as a student says it, beside what the
+definitions find and why."""
+from lab.definitions.nodes import Colouring
+from lab.definitions.rounds import SEED, Rounds
+from lab.pictures.player_page import SAY
+from lab.pictures.program_rounds import ProgramRounds
+from lab.pictures.watch_page import look_of
+from lab.pictures.why_picture import Cone, choice_lines
+from lab.schedules.rules import OF_SCHEDULES
+from lab.schedules.stepwise import Stepwise
+from lab.studio.asked import MOST_ROUNDS, MOST_RUN, network_asked, program_asked, rules_asked
+from lab.words import in_words
+from lab.wrong import Wrong
+
+
+def predict(asked, _tell):
+    """{right, found, why} of what is said of a node after a pulse; of the colouring in a forest, or in its merge."""
+    network, program = network_asked(asked, MOST_ROUNDS), program_asked(asked)
+    v, pulse = int(asked["vertex"]), int(asked["pulse"])
+    if v not in network.vertices or not 1 <= pulse <= program.last_pulse(network):
+        raise Wrong("there is no such node, or no such pulse")
+    if program is Colouring:
+        found, why = of_colouring(Rounds(network), v, pulse, int(asked.get("forest") or 0))
+    else:
+        found, why = of_program(ProgramRounds(network, program), v, pulse)
+    return {"right": words(asked["said"]) == words(found), "found": found, "why": why}
+
+
+def words(said):
+    """As it is compared: in small letters, with single blanks."""
+    return " ".join(str(said).lower().split())
+
+
+def of_colouring(rounds, v, pulse, forest):
+    now = rounds.pulses[pulse]
+    if now.step:
+        return of_merge(rounds, v, pulse, now.step[0])
+    if pulse < SEED or not rounds.forests:
+        raise Wrong("no node has a colour yet: go on to pulse 1")
+    if forest not in range(rounds.forests):
+        raise Wrong(f"there is no forest {forest}")
+    causes = Cone(rounds, v).causes_of_colour(v, forest, pulse)
+    why = SAY[now.phase].format(9 - pulse // 2)
+    return (
+        str(now.colours[v, forest]),
+        f"{why} Here: {in_words([cause(rounds, *one) for one in causes])}.",
+    )
+
+
+def cause(rounds, kind, v, forest=None, pulse=None):
+    """A fact on which a colour depends, in words."""
+    if kind == "identifier":
+        return f"the identifier of node {v} is {rounds.network.identifiers[v]}"
+    colour = rounds.pulses[pulse].colours[v, forest]
+    return f"node {v} had colour {colour} ({colour:b} in binary) after pulse {pulse}"
+
+
+def of_merge(rounds, v, pulse, forest):
+    turn = rounds.turns[forest, v]
+    if turn != pulse:
+        return "-", f"Its turn in the merge of forest {forest} is pulse {turn}."
+    lines = [line.strip() for line in choice_lines(Cone(rounds, v), v, forest)]
+    return str(rounds.merged[forest + 1][v] + 1), "; ".join(lines) + "."
+
+
+def of_program(rounds, v, pulse):
+    """What it has found, and the messages that it has read."""
+    read = [
+        f"`{word} {sent}` from {w}"
+        for w, to, word, sent in rounds.pulses[pulse - 1].puts
+        if to == v
+    ]
+    return rounds.pulses[pulse].results[v], f"It reads {in_words(read) or 'nothing'}."
+
+
+def waits(asked, _tell):
+    """The same of what a node waits for after some steps, as `ack 2, safe 3`: the word, and of whom."""
+    network, v = network_asked(asked, MOST_RUN), int(asked["vertex"])
+    if v not in network.vertices:
+        raise Wrong(f"there is no node {v}")
+    player = Stepwise(network, program_asked(asked), rules_asked(asked, OF_SCHEDULES))
+    player.follow(str(asked.get("steps") or "").split("_"))
+    look = look_of(player.state, v)
+    found = sorted(f"{what} {w}" for what, w in look["w"])
+    said = sorted(filter(None, map(words, str(asked["said"]).split(","))))
+    if not found:
+        done = "It has made its last pulse." if look["e"] else "It has all that it needs."
+        return {"right": said in ([], ["nothing"]), "found": "nothing", "why": done}
+    why = "It makes its next pulse when its payloads are acknowledged and its neighbours are safe."
+    return {"right": said == found, "found": ", ".join(found), "why": why}
