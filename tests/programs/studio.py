@@ -586,7 +586,7 @@ class Unbuilt(Answers):
         folder = tempfile.TemporaryDirectory()
         self.addCleanup(folder.cleanup)
         self.top = folder.name
-        for name in ("lab", "examples", "bin", "docs/learn"):
+        for name in ("lab", "examples", "bin", "docs"):
             shutil.copytree(os.path.join(TOP, name), os.path.join(self.top, name), symlinks=True)
         shutil.copy(os.path.join(TOP, "forestplan"), self.top)
         # In place of what proves: it says so, and builds nothing.
