@@ -1,7 +1,7 @@
 /* Synchroniser alpha with the colouring on a network of 2 to 4 nodes: every schedule. It is written apart from
-   lab/schedules, to be searched by Spin; tests/by_hand/spin.py does so, and compares the counts with `forestlab explore`.
+   lab/schedules, to be searched by Spin, which the script `search` beside it calls.
 
-   The network and what each round's inbox holds come from a header that the script writes: N, ADJ(v,w), DELTA, U, R,
+   The network and what each round's inbox holds come from a header, as triangle.h: N, ADJ(v,w), DELTA, U, R,
    DEGREE(v), CHANNEL(v), and DUE(v,p,w), one more than what w sends v at pulse p - 1, or 0. Nodes count from 0 here.
 
    A put is made as soon as it can be; with PUTS it is an event of its own. An event is a d_step: a take, a pulse, or a

@@ -40,14 +40,19 @@ NETWORKS = {
     "all of four": "p edge 4 6|e 1 2|e 1 3|e 1 4|e 2 3|e 2 4|e 3 4|",
 }
 
-# (network, puts apart, states, steps), as a trial found them that searched copies of whole states.
+# (network, how it is searched, states, steps), as a trial found them that searched copies of whole states; and as Spin
+# finds them of a model that was written apart (bench/spin).
 TRIAL = [
-    ("two", False, 281, 430),
-    ("path", False, 3551, 8843),
-    ("triangle", False, 16473, 50723),
-    ("row of four", False, 41421, 141961),
-    ("ring of four", False, 171815, 688891),
-    ("two", True, 641, None),
+    ("two", {}, 281, 430),
+    ("path", {}, 3551, 8843),
+    ("triangle", {}, 16473, 50723),
+    ("row of four", {}, 41421, 141961),
+    ("ring of four", {}, 171815, 688891),
+    ("two", {"puts": True}, 641, 1056),
+    ("path", {"puts": True}, 16537, 47009),
+    ("path", {"reduce": True}, 1642, 2373),
+    ("triangle", {"reduce": True}, 4620, 7683),
+    ("two", {"puts": True, "reduce": True}, 573, 784),
 ]
 
 
@@ -258,12 +263,12 @@ class Schedules(Case):
         gc.disable()
 
     def test_trials(self):
-        for name, puts, states, steps in TRIAL:
-            space = Space(net_of(name), puts=puts, limit=MOST)
+        for name, how, states, steps in TRIAL:
+            space = Space(net_of(name), limit=MOST, **how)
             self.same(
-                f"numbers of {name}", (space.count, steps and len(space.target)), (states, steps)
+                f"numbers of {name}, {how}", (space.count, len(space.target)), (states, steps)
             )
-            if not puts:
+            if not how:
                 self.end_rows(name, space)
 
     def end_rows(self, name, space):
