@@ -1,5 +1,5 @@
 """Files as spreadsheets and networkx write them, by a seed: each is read as the network that was meant, or refused.
-Files of other programs, and files with a change in one place, are in tests/by_hand/written_files.py."""
+Files of other programs are in tests/by_hand/written_files.py."""
 
 import contextlib
 import csv
