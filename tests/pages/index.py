@@ -141,32 +141,14 @@ class Index(Case):
 
     def test_layers_of_lab(self):
         """A package of lab/ imports only those before it; what is in lab/ itself belongs to none."""
-        order, wrong = (
-            "definitions",
-            "networks",
-            "transcripts",
-            "schedules",
-            "pictures",
-            "workshop",
-            "studio",
-        ), []
-        self.assertEqual(
-            sorted(order),
-            sorted(
-                name
-                for name in os.listdir(os.path.join(TOP, "lab"))
-                if os.path.isfile(os.path.join(TOP, "lab", name, "__init__.py"))
-            ),
-        )
+        order = "definitions networks transcripts schedules pictures workshop studio".split()
+        packages = glob.glob("*/__init__.py", root_dir=os.path.join(TOP, "lab"))
+        self.same("packages", sorted(order), sorted(map(os.path.dirname, packages)))
         for at, package in enumerate(order):
             for path in glob.glob(os.path.join(TOP, "lab", package, "**", "*.py"), recursive=True):
                 names = re.findall(r"^\s*(?:from|import) lab\.(\w+)", text_in(path), re.M)
-                wrong += [
-                    f"{os.path.relpath(path, TOP)}: {name}"
-                    for name in names
-                    if name in order[at + 1 :]
-                ]
-        self.assertEqual(wrong, [])
+                later = set(names).intersection(order[at + 1 :])
+                self.same(f"{os.path.relpath(path, TOP)}: later packages", later, set())
 
     def test_names_in_files(self):
         """Each name that a page gives with its file, as in "`crates/pool/src/run.rt`: `start`, `join_all`", in two

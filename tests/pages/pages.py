@@ -3,7 +3,7 @@
 - Each table of docs/learn/TUTORIAL.md is worked out from the definitions (lab/definitions/), not from the program.
 - Each excerpt of code, a fence whose first line names its file, has its lines in that file, in this order; a comment
   `..` means lines that are left out.
-- README.md or docs/work/LAYERS.md names each crate. No line of a page is wider than 150 columns.
+- No line of a page is wider than 150 columns.
 - Each file named in backquotes exists, also if it is named without its folder; each link leads to a page and a
   heading, and each function and clause that docs/claim/PROMISES.md names is in the code. It names each public law.
 """
@@ -260,20 +260,6 @@ class Pages(Case):
         )
         self.note(
             "promises of docs/claim/PROMISES.md", len(promises) > 200, f"{len(promises)} are found"
-        )
-
-    def test_crates(self):
-        """README or LAYERS names each crate of crates.txt, and each crate of the toolchain that it lists."""
-        pages, names = text_in("README.md") + text_in("docs", "work", "LAYERS.md"), text_in(
-            "crates.txt"
-        )
-        missing = {
-            name
-            for name in re.findall(r"\w+", re.sub("#.*", "", names))
-            if f"`{name}`" not in pages
-        }
-        self.note(
-            "crates in README.md and docs/work/LAYERS.md", not missing, f"not named: {missing}"
         )
 
     def test_lengths(self):
