@@ -15,8 +15,10 @@ from itertools import product
 
 NETWORKS = "triangle path petersen drops barred chain6 four_cycle star queen5_5 two".split()
 PICTURES = (
-    "map plan results forests rounds bits why overview player watch schedules adversary run".split()
+    "map plan results forests rounds bits why overview player schedules adversary run".split()
 )
+# What a kind is given besides the network: two runs of several threads differ.
+OPTIONS = {"why": "--vertex 2", "overview": "--workers 1", "run": "--workers 1"}
 PROGRAMS = "leader layers matching independent-set recolouring".split()
 POLICIES = "random slow-link slow-node fast-node bursts newest oldest".split()
 RULES = "safes acks early fifo digit shift root children parent pair earlier".split()
@@ -50,7 +52,8 @@ def of_networks():
     for name in NETWORKS:
         file = f"examples/{name}.col"
         for kind in PICTURES:
-            yield f"forestlab picture {kind} {file}" + (" --vertex 2" if kind == "why" else "")
+            yield f"forestlab picture {kind} {file} {OPTIONS.get(kind, '')}".strip()
+        yield f"forestlab simulate {file} --seed 5 | forestlab picture watch {file} -"
         yield f"forestlab network tell {file}"
         yield f"forestlab explore {file}"
         yield f"forestplan transcript --workers 1 < {file} | forestlab transcript check {file} -"
@@ -63,7 +66,8 @@ def of_networks():
 def others():
     for program, kind in product(PROGRAMS, ("results", "rounds", "player", "overview")):
         for name in ("petersen", "path", "star", "drops"):
-            yield f"forestlab picture {kind} examples/{name}.col --program {program}"
+            words = f"{kind} examples/{name}.col --program {program}"
+            yield f"forestlab picture {words} {OPTIONS.get(kind, '')}".strip()
     for rule in RULES:
         for name in ("triangle", "path", "two"):
             yield f"forestlab explore examples/{name}.col --without {rule}"
