@@ -7,6 +7,8 @@ from math import sqrt
 # Each vertex pays attention to those near to it, and to some that are far apart.
 NEAR, LANDMARKS = 3, 32
 SWEEPS, STILL = 200, 0.001
+# Of a large network not as many, so that it is laid out in seconds: the pulls of all vertices times the sweeps.
+MOST_PULLS, LEAST_SWEEPS = 2_000_000, 20
 SPACE = 1.0
 
 
@@ -81,7 +83,8 @@ def first_places(part, landmarks):
 
 def relaxed(places, pulls):
     """Moves each vertex in turn to the mean of where the others want it, until all stay."""
-    for _ in range(SWEEPS):
+    count = sum(map(len, pulls.values()))
+    for _ in range(min(SWEEPS, max(LEAST_SWEEPS, MOST_PULLS // max(1, count)))):
         moved = 0.0
         for v, ways in pulls.items():
             place, wanted, weights = places[v], 0j, 0.0

@@ -37,12 +37,17 @@ def network_asked(asked, most=MOST_DRAWN):
 
 
 def program_asked(asked):
-    name, passes = asked.get("program") or Colouring.name, asked.get("passes")
-    if passes not in (None, *PASSES):
-        raise Wrong(f"there are {PASSES[0]} to {PASSES[-1]} passes")
-    return program_at(
-        OPENED["own"].get(name, name) if name in (*PROGRAMS, *OPENED["own"]) else "?", passes=passes
+    """A program by its name, which its option may follow: `recolouring passes 2`, `layers root 3`."""
+    said = re.fullmatch(
+        r"([\w-]+)(?: (passes|root) (\d{1,5}))?", str(asked.get("program") or Colouring.name)
     )
+    name, option, value = said.groups() if said else ("?", None, None)
+    options = {option: int(value)} if option else {}
+    if options.get("passes") not in (None, *PASSES):
+        raise Wrong(f"there are {PASSES[0]} to {PASSES[-1]} passes")
+    if name not in (*PROGRAMS, *OPENED["own"]):
+        name = "?"
+    return program_at(OPENED["own"].get(name, name), **options)
 
 
 def rules_asked(asked, among):

@@ -158,10 +158,10 @@ class Refusals(Server):
                 ("picture", {"kind": "results"} | asked, words)
                 for asked, words in (
                     ({"program": "x"}, "there is no program"),
-                    ({"program": "matching", "passes": 2}, "not for matching"),
+                    ({"program": "matching passes 2"}, "not for matching"),
                     *(
-                        ({"program": "recolouring", "passes": passes}, "there are 1 to 3 passes")
-                        for passes in (0, 4, "2", [2])
+                        ({"program": f"recolouring passes {passes}"}, "there are 1 to 3 passes")
+                        for passes in (0, 4)
                     ),
                 )
             ),
@@ -469,8 +469,9 @@ class Answers(Server):
             (row, {"program": "matching"}, ["partner none", "partner 1", "partner 0"]),
             (row, {"program": "independent-set"}, ["in", "out", "in"]),
             (edge, {"program": "recolouring"}, anew),
-            (edge, {"program": "recolouring", "passes": 2}, ["channel 1", "channel 2"]),
-            (edge, {"program": "recolouring", "passes": 3}, anew),
+            (edge, {"program": "recolouring passes 2"}, ["channel 1", "channel 2"]),
+            (edge, {"program": "recolouring passes 3"}, anew),
+            (row, {"program": "layers root 3"}, ["layer 2 by 0", "layer 1 by 1", "layer 0"]),
             (edge, {}, ["channel 1", "channel 2"]),
         ):
             got = self.answer("picture", network=network, kind="results", **asked)
@@ -529,18 +530,14 @@ class Answers(Server):
 
     def test_passes_of_a_run(self):
         """A run of two passes ends at pulse 18 + 2 · 2 on an edge, and its text is no run of one pass."""
-        asked = {
-            "network": "p edge 2 1\ne 1 2\n",
-            "program": "recolouring",
-            "policy": "random",
-            "seed": "1",
-        }
-        text = self.answer("run", passes=2, **asked)["answer"]["text"]
+        asked = {"network": "p edge 2 1\ne 1 2\n", "policy": "random", "seed": "1"}
+        two = {"program": "recolouring passes 2"}
+        text = self.answer("run", **two, **asked)["answer"]["text"]
         for kind in ("run", "overview"):
-            got = self.answer("picture", kind=kind, transcript=text, passes=2, **asked)
+            got = self.answer("picture", kind=kind, transcript=text, **two, **asked)
             self.note(f"{kind} of two passes", "</svg>" in got.get("answer", ""), got)
             self.note(f"{kind}: its last pulse", " of 22" in got.get("answer", ""), got)
-            got = self.answer("picture", kind=kind, transcript=text, **asked)
+            got = self.answer("picture", kind=kind, transcript=text, program="recolouring", **asked)
             self.note(f"{kind}: it is no run of one", "wrong" in got, got)
 
 

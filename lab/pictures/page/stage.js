@@ -1,7 +1,7 @@
 // A picture of a network: where things are on the screen, what is drawn, and what is under the pointer.
 import {HALO, barMark, mark, patch, words} from "./marks.js";
 
-const LARGEST = 22;
+const LARGEST = 22, LETTERS = new Intl.Segmenter(), TURNS = /[\u0590-\u08FF\u200F\u202A-\u202E\u2066-\u2069]/;
 
 export class Stage {
   // `net` has nodes {x, y, id, name, bars} from 0, and edges [v, w] from 1.
@@ -206,7 +206,12 @@ export class Stage {
 }
 // A node's number, with its name and its identifier if it has them.
 export function nameOf(net, v) {
-  const cut = (words, most, left) => words.length > most ? words.slice(0, left) + "…" : words;
+  const cut = (words, most, left) => {
+    const letters = Array.from(LETTERS.segment(words), one => one.segment);
+    return letters.length > most ? letters.slice(0, left).join("") + "…" : words;
+  };
   const {name, id} = net.nodes[v - 1], own = cut(id, 8, 6);
-  return v + (name ? " " + cut(name, 12, 11) : "") + (own && own !== String(v) ? ` (${own})` : "");
+  // A name that is written from right to left, or turns the writing round, turns nothing else.
+  const shown = TURNS.test(name) ? `\u2068${cut(name, 12, 11)}\u2069` : cut(name, 12, 11);
+  return v + (name ? " " + shown : "") + (own && own !== String(v) ? ` (${own})` : "");
 }

@@ -8,8 +8,29 @@ import {Time} from "./time.js";
 export const by = id => document.getElementById(id), all = words => Array.from(document.querySelectorAll(words));
 // What is seen. `hello` is what there is to choose from, `program` what the nodes run; `slow` and `lazy` are the links
 // and the nodes that wait, `without` the rule of the synchroniser that is left out.
-export const seen = {tab: "draw", node: null, edge: null, lesson: null, hello: null, program: "colouring", slow: [],
-  lazy: []};
+export const seen = {tab: "draw", node: null, edge: null, lesson: null, hello: null, program: "colouring", passes: 1,
+  root: null, slow: [], lazy: []};
+// The program with its option, as a call names it: `recolouring passes 2`, `layers root 3`.
+export function programNamed() {
+  const {program, passes, root} = seen;
+  if (program === "recolouring" && passes > 1) return `recolouring passes ${passes}`;
+  return program === "layers" && root ? `layers root ${root}` : program;
+}
+// The fields of these options, beside each choice of a program; `changed` is called after one of them.
+export function showOptions() {
+  all(".passes").forEach(one => { one.value = seen.passes; one.parentNode.hidden = seen.program !== "recolouring"; });
+  all(".root").forEach(one => { one.value = seen.root || ""; one.parentNode.hidden = seen.program !== "layers"; });
+}
+export function watchOptions(changed) {
+  all(".passes").forEach(one => { one.onchange = () => { seen.passes = +one.value; changed(); }; });
+  all(".root").forEach(one => {
+    one.onchange = () => {
+      const v = whole(one.value);
+      seen.root = v && v <= net.nodes.length ? v : null;
+      changed();
+    };
+  });
+}
 export const stage = new Stage(by("net"), net);
 // Each tab is {hints, enter, show, click, link, follow, key}; studio.js sets the hooks.
 export const tabs = Object.create(null), hooks = {};

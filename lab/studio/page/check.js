@@ -1,5 +1,5 @@
 // The tab Check: a plan that is typed or clicked, with the verdict on it, and transcripts.
-import {asks, by, capital, hooks, listOf, seen, show, stage, tabs, whole} from "./base.js";
+import {asks, by, capital, hooks, listOf, programNamed, seen, show, stage, tabs, whole} from "./base.js";
 import {blank, channelCircle, html, note} from "./marks.js";
 import {net, neighbours, text} from "./model.js";
 
@@ -77,7 +77,7 @@ by("take").onclick = () => asks("plan", {network: text()}, "looking for the plan
   ask();
 }, "take");
 by("judged").onclick = () => asks("judge", {network: text(), transcript: by("transcript").value,
-  program: seen.program}, "judging", is => {
+  program: programNamed()}, "judging", is => {
   const place = by("judgement"), {proved} = is;
   // The machine counts lines from the network's first one.
   const said = proved && proved.said.replace(/line (\d+)/, (_, line) => `line ${line - is.before}`);

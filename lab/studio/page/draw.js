@@ -1,6 +1,7 @@
 // The tab Draw: the network is drawn with the mouse, a finger or keys, and its plan is shown after each change.
 import {call, cancel} from "./api.js";
-import {all, among, asks, by, count, go, hang, hooks, seen, show, stage, tabs, tried, whole, wrong} from "./base.js";
+import {all, among, asks, by, count, go, hang, hooks, programNamed, seen, show, showOptions, stage, tabs, tried, whole,
+  wrong} from "./base.js";
 import {blank, channelCircle, html} from "./marks.js";
 import * as model from "./model.js";
 import {change, net, neighbours, text} from "./model.js";
@@ -182,11 +183,11 @@ function download(words, ending) {
   setTimeout(() => URL.revokeObjectURL(link.href), 1000);
 }
 export function save(what) {
-  const asked = {network: text(), name: net.name, program: seen.program};
+  const asked = {network: text(), name: net.name, program: programNamed()};
   if (what === "network") return download(text(), ".col");
   if (what === "rounds") return asks("rounds_page", asked, "making the page", page => download(page, ".html"));
   return tried("save", "playing the run", async () => {
-    const transcript = await tabs.run.transcript(null);
+    const transcript = await tabs.run.transcript();
     if (!transcript) return;
     if (what === "transcript") return download(transcript, ".transcript");
     const page = await call("run_page", {...asked, transcript});
@@ -248,10 +249,10 @@ function askPicture() {
   by("kindsaid").textContent = KINDS[kind];
   by("ofnode").hidden = !OF_NODE.includes(kind);
   by("ofrun").hidden = !OF_RUN.includes(kind);
-  const program = OF_PROGRAM.includes(kind) ? seen.program : "colouring";
-  const passes = program === "recolouring" ? whole(by("passes").value) : null;
+  const program = OF_PROGRAM.includes(kind) ? programNamed() : "colouring";
   by("ofprogram").hidden = !OF_PROGRAM.includes(kind);
-  by("ofpasses").hidden = !passes;
+  showOptions();
+  if (!OF_PROGRAM.includes(kind)) all("[data-panel=pictures] .option").forEach(one => { one.hidden = true; });
   by("program4").value = seen.program;
   const pulses = (/^(\d{1,6})\.\.(\d{1,6})$/.exec(by("pulses").value.trim()) || []).slice(1).map(Number);
   by("vertex").max = net.nodes.length;
@@ -259,13 +260,13 @@ function askPicture() {
   const asked = kind;
   tried("picture", "drawing", async () => {
     const isOfRun = OF_RUN.includes(kind), v = seen.node;
-    const transcript = isOfRun ? await tabs.run.transcript(passes) : null;
+    const transcript = isOfRun ? await tabs.run.transcript() : null;
     const vertex = kind === "why" ? v || 1 : OF_NODE.includes(kind) ? v : null;
     // Another picture has been asked for since.
     if (kind !== asked || isOfRun && !transcript) return;
     if (kind === "why" && !v) by("kindsaid").textContent += " None is chosen, so it is node 1.";
     const got = await call("picture", {kind, network: text(), name: net.name, program, vertex, transcript,
-      forest: tabs.rounds.forest(), passes, pulses: isOfRun ? pulses : null});
+      forest: tabs.rounds.forest(), pulses: isOfRun ? pulses : null});
     if (!got) return;
     hang(got, kind);
     by("keep").href = URL.createObjectURL(new Blob([got], {type: "image/svg+xml"}));
@@ -282,18 +283,15 @@ tabs.pictures = {
   hint: () => "", click: () => 0, show: () => 0,
   follow(given) {
     kind = among(KINDS, given.get("kind")) || kind;
-    by("passes").value = ["2", "3"].find(passes => passes === given.get("passes")) || "1";
   },
   enter(more = {}) { kind = more.kind || kind; askPicture(); },
   link(add) {
     add("kind", kind);
     add("node", seen.node);
     add("forest", tabs.rounds.forest());
-    if (by("passes").value > 1) add("passes", by("passes").value);
   },
 };
 by("program4").onchange = () => { seen.program = by("program4").value; askPicture(); show(); };
-by("passes").onchange = () => { askPicture(); hooks.link(); };
 by("pulses").onchange = askPicture;
 by("vertex").onchange = () => {
   const v = whole(by("vertex").value);

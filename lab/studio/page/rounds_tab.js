@@ -1,7 +1,7 @@
 // The tab Rounds: the network at each pulse, why a node has its channel, and what goes wrong without a rule.
 import {call} from "./api.js";
-import {KEYS, announce, asks, by, capital, fill, go, hang, hide, hooks, leftOutWords, picture, ruleBoxes, rulesOf, say,
-  seen, show, stage, tabs, time, tried, whole} from "./base.js";
+import {KEYS, announce, asks, by, capital, fill, go, hang, hide, hooks, leftOutWords, picture, programNamed, ruleBoxes,
+  rulesOf, say, seen, show, showOptions, stage, tabs, time, tried, whole} from "./base.js";
 import {html, patch} from "./marks.js";
 import {load as load_, net, text} from "./model.js";
 import {Question} from "./predict.js";
@@ -10,15 +10,15 @@ import {RoundsFilm, roundsLegend} from "./rounds.js";
 export const rounds = {forest: 0, why: null, whyOf: null, film: null, of: null, without: "", predicts: false};
 const question = new Question("question", () => {
   if (!rounds.predicts || !isReady()) return null;
-  const p = Math.floor(time.at), {film, forest} = rounds, {node, program} = seen;
+  const p = Math.floor(time.at), {film, forest} = rounds, {node} = seen;
   if (!node) return {words: "Click a node: what will it have after the next pulse?"};
   const found = film.question(node, p, forest);
   if (!found) return {words: p < 1 ? "Go on to pulse 1." : "This is the last pulse."};
   return {words: found[0], picks: found[1], call: "predict",
-    asked: {network: text(), program, vertex: node, pulse: p + 1, forest}};
+    asked: {network: text(), program: programNamed(), vertex: node, pulse: p + 1, forest}};
 }, () => time.set(Math.floor(time.at) + 1));
 
-export async function load(program = seen.program) {
+export async function load(program = programNamed()) {
   const asked = text(), key = program + asked;
   if (key === rounds.of) return true;
   const got = await call("rounds", {network: asked, program});
@@ -26,7 +26,7 @@ export async function load(program = seen.program) {
   Object.assign(rounds, {film: new RoundsFilm(got, net), of: key, why: null, whyOf: null});
   return true;
 }
-function isReady() { return rounds.film && rounds.of === seen.program + text(); }
+function isReady() { return rounds.film && rounds.of === programNamed() + text(); }
 function showAt() {
   if (!isReady()) return false;
   const {film} = rounds, {node} = seen, why = rounds.whyOf === node ? rounds.why : null;
@@ -92,7 +92,7 @@ function askBroken() {
   by("picture").replaceChildren();
   place.replaceChildren();
   if (!isLeft) return stage.fit();
-  const asked = {network: text(), name: net.name, without: rounds.without, program: seen.program};
+  const asked = {network: text(), name: net.name, without: rounds.without, program: programNamed()};
   asks("broken", asked, "looking for what goes wrong", ({here, words, found, picture: svg}) => {
     if (seen.tab !== "rounds") return;
     const draw = html("button", "draw this smallest network"), back = html("button", "back to all rules");
@@ -131,6 +131,7 @@ tabs.rounds = {
   },
   enter(more = {}) {
     by("program2").value = seen.program;
+    showOptions();
     rounds.without = rulesOf(rulesHere(), rounds.without);
     showRules();
     tried("rounds", "asking for the rounds", async () => {

@@ -1,16 +1,15 @@
 // The tab No clock: a run by a seed or by real threads, its verdicts, another order or the rounds beside it.
 import {call} from "./api.js";
-import {KEYS, all, among, announce, by, capital, fill, hide, listOf, progress, say, seen, show, stage, tabs, time,
-  toggle, tried, wrong} from "./base.js";
+import {KEYS, all, among, announce, by, capital, fill, hide, listOf, programNamed, progress, say, seen, show, showOptions,
+  stage, tabs, time, toggle, tried, wrong} from "./base.js";
 import {decoded, net, text} from "./model.js";
 import {rounds} from "./rounds_tab.js";
 import {RunFilm, lookWords, runLegend, waitsTable} from "./run.js";
 import {Stage} from "./stage.js";
 
 // `steps` come first, as the tab Adversary has made them; `other` is the policy and the seed of a second run.
-// `text3` is a run for a picture.
 export const run = {film: null, found: null, of: null, key: null, steps: [], transcript: null, other: null, film2: null,
-  key2: null, key3: null, text3: null, judgedAt: null};
+  key2: null, judgedAt: null};
 const second = new Stage(by("second"), net), small = new Stage(by("small"), net);
 const SAID = ["judge", "judgehere", "same", "now", "table"];
 let judgeTimer = null;
@@ -20,7 +19,7 @@ function how() {
     capacity: +by("capacity").value};
 }
 function asked() {
-  const {slow, lazy, program} = seen;
+  const {slow, lazy} = seen, program = programNamed();
   return run.transcript ? {network: text(), program, transcript: run.transcript}
     : {network: text(), program, slow, lazy, steps: run.steps.join("_"), ...how()};
 }
@@ -46,7 +45,7 @@ export async function load() {
 }
 async function loadOther() {
   if (!run.other) { run.film2 = null; return true; }
-  const wanted = {network: text(), program: seen.program, how: "seed", ...run.other}, key = JSON.stringify(wanted);
+  const wanted = {network: text(), program: programNamed(), how: "seed", ...run.other}, key = JSON.stringify(wanted);
   if (key === run.key2 && run.film2) return true;
   const got = await call("run", wanted, {progress, key: "run2"});
   if (!got) return false;
@@ -54,7 +53,7 @@ async function loadOther() {
   verdicts(got, run.film2, "2");
   return true;
 }
-function isReady() { return run.film && run.of === seen.program + text(); }
+function isReady() { return run.film && run.of === programNamed() + text(); }
 function ask() {
   const isSeed = by("made").value === "seed";
   if (!run.other) run.film2 = null;
@@ -147,7 +146,7 @@ function apart(looks) {
 }
 // The rounds, small, at the pulse of the slowest node or of the one that is followed.
 function showRounds(at) {
-  if (!by("beside").checked || !rounds.film || rounds.of !== seen.program + text()) return say("besidesaid", "");
+  if (!by("beside").checked || !rounds.film || rounds.of !== programNamed() + text()) return say("besidesaid", "");
   const looks = run.film.looks(at);
   const p = seen.node ? looks[seen.node - 1].p : Math.min(...looks.map(is => is.p));
   small.refit();
@@ -180,7 +179,7 @@ async function judgeHere() {
   const {at, found} = run;
   if (seen.tab !== "run" || !isReady() || run.isPart || run.judgedAt === at) return;
   const lines = found.text.split("\n", at + 1).join("\n");
-  const is = await call("replay", {network: text(), transcript: lines, program: seen.program});
+  const is = await call("replay", {network: text(), transcript: lines, program: programNamed()});
   if (!is || run.at !== at || run.found !== found) return;
   run.judgedAt = at;
   const agrees = is.ok && is.pulses.every((p, k) => p === run.film.look(k + 1, at).p);
@@ -189,18 +188,8 @@ async function judgeHere() {
     + `${is.entries.toLocaleString("en")} entries; its nodes are ${agrees ? "at the pulses shown" : "elsewhere"}, and `
     + (is.wires === 1 ? "1 wire is on its way." : `${is.wires} wires are on their way.`);
 }
-// A stored or a new transcript of the network, for pictures; null if a later call has ended this one. A run of more
-// passes than the tab shows is made as this one is.
-async function transcript(passes) {
-  if (!(passes > 1)) return isReady() && !run.isPart || await load() ? run.found.text : null;
-  const wanted = {...asked(), passes}, key = JSON.stringify(wanted);
-  if (key !== run.key3) {
-    const got = await call("run", wanted, {progress, key: "run3"});
-    if (!got) return null;
-    Object.assign(run, {key3: key, text3: got.text});
-  }
-  return run.text3;
-}
+// A stored or a new transcript of the network; null if a later call has ended this one.
+async function transcript() { return isReady() && !run.isPart || await load() ? run.found.text : null; }
 function lazyBox() {
   by("lazybox").hidden = !seen.node;
   by("lazy").checked = seen.lazy.includes(seen.node);
@@ -221,6 +210,7 @@ tabs.run = {
     if (more.transcript !== undefined) Object.assign(run, {transcript: more.transcript || null, steps: []});
     if (more.steps) Object.assign(run, {transcript: null, steps: more.steps});
     by("program").value = seen.program;
+    showOptions();
     runLegend(by("runlegend"));
     ask();
   },
@@ -263,11 +253,10 @@ tabs.run = {
   },
 };
 ["made", "policy", "seed", "workers", "capacity"].forEach(id => { by(id).onchange = ask; });
-by("program").onchange = () => { seen.program = by("program").value; time.at = 0; ask(); };
+by("program").onchange = () => { seen.program = by("program").value; time.at = 0; tabs.run.enter(); };
 by("how").onsubmit = event => { event.preventDefault(); ask(); };
 by("again").onclick = () => {
   if (by("made").value === "seed") by("seed").value = /^\d+$/.test(by("seed").value) ? +by("seed").value + 1 : 1;
-  run.key3 = null;
   ask();
 };
 by("forget").onclick = () => { Object.assign(run, {steps: [], transcript: null}); ask(); };

@@ -1,7 +1,7 @@
 // The tab Adversary: whoever looks is the network, and chooses which message is taken next and which node pulses.
 import {token} from "./api.js";
-import {all, among, announce, asks, busy, by, go, hooks, leftOutWords, listOf, ruleBoxes, rulesOf, say, seen, show,
-  stage, tabs, toggle} from "./base.js";
+import {all, among, announce, asks, busy, by, go, hooks, leftOutWords, listOf, programNamed, ruleBoxes, rulesOf, say, seen,
+  show, showOptions, stage, tabs, toggle} from "./base.js";
 import {html} from "./marks.js";
 import {net, text} from "./model.js";
 import {Question} from "./predict.js";
@@ -12,7 +12,7 @@ import {nameOf} from "./stage.js";
 export const steps = {made: [], found: null, without: "", predicts: false, dare: ""};
 const question = new Question("question2", () => {
   if (!steps.predicts) return null;
-  const {node, program} = seen, {without, made} = steps;
+  const {node} = seen, {without, made} = steps, program = programNamed();
   if (!node) return {words: "Click a node that can’t make its pulse: what does it wait for?"};
   return {words: `What does node ${node} wait for? As ack 2, safe 3: the word, and of whom; or nothing.`, call: "waits",
     asked: {network: text(), program, without, steps: made.join("_"), vertex: node}};
@@ -21,7 +21,7 @@ const KEYED = 9;
 
 let asking = 0;
 async function ask(more = {}) {
-  const {slow, lazy, program} = seen, {without, made, dare} = steps;
+  const {slow, lazy} = seen, {without, made, dare} = steps, program = programNamed();
   asking += 1;
   await asks("steps", {network: text(), program, slow, lazy, without, dare, steps: made.join("_"), ...more},
     "playing these steps", found => { Object.assign(steps, {found, made: found.made}); show(); });
@@ -51,7 +51,8 @@ function showAt() {
   const isWord = typeof is.looks[0].c === "string";
   stage.draw({node: (v, x, y, r) => alphaMarks(stage, is.looks[v - 1], v, x, y, r), bars: false, apart: 4.6,
     below: isWord, ring: v => isFree(String(v)) ? "var(--good)" : v === seen.node ? "var(--edge)" : null,
-    says: v => steps.predicts ? `pulse ${is.looks[v - 1].p}` : lookWords(is.looks[v - 1]), label: v => nameOf(net, v) + (seen.lazy.includes(v) ? " (held)" : ""),
+    says: v => steps.predicts ? `pulse ${is.looks[v - 1].p}` : lookWords(is.looks[v - 1]),
+    label: v => nameOf(net, v) + (seen.lazy.includes(v) ? " (held)" : ""),
     edge: (v, w) => heldEdge(v, w, slow.has(v + "-" + w)), above: () => is.wires.flatMap(queue)});
   sayWhere(is);
   question.show();
@@ -123,7 +124,7 @@ function saidOf(is, step) {
 function search() {
   const form = html("form", null, {method: "post", action: "/frame/adversary", target: "frame"}), frame = by("frame");
   const asked = {token, network: text(), name: net.name || "this network", without: steps.without,
-    program: seen.program};
+    program: programNamed()};
   Object.entries(asked).forEach(([name, value]) => {
     const field = html("input", null, {type: "hidden", name});
     field.value = value;
@@ -168,6 +169,7 @@ tabs.adversary = {
   enter(more = {}) {
     const {orders} = seen.hello.rules;
     by("program3").value = seen.program;
+    showOptions();
     ruleBoxes("without", orders, steps.without, leaveOut);
     by("rule").textContent = leftOutWords(orders, steps.without);
     by("dare").value = steps.dare;

@@ -1,7 +1,7 @@
 // The studio: its tabs, the mouse on the stage, keys, and the address, which says all that is seen.
 import {call, cancel, hello as greeted, token} from "./api.js";
-import {all, asks, by, edgesOf, hooks, listOf, option, rulesOf, say, seen, show, stage, tabs, time, tried, whole, wrong,
-  zoomPicture} from "./base.js";
+import {all, asks, by, edgesOf, hooks, listOf, option, rulesOf, say, seen, show, stage, tabs, time, tried, watchOptions,
+  whole, wrong, zoomPicture} from "./base.js";
 import {askPlan, drawn, inspect, makeForm, openFile, save} from "./draw.js";
 import {check} from "./check.js";
 import {rounds} from "./rounds_tab.js";
@@ -194,6 +194,8 @@ function link() {
   const words = [shown, "tab=" + seen.tab];
   const add = (name, value) => { if (value) words.push(`${name}=${value}`); };
   if (seen.program !== "colouring") add("program", seen.program);
+  if (seen.program === "recolouring" && seen.passes > 1) add("passes", seen.passes);
+  if (seen.program === "layers") add("root", seen.root);
   if (seen.tab === "run" || seen.tab === "adversary") {
     add("slow", seen.slow.map(e => e.join("-")).join("_"));
     add("lazy", seen.lazy.join("_"));
@@ -237,8 +239,9 @@ async function follow(place = location.hash) {
     seen.tab = "draw";
     if (found) model.load(found, example);
     seen.program = hello.programs.includes(given.get("program")) ? given.get("program") : "colouring";
-    const isNode = v => v >= 1 && v <= net.nodes.length, node = whole(given.get("node"));
-    Object.assign(seen, {slow: edgesOf(given.get("slow")).filter(e => model.hasEdge(...e)),
+    const isNode = v => v >= 1 && v <= net.nodes.length, [node, root] = ["node", "root"].map(one => whole(given.get(one)));
+    seen.passes = +["2", "3"].find(passes => passes === given.get("passes")) || 1;
+    Object.assign(seen, {root: isNode(root) ? root : null, slow: edgesOf(given.get("slow")).filter(e => model.hasEdge(...e)),
       lazy: listOf(given.get("lazy")).map(whole).filter(isNode), node: isNode(node) ? node : null});
     Object.values(tabs).forEach(tab => tab.follow(given));
     time.at = Math.max(0, +given.get("at") || 0);
@@ -261,7 +264,7 @@ function readers() {
     play: isAmong(["1"]), predict: isAmong(["0", "1"]),
     dare: said => Object.hasOwn(dares, said),
     tab: said => Object.hasOwn(tabs, said), lesson: isAmong(lessons.map(one => String(one.number))),
-    example: any, net: any, seed: any, program: isAmong(programs), node: isNode,
+    example: any, net: any, seed: any, program: isAmong(programs), node: isNode, root: isNode,
     at: said => NUMBER.test(said), forest: said => isSmall(said, Math.max(0, net.nodes.length - 2)),
     slow: said => edgesOf(said).every(e => e.length === 2 && model.hasEdge(...e)),
     lazy: said => listOf(said).every(isNode),
@@ -385,6 +388,7 @@ async function begin() {
     option(by(id), name, name, hello.policies[name]);
   }));
   makeForm();
+  watchOptions(() => { tabs[seen.tab].enter({fresh: true}); hooks.link(); });
   watchBuild(async () => { await greet(); run.key = rounds.of = null; enter(); askPlan(); });
   await (location.hash || hello.opened ? follow() : welcome());
 }
