@@ -1,9 +1,8 @@
 -- Nodes within d links are at most d pulses apart: link by link.
-use Rattle.std.proofs.Common.{◌≡◌, ℕ, zero, suc, ◌+◌, ◌<◌, ◌≤◌, List, ap, sym, arith, inl, inr}
+use Rattle.std.proofs.Common.{◌≡◌, ℕ, zero, suc, ◌+◌, ◌≤◌, List, ap, arith, inl, inr}
 use Rattle.interference.specs.Net.{IsNetwork, IsVertex, Net, back_port_of, neighbour_of}
 use Rattle.interference.proofs.Neighbours.{at-back_port}
 use Rattle.node_api.specs.Program.{Program}
-use Rattle.sync_rounds.specs.Reach.{IsWithinLinks}
 use Rattle.alpha_core.specs.declared.wire.Wire.{Wire}
 use Rattle.alpha_core.specs.View.{Node}
 use Rattle.alpha_laws.specs.Simulates.{Simulates}

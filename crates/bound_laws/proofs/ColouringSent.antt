@@ -2,15 +2,14 @@
 -- parent; a parent its greeting, ten colours and its choices to its child; and each makes a choice in each forest.
 use Rattle.std.proofs.Common.{◌≡◌, ◌≢◌, ℕ, zero, suc, ◌+◌, ◌-◌, ◌*◌, ◌<◌, ◌≤◌, ◌==◌, Bool, true, false, List, refl, ap, sym, ◌∙◌, arith, inl, inr}
 use Rattle.std.proofs.Common.{subst}
-use Rattle.std.specs.Prelude.{if◌then◌else◌, map, nat_le, nat_lt, Option, Some, None}
+use Rattle.std.specs.Prelude.{if◌then◌else◌, nat_le, nat_lt, Option, Some, None}
 use Rattle.std.proofs.lemmas.Bool.{cases_order, le-ltb, lt-leb, ne_eqb}
 use Rattle.std.proofs.lemmas.List.{get_or-map}
-use Rattle.interference.specs.Net.{IsEdge, IsNetwork, IsVertex, Net, degree_of, forest_count_of, id_of, neighbours, port_to}
+use Rattle.interference.specs.Net.{IsEdge, IsNetwork, Net, forest_count_of, id_of, neighbours, port_to}
 use Rattle.interference.proofs.Neighbours.{at-port_to, both-ways, neighbour-is_vertex, port_to-below}
 use Rattle.node_api.specs.Boxes.{at_port}
-use Rattle.node_api.specs.Program.{last_pulse_on, sizes_of}
+use Rattle.node_api.specs.Program.{sizes_of}
 use Rattle.forests.specs.Forests.{number, role_of}
-use Rattle.forests.specs.declared.numbering.Role.{Role}
 use Rattle.forests.specs.declared.numbering.Role.TheVariants.{Down, Unknown, Up}
 use Rattle.forests.proofs.Ends.{ends-apart, number-alike, to-up}
 use Rattle.colour_rules.specs.declared.payload.Payload.{Payload}
@@ -26,7 +25,7 @@ use Rattle.colour_laws.proofs.Stands.{HoldsAfter, stand_next}
 use Rattle.colour_laws.proofs.Starts.{oriented_node, oriented_stand, seeded, tells_one}
 use Rattle.colour_laws.specs.Colours.{colours_after}
 use Rattle.alpha_core.specs.Program.{sends}
-use Rattle.bound_laws.proofs.Sent.{at-most, no-less, none-more, once, over, payloads-few, quiet, sent_below}
+use Rattle.bound_laws.proofs.Sent.{at-most, no-less, none-more, once, over, quiet, sent_below}
 
 module _ (net : Net) (ok : IsNetwork net) where
   -- what a node has sent to a neighbour, by what it has sent by its neighbours

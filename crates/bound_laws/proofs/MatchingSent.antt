@@ -6,17 +6,14 @@ use Rattle.std.proofs.lemmas.List.{get_or-map}
 use Rattle.std.proofs.lemmas.Nat.{div-add-mod', div_below, mod_below}
 use native.Mathlib.Decide.{dec_lt}
 use Prim.{yes, no}
-use Rattle.interference.specs.Net.{IsEdge, IsNetwork, IsVertex, Net, degree_of, forest_count_of, id_of, neighbour_of, neighbours, port_to}
-use Rattle.interference.proofs.Neighbours.{at-port_to, both-ways, neighbour-is_vertex, port_to-below}
+use Rattle.interference.specs.Net.{IsEdge, IsNetwork, IsVertex, Net, forest_count_of, id_of, neighbours, port_to}
+use Rattle.interference.proofs.Neighbours.{at-port_to, port_to-below}
 use Rattle.node_api.specs.Boxes.{at_port}
 use Rattle.node_api.specs.Program.{last_pulse_on}
 use Rattle.alpha_core.specs.Program.{sends}
-use Rattle.colour_rules.specs.Node.{Node}
-use Rattle.followed.specs.Followed.{Both}
 use Rattle.forests.specs.Forests.{number, role_of}
-use Rattle.forests.specs.declared.numbering.Role.{Role}
-use Rattle.forests.specs.declared.numbering.Role.TheVariants.{Down, Up}
-use Rattle.forests.proofs.Ends.{to-down, to-up, up-role}
+use Rattle.forests.specs.declared.numbering.Role.TheVariants.{Up}
+use Rattle.forests.proofs.Ends.{up-role}
 use Rattle.matching.specs.Knowing.{Wire, matching, turns}
 use Rattle.matching.specs.Lawful.{at, turns_cut}
 use Rattle.matching.proofs.OneTurn.{Turn, child, none-or-some, offer-some, offer_by, one_turn, taken-some, taken_by, told1, told2}

@@ -1,19 +1,19 @@
 -- After the colouring a node of the recolouring sends once a pass at most: at the pulse of the colour that it came with.
-use Rattle.std.proofs.Common.{◌≡◌, ◌≢◌, ℕ, zero, suc, ◌+◌, ◌-◌, ◌*◌, ◌%◌, ◌<◌, ◌≤◌, ◌==◌, ◌&&◌, Bool, true, false, List, refl, ap, sym, ◌∙◌, arith, subst}
-use Rattle.std.specs.Prelude.{if◌then◌else◌, nat_le, nat_lt, Option, Some, None}
+use Rattle.std.proofs.Common.{◌≡◌, ◌≢◌, ℕ, zero, suc, ◌+◌, ◌-◌, ◌*◌, ◌%◌, ◌≤◌, ◌==◌, ◌&&◌, Bool, false, List, refl, ap, sym, ◌∙◌, arith, subst}
+use Rattle.std.specs.Prelude.{if◌then◌else◌, nat_lt, Option, None}
 use Rattle.std.specs.FinSet.{FinSet}
 use Rattle.std.specs.Ordering.{nat_cmp}
 use Rattle.std.proofs.lemmas.Bool.{le-leb, ne_eqb}
 use Rattle.interference.specs.Net.{IsEdge, IsNetwork, IsVertex, Net, forest_count_of, port_to, span_of}
 use Rattle.interference.proofs.Neighbours.{both-ways, neighbour-is_vertex}
 use Rattle.node_api.specs.Boxes.{at_port}
-use Rattle.node_api.specs.Program.{last_pulse_on, sizes_of}
+use Rattle.node_api.specs.Program.{last_pulse_on}
 use Rattle.node_api.specs.Run.{inbox_from}
 use Rattle.node_api.proofs.Slots.{at_port-nothing}
 use Rattle.alpha_core.specs.Program.{sends}
-use Rattle.colour_rules.specs.Node.{Node, ports, steps}
-use Rattle.followed.specs.Followed.{Both, beside_of}
-use Rattle.recolouring.specs.Knowing.{Recoloured, Wire, class_next, colour_after, entering, is_turn, ready, recolouring, recolours, told, with_anew}
+use Rattle.colour_rules.specs.Node.{Node, ports}
+use Rattle.followed.specs.Followed.{Both}
+use Rattle.recolouring.specs.Knowing.{Recoloured, Wire, colour_after, entering, is_turn, ready, recolouring, recolours, told, with_anew}
 use Rattle.recolouring.specs.Lawful.{at, at-pass, class-of, coloured, cut, has_greatest, ready-as, recolours_cut}
 use Rattle.bound_laws.proofs.Sent.{no-less, once, over, sent_below}
 use Rattle.bound_laws.proofs.SequelSent.{both-before}

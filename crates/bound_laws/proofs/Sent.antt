@@ -1,15 +1,14 @@
 -- How many payloads go over one direction of an edge below a pulse; and over all edges, by how many go over each.
-use Rattle.std.proofs.Common.{◌≡◌, ◌≢◌, ℕ, zero, suc, ◌+◌, ◌-◌, ◌*◌, ◌<◌, ◌≤◌, length, refl, ap, sym, ◌∙◌, arith, subst}
-use Rattle.std.specs.Prelude.{Option, Some, None, Contains}
+use Rattle.std.proofs.Common.{◌≡◌, ◌≢◌, ℕ, zero, suc, ◌+◌, ◌-◌, ◌*◌, ◌<◌, ◌≤◌, length, ap, ◌∙◌, arith, subst}
+use Rattle.std.specs.Prelude.{Option, Some, None}
 use Rattle.std.proofs.lemmas.List.{length-append}
 use native.Mathlib.Decide.{dec_lt}
 use Prim.{yes, no}
 use Rattle.interference.specs.Counts.{degree_sum_of, edge_count_of, sum_over_ports}
-use Rattle.interference.specs.Net.{IsEdge, IsNetwork, IsVertex, Net, degree_of, neighbour_of, neighbours}
+use Rattle.interference.specs.Net.{IsEdge, IsNetwork, Net, neighbour_of, neighbours}
 use Rattle.interference.proofs.PortSums.{ports-add, ports-const}
 use Rattle.interference.proofs.TwoEnds.{degrees-are_twice_edges, ports-swapped}
 use Rattle.std.proofs.lemmas.List.Elements.{Contains-get_or}
-use Rattle.std.proofs.Math.Nat.{mul_comm}
 use Rattle.node_api.specs.Program.{Program, last_pulse_on}
 use Rattle.alpha_core.specs.Program.{sends}
 use Rattle.alpha_core.specs.Streams.{sent_pulse, sent_pulses}

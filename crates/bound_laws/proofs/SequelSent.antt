@@ -1,9 +1,8 @@
 -- What a sequel of the colouring sends over an edge up to the cut is what the colouring sends.
-use Rattle.std.proofs.Common.{◌≡◌, ℕ, zero, suc, ◌+◌, ◌-◌, ◌*◌, ◌<◌, ◌≤◌, List, length, refl, ap, sym, ◌∙◌, arith, subst}
+use Rattle.std.proofs.Common.{◌≡◌, ℕ, zero, suc, ◌+◌, ◌-◌, ◌*◌, ◌<◌, ◌≤◌, length, refl, ap, ◌∙◌, arith}
 use Rattle.std.specs.Prelude.{Option, Some, None}
 use Rattle.interference.specs.Net.{IsEdge, IsNetwork, Net, forest_count_of}
 use Rattle.node_api.specs.Program.{sizes_of}
-use Rattle.node_api.specs.declared.program.Refused.{Refused}
 use Rattle.forests.specs.Forests.{number}
 use Rattle.interference.proofs.Neighbours.{both-ways, neighbour-is_vertex}
 use Rattle.alpha_core.specs.Program.{sends}

@@ -1,19 +1,19 @@
 -- After the colouring a node of the independent set sends once at most, at the pulse of its colour, and of two
 -- neighbours one does.
-use Rattle.std.proofs.Common.{◌≡◌, ◌≢◌, ℕ, zero, suc, ◌+◌, ◌-◌, ◌*◌, ◌<◌, ◌≤◌, ◌==◌, ◌&&◌, Bool, true, false, List, refl, ap, sym, ◌∙◌, arith, subst, inl, inr}
-use Rattle.std.specs.Prelude.{◌||◌, if◌then◌else◌, nat_lt, not, Option, Some, None}
-use Rattle.std.proofs.lemmas.Bool.{and_parts, cases_Bool, ne_eqb, or_left, or_right}
+use Rattle.std.proofs.Common.{◌≡◌, ◌≢◌, ℕ, zero, suc, ◌+◌, ◌-◌, ◌*◌, ◌≤◌, ◌==◌, ◌&&◌, Bool, true, false, List, ap, sym, ◌∙◌, arith, subst, inl, inr}
+use Rattle.std.specs.Prelude.{◌||◌, nat_lt, not, Option, None}
+use Rattle.std.proofs.lemmas.Bool.{cases_Bool, ne_eqb, or_left, or_right}
 use Rattle.std.proofs.lemmas.Bool.Decides.{nat_tests}
 use native.Mathlib.Decide.{dec_lt}
 use Prim.{yes, no}
 use Rattle.interference.specs.Net.{IsEdge, IsNetwork, IsVertex, Net, forest_count_of, port_to, span_of}
 use Rattle.interference.proofs.Neighbours.{both-ways, neighbour-is_vertex}
-use Rattle.node_api.specs.Boxes.{at_port, nothing}
-use Rattle.node_api.specs.Program.{last_pulse_on, sizes_of}
+use Rattle.node_api.specs.Boxes.{at_port}
+use Rattle.node_api.specs.Program.{last_pulse_on}
 use Rattle.node_api.specs.Run.{inbox_from, last_state}
 use Rattle.node_api.proofs.Slots.{at_port-nothing}
 use Rattle.alpha_core.specs.Program.{sends}
-use Rattle.colour_rules.specs.Node.{Node, ports, steps}
+use Rattle.colour_rules.specs.Node.{Node, ports}
 use Rattle.followed.specs.Followed.{Both}
 use Rattle.independent_set.specs.Knowing.{Member, Wire, came, classes, independent_set, joins, told}
 use Rattle.independent_set.specs.Lawful.{at, at-class, classes_cut, coloured, cut}

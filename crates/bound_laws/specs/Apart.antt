@@ -1,6 +1,6 @@
 -- How far apart nodes without a clock can be.
 use Rattle.std.specs.Prelude.{ℕ, ◌+◌, ◌≤◌, Bool, List}
-use Rattle.interference.specs.Net.{IsNetwork, IsVertex, Net}
+use Rattle.interference.specs.Net.{IsVertex, Net}
 use Rattle.node_api.specs.Program.{Program}
 use Rattle.sync_rounds.specs.Reach.{IsWithinLinks}
 use Rattle.alpha_core.specs.declared.wire.Wire.{Wire}

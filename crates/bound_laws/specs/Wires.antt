@@ -1,7 +1,7 @@
 -- How many wires runs of workers put on their links.
 use Rattle.std.specs.Prelude.{◌≡◌, ℕ, ◌+◌, ◌*◌, ◌≤◌, Bool, true}
 use Rattle.interference.specs.Counts.{edge_count_of}
-use Rattle.interference.specs.Net.{IsNetwork, Net}
+use Rattle.interference.specs.Net.{Net}
 use Rattle.node_api.specs.Program.{Program, last_pulse_on}
 use Rattle.alpha_laws.specs.Counts.{payloads_sent}
 use Rattle.gather_laws.specs.Counts.{wires_put}

@@ -1,4 +1,4 @@
-use Rattle.std.proofs.Common.{◌≡◌, ◌+◌, ◌-◌, ◌*◌, arith}
+use Rattle.std.proofs.Common.{◌+◌, ◌-◌, ◌*◌, arith}
 use Rattle.forests.specs.Forests.{number}
 use Rattle.interference.specs.Net.{forest_count_of}
 use Rattle.colour_rules.specs.Program.{colouring}
