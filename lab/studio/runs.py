@@ -1,5 +1,7 @@
 """The calls on runs without a clock: a run by a seed, by threads or of a transcript, its verdicts, and a run that is
 made step by step."""
+import re
+
 from lab.definitions.nodes import Colouring
 from lab.definitions.programs import program_words
 from lab.pictures.program_rounds import is_own, least_wires, rounds_of
@@ -26,6 +28,7 @@ from lab.wrong import Wrong
 MOST_WIRES_PLAYED = 60_000
 # A part of a run is shown after so many entries, while the rest is worked out.
 PART = 1_500
+KINDS = "payload", "ack", "safe", "close"
 MOST_STEPS, MOST_BY_CHANCE = 6_000, 200
 
 
@@ -128,6 +131,7 @@ def run(asked, tell):
         "judge": judged(network, asked["network"], text, program),
         "same": same,
         "results": results,
+        "costs": {kind: len(re.findall(f"^.* put \\d+ {kind}", text, re.M)) for kind in KINDS},
         "of": singled_out(asked, network),
     }
 

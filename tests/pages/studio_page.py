@@ -238,6 +238,29 @@ class Drawn(Page):
             if what in ("rounds", "run"):
                 self.note("it needs no server", not re.search(r'src="|href="(?!data:)', saved))
 
+    def test_labels(self):
+        """No label covers another one or another node where there is room, on a desk and on a phone on its side."""
+        covered = """(() => { const box = e => e.getBoundingClientRect(), hit = (a, b) =>
+            Math.min(a.right, b.right) - Math.max(a.left, b.left) > 1
+            && Math.min(a.bottom, b.bottom) - Math.max(a.top, b.top) > 3;
+          const nodes = Array.from(document.querySelectorAll('#net .node'));
+          const said = nodes.map(n => box(n.querySelector('text:last-of-type')));
+          const rounds = nodes.map(n => box(n.querySelector('circle')));
+          return said.flatMap((a, v) => said.concat(rounds).filter((b, w) =>
+            w !== v && w !== v + nodes.length && hit(a, b))).length; })()"""
+        for name, sizes in (
+            ("petersen", ((1280, 800), (844, 390))),
+            ("chain6", ((1280, 800), (844, 390))),
+            ("disk100", ((1440, 900), (1280, 800))),
+        ):
+            self.go_to(f"example={name}&tab=draw")
+            self.sees(name, f"studio.net.example === '{name}' && studio.drawn.plan")
+            for wide, high in sizes:
+                self.page.size(wide, high)
+                time.sleep(0.5)
+                self.same(f"labels of {name} at {wide}", self.page.value(covered), 0)
+        self.page.size(1280, 800)
+
     def test_words(self):
         """What a screen reader is told of a node, and the arrows between the tabs."""
         label = "document.querySelector('#net [data-node=\"1\"]').getAttribute('aria-label')"

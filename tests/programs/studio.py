@@ -314,6 +314,11 @@ class Answers(Server):
             run["judge"]["ok"] and run["results"] == [2, 3, 1] and run["same"][0] == run["same"][1]
         )
         self.note("run", good, run["same"])
+        # Of the edges 3, the forests 2: greetings, labels, ten colours and choices; a safe a link and pulse, one close.
+        self.same(
+            "its safes and closes", (run["costs"]["safe"], run["costs"]["close"]), (6 * 30, 6)
+        )
+        self.same("its acks", run["costs"]["ack"], run["costs"]["payload"])
         slow = self.answer("run", network=TRIANGLE, policy="slow-node", seed="7")["answer"]
         self.note(
             "which node waits",

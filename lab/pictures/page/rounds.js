@@ -10,7 +10,8 @@ export function roundsLegend(place, film) {
     ? "A square is a node’s colour in the forest, from 0; grey: it is still a name (128d has 128 binary digits). A"
       + " circle is its channel, a colour plus one. Arrows go to parents. A number in a pill is a message, in a merge a"
       + " channel; dotted: it didn’t decide what the chosen node found. Below a node whose turn is to come is its pair:"
-      + " its colour in the forest, and its old colour. Yellow: it chooses now."
+      + " its colour in the forest, and its old colour. Yellow: it chooses now. A grey ring: its identifier decided what"
+      + " the chosen node found."
     : film.channels ? "A circle is a node’s channel; yellow: another one than before. A number in a pill is a message, of"
       + " colours chosen anew a channel."
     : "A number in a pill is a message on its way. Below a node is what it has found; yellow: something new.";

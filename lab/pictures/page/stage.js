@@ -6,8 +6,8 @@ const LARGEST = 22, LETTERS = new Intl.Segmenter(), TURNS = /[\u0590-\u08FF\u200
 export class Stage {
   // `net` has nodes {x, y, id, name, bars} from 0, and edges [v, w] from 1.
   constructor(svg, net) {
-    Object.assign(this, {svg, net, to: {scale: 1, x: 0, y: 0}, radius: LARGEST, wide: 1, high: 1, apart: 2.9,
-      least: 0, isZoomed: false, key: "", still: [], bends: new Map(), turns: new Map(), close: []});
+    Object.assign(this, {svg, net, isRough: false, to: {scale: 1, x: 0, y: 0}, radius: LARGEST, wide: 1, high: 1,
+      apart: 2.9, least: 0, isZoomed: false, key: "", still: [], bends: new Map(), spots: [], spotsOf: "", close: []});
     patch(svg, Array.from({length: 4}, () => mark("g", {}, [])));
     [this.edges, this.arrows, this.nodes, this.over] = svg.children;
   }
@@ -88,9 +88,11 @@ export class Stage {
     const {nodes, edges} = this.net;
     const now = JSON.stringify([nodes.map(n => [n.x, n.y]), edges, this.to, this.wide, this.apart]);
     if (now === this.key) return;
-    this.key = now;
     this.still = [];
-    this.turns = new Map();
+    // While a node is dragged the edges keep their bends, and the labels their sides.
+    if (this.isRough && this.close.length === nodes.length) return;
+    this.key = now;
+    this.spotsOf = "";
     this.close = nodes.map(() => []);
     edges.forEach(([v, w]) => { this.close[v - 1].push(w); this.close[w - 1].push(v); });
     this.close.forEach(list => list.sort((a, b) => a - b));
@@ -148,22 +150,53 @@ export class Stage {
     return [this.line(a, b, {stroke, "stroke-width": width}), mark("path", {fill: stroke,
       d: `M${tx} ${ty}L${bx - ey * half} ${by + ex * half}L${bx + ey * half} ${by - ex * half}Z`})];
   }
-  // Where a node's label has room: of 16 directions the one farthest from its edges.
-  turn(v, taken) {
-    const key = v + " " + taken;
-    if (this.turns.has(key)) return this.turns.get(key);
+  // Where the labels have room: for each node, one after another, of 16 directions one in which its label covers no
+  // other node and no label before it, and of these the one farthest from its edges.
+  labelSpots(said, size, taken) {
+    const key = JSON.stringify([said, taken]);
+    if (this.spotsOf === key) return this.spots;
+    this.spotsOf = key;
+    const placed = [];
+    this.spots = said.map((words_, k) => {
+      const v = k + 1, wide = words_.length * size * 0.3;
+      const spots = this.room(v, taken[k]).map(([least, turn]) =>
+        ({least, turn, ...this.labelAt(v, turn, wide, size, taken[k])}));
+      const cost = spot => this.covered(v, spot, wide, size, placed) - 0.01 * spot.least;
+      const best = spots.reduce((one, other) => cost(other) < cost(one) - 1e-9 ? other : one);
+      if (words_) placed.push([best.x, best.y, wide, size / 2]);
+      return best;
+    });
+    return this.spots;
+  }
+  // [how far it is from the node's edges, direction] of 16 directions, the usual ones first.
+  room(v, taken) {
     const angles = this.near(v).map(w => {
       const m = this.middle(v, w);
       return Math.atan2(m[1] - this.Y(v), m[0] - this.X(v));
     });
-    let best = [-1, 0];
-    for (const k of [12, 4, 11, 13, 3, 5, 10, 14, 2, 6, 0, 8, 1, 7, 9, 15]) {
+    return [12, 4, 11, 13, 3, 5, 10, 14, 2, 6, 0, 8, 1, 7, 9, 15].map((k, order) => {
       const turn = k * Math.PI / 8, least = Math.min(Math.PI, ...angles.concat(taken).map(other =>
         Math.abs(Math.atan2(Math.sin(turn - other), Math.cos(turn - other)))));
-      if (least > best[0] + 0.05) best = [least, turn];
-    }
-    this.turns.set(key, best[1]);
-    return best[1];
+      return [least - 0.05 * order / 16, turn];
+    });
+  }
+  // The corners of a square are farther out than a circle; what has no room at the side of the stage is above or below.
+  labelAt(v, turn, wide, size, taken) {
+    const x = this.X(v), y = this.Y(v), far = this.radius * (1 + 0.4 * Math.abs(Math.sin(2 * turn))) + 5 + size / 2;
+    const free = x + Math.cos(turn) * (far + Math.max(0, wide - 5) * Math.abs(Math.cos(turn)));
+    const at = Math.max(wide + 2, Math.min(this.wide - wide - 2, free)), isBelow = taken.includes(1.57);
+    if (Math.abs(at - free) <= 4) return {x: at, y: y + Math.sin(turn) * far};
+    return {x: at, y: y + (Math.sin(turn) > 0 && !isBelow ? far : -far)};
+  }
+  // How much of other nodes and of labels a label would cover, in pixels.
+  covered(v, spot, wide, size, placed) {
+    const over = (x, y, halfWide, halfHigh) => {
+      const across = wide + halfWide - Math.abs(spot.x - x), up = size / 2 + halfHigh - Math.abs(spot.y - y);
+      return across > 0 && up > 0 ? Math.min(across, up) : 0;
+    };
+    const r = this.radius;
+    return placed.reduce((sum, box) => sum + over(...box), 0)
+      + this.net.nodes.reduce((sum, _, k) => k + 1 === v ? sum : sum + over(this.X(k + 1), this.Y(k + 1), r, r), 0);
   }
 
   // Draws all. `edge(v, w)` gives an edge's attributes, `node(v, x, y, r)` the marks of a node, `label(v)` its words;
@@ -181,22 +214,20 @@ export class Stage {
       patch(this.edges, this.net.edges.map(([v, w]) => this.line(v, w, {stroke: "var(--edge)", "stroke-width": 1.6,
         ...(edge ? edge(v, w) : {}), "data-edge": v + "-" + w})));
       patch(this.arrows, links());
-      patch(this.nodes, this.net.nodes.map((_, k) => this.group(k + 1, {node, label, says, ring, bars, below})));
+      const size = Math.max(10, Math.min(13, this.radius * 0.75));
+      const said = this.net.nodes.map((_, k) => label ? label(k + 1) : nameOf(this.net, k + 1));
+      const taken = this.net.nodes.map(({bars: own}) => (below ? [1.57] : []).concat(bars && own.length ? [0.8] : []));
+      const spots = this.isRough && this.spots.length === said.length ? said.map((words_, k) => this.labelAt(k + 1,
+        this.spots[k].turn, words_.length * size * 0.3, size, taken[k])) : this.labelSpots(said, size, taken);
+      patch(this.nodes, this.net.nodes.map((_, k) =>
+        this.group(k + 1, {node, said: said[k], spot: spots[k], size, says, ring, bars})));
     }
     patch(this.over, above());
   }
-  group(v, {node, label, says, ring, bars, below}) {
-    const x = this.X(v), y = this.Y(v), r = this.radius, size = Math.max(10, Math.min(13, r * 0.75));
-    const colour = ring && ring(v), said = label ? label(v) : nameOf(this.net, v), own = this.net.nodes[v - 1].bars;
-    const taken = (below ? [1.57] : []).concat(bars && own.length ? [0.8] : []), turn = this.turn(v, taken);
-    // The corners of a square are farther out than a circle.
-    const wide = said.length * size * 0.3, far = r * (1 + 0.4 * Math.abs(Math.sin(2 * turn))) + 5 + size / 2;
-    const free = x + Math.cos(turn) * (far + Math.max(0, wide - 5) * Math.abs(Math.cos(turn)));
-    // What has no room at the side of the stage is above or below its node.
-    const lx = Math.max(wide + 2, Math.min(this.wide - wide - 2, free)), isMoved = Math.abs(lx - free) > 4;
-    const ly = isMoved ? y + (Math.sin(turn) > 0 && !below ? far : -far) : y + Math.sin(turn) * far;
+  group(v, {node, said, spot, size, says, ring, bars}) {
+    const x = this.X(v), y = this.Y(v), r = this.radius, colour = ring && ring(v), own = this.net.nodes[v - 1].bars;
     const parts = [colour && mark("circle", {cx: x, cy: y, r: r + 5, fill: "none", stroke: colour, "stroke-width": 4}),
-      ...node(v, x, y, r), words(lx, ly, size, "var(--soft)", said, HALO)];
+      ...node(v, x, y, r), words(spot.x, spot.y, size, "var(--soft)", said, HALO)];
     if (bars) own.slice(0, 4).forEach((bar, n) => parts.push(...barMark(x + r + 8 + n * 19, y + r + 5, 9, bar)));
     const more = `+${own.length - 4}`;
     if (bars && own.length > 4) parts.push(words(x + r + 90, y + r + 5, 11, "var(--wrong)", more, HALO));

@@ -1,7 +1,7 @@
 // The tab No clock: a run by a seed or by real threads, its verdicts, another order or the rounds beside it.
 import {call} from "./api.js";
-import {KEYS, all, among, announce, by, capital, fill, hide, listOf, programNamed, progress, say, seen, show, showOptions,
-  stage, tabs, time, toggle, tried, wrong} from "./base.js";
+import {KEYS, all, among, announce, by, capital, fill, hide, listOf, programNamed, progress, say, seen, show,
+  showOptions, stage, tabs, time, toggle, tried, wrong} from "./base.js";
 import {decoded, net, text} from "./model.js";
 import {rounds} from "./rounds_tab.js";
 import {RunFilm, lookWords, runLegend, waitsTable} from "./run.js";
@@ -11,7 +11,7 @@ import {Stage} from "./stage.js";
 export const run = {film: null, found: null, of: null, key: null, steps: [], transcript: null, other: null, film2: null,
   key2: null, judgedAt: null};
 const second = new Stage(by("second"), net), small = new Stage(by("small"), net);
-const SAID = ["judge", "judgehere", "same", "now", "table"];
+const SAID = ["judge", "judgehere", "same", "costs", "now", "table"];
 let judgeTimer = null;
 
 function how() {
@@ -28,7 +28,7 @@ function take(found, {program, network}, isPart) {
   by("table").key = null;
   by("judgehere").textContent = "";
   if (!isPart) return verdicts(found, run.film, "");
-  by("same").textContent = "";
+  ["same", "costs"].forEach(id => { by(id).textContent = ""; });
   by("judge").className = "verdict soft";
   by("judge").textContent = "This is its beginning: the rest is on its way.";
 }
@@ -133,9 +133,10 @@ function showAt() {
   const results = run.found.results || [], last = run.film.last(at);
   const isFound = (v, is) => is.c === results[v - 1] && (is.e || is.p === run.found.last);
   fill("table", `${at} ${seen.node}`, () => [waitsTable(run.film.looks(at), {only: seen.node, lit: last && last[1],
-    head: "in the rounds", more: (v, is) => (results[v - 1] || "") + (isFound(v, is) ? " ✓" : "")})]);
+    head: "found in the rounds", more: (v, is) => resultSaid(results[v - 1]) + (isFound(v, is) ? " ✓" : "")})]);
   showRounds(at);
 }
+function resultSaid(result) { return typeof result === "number" ? `channel ${result}` : result || ""; }
 // How far apart the pulses of neighbours are, and of all nodes.
 function apart(looks) {
   const most = pairs => Math.max(0, ...pairs.map(([v, w]) => Math.abs(looks[v - 1].p - looks[w - 1].p)));
@@ -154,10 +155,13 @@ function showRounds(at) {
   by("small").setAttribute("aria-label", `the rounds, pulse ${p}`);
   say("besidesaid", ` (pulse ${p})`);
 }
+function of_(which) { return which ? "Second run: " : ""; }
 // What is said of a whole run; `which` is "2" of the other order beside it.
 function verdicts(found, film, which) {
   const {judge} = found, entries = judge.entries.toLocaleString("en"), [same, pulses_, payloads] = found.same;
-  const judged = by("judge" + which), compared = by("same" + which), of = which ? "Second run: " : "";
+  const kinds = Object.entries(found.costs).map(([kind, count]) => `${count.toLocaleString("en")} ${kind}s`);
+  by("costs" + which).textContent = `${of_(which)}over the links went ${kinds.join(", ")}.`;
+  const judged = by("judge" + which), compared = by("same" + which), of = of_(which);
   judged.className = "verdict " + (judge.ok ? "good" : "bad");
   judged.textContent = of + (judge.ok ? `✓ ${judge.by} accepts these ${entries} entries, a whole run.`
     : `✗ ${judge.by}: ${judge.said}`);

@@ -147,6 +147,7 @@ svg.onpointermove = event => {
   if (!drag || !drag.moved && Math.hypot(event.clientX - drag.x, event.clientY - drag.y) < 5) return;
   if (drag.v && seen.tab === "draw") {
     const {v, key} = drag;
+    stage.isRough = true;
     change(n => Object.assign(n.nodes[v - 1], stage.placeOf(event)), key, "move");
   } else if (!drag.v && net.nodes.length) {
     const from = drag.moved || drag;
@@ -159,12 +160,13 @@ svg.onpointerup = event => {
   const was = drag;
   drag = null;
   apart = null;
+  if (stage.isRough) { stage.isRough = false; show(); }
   fingers.delete(event.pointerId);
   if (!was || was.moved) return was && hooks.link();
   if (seen.tab !== "draw" && !net.nodes.length) return;
   tabs[seen.tab].click(was.v, was.v ? null : stage.edgeAt(event), event, was.step);
 };
-svg.onpointercancel = event => { fingers.delete(event.pointerId); drag = apart = null; };
+svg.onpointercancel = event => { fingers.delete(event.pointerId); drag = apart = null; stage.isRough = false; };
 svg.onwheel = event => {
   event.preventDefault();
   stage.zoom(Math.exp(-event.deltaY / 500), ...stage.point(event));
@@ -332,6 +334,7 @@ menu("lecture", async number => {
   await follow();
   showPlace(place);
 });
+by("skip").onclick = () => { const first = stage.svg.querySelector("[data-node]"); if (first) first.focus(); };
 all("nav button").forEach(one => { one.onclick = () => hooks.go(one.dataset.tab); });
 
 document.onkeydown = event => {
