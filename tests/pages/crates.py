@@ -3,6 +3,9 @@
 - Each wrong body (crates/NAME/must-fail/ and wrong-bodies/) still applies: each `old:` text is exactly once in its file
   and is changed. A line `clause: NAME`, which says what refuses it, names a clause of a function in a file that it
   changes, or `result` if the clause has no name; `clause: NAME of WHAT` one of another function, type or record.
+- Each public constant with a number of its own has a line `prove!`, or a clause, that says the number: in its crate, or
+  in one that takes it from there.
+- `main` of each program has the type that `serve_words` alone makes, of its own commands and the standard streams.
 - No line is wider than 120 columns in src/ and specs/, and than 160 in proofs/.
 - Each crate of crates.txt lists each crate that its own files name, and no other. A crate that the head of a `lib.rt`
   names as a caller ("`answers` calls ..") lists the crate. No file passes a name of another crate on: no `pub use` of a
@@ -12,7 +15,7 @@ import glob
 import os
 import re
 
-from build.crate_lists import listed
+from build.crate_lists import PROGRAMS, listed
 from tests import TOP
 from tests.cases import Case, text_in
 
@@ -26,6 +29,11 @@ CALLERS = (
     r"((?:`\w+`(?:, and |, | and )?)+) "
     r"(?:calls?|cites?|uses?|reads?|writes?|prints?|plays?|checks?|keeps?|numbers|builds)\b"
 )
+
+
+NUMBER = r"^pub const ([A-Z_]+): [iu]\w+ = ([\d_]+);"
+SAID = r"prove!\([^;]*\);|ensures \w+ \{ [A-Z_]+ ≡ \d+ \}"
+TESTS = ("checks", "worker_checks")
 
 
 def unfound(path):
@@ -100,6 +108,37 @@ class Crates(Case):
                 if len(line) > widest
             ]
             self.same(f"lines of {part}/ wider than {widest} columns", wide, [])
+
+    def test_numbers(self):
+        """Each public constant that is a number is proved to be this number."""
+        texts = {
+            crate: "".join(text for path, text in files_of(crate) if path.endswith(".rt"))
+            for crate in listed()
+            if crate not in TESTS
+        }
+        count = 0
+        for crate, text in texts.items():
+            for name, number in re.findall(NUMBER, text, re.M):
+                count += 1
+                taken = rf"^use {crate}::[^;]*\b{name}\b"
+                takers = [other for other in texts.values() if re.search(taken, other, re.M)]
+                said = " ".join(re.findall(SAID, "".join([text, *takers])))
+                numbers = re.findall(rf"\b{name} (?:==|≡) ([\d_]+)", said)
+                self.note(f"{crate} {name}", int(number) in map(int, numbers), numbers)
+        self.note("there are such constants", count > 15, count)
+
+    def test_main(self):
+        """`main` ends with what `serve_words` makes of its own commands and the standard streams."""
+        for program in PROGRAMS:
+            commands = program.capitalize() + "Commands"
+            text = text_in(TOP, "crates", program, "src", "main.rt")
+            self.same(
+                f"type of main of {program}",
+                re.findall(r"fn main\((.*)\) -> (.*) \{", text),
+                [("rt: HostRuntime", f"Served<{commands}, Stdin, Stdout, Stderr>")],
+            )
+        served = "".join(text for _, text in files_of("serving"))
+        self.same("what makes one", re.findall(r"^ *Served \{", served, re.M), ["    Served {"])
 
     def test_lists(self):
         """What a crate lists, who a head says that calls it, and names that are passed on."""

@@ -6,22 +6,16 @@
 //! ```
 //!
 //! It hands the words and the streams that the system gives to `serving`, whose contract says what is written
-//! and which status comes, for all words and every input.
+//! and which status comes, for all words and every input. The type of `main` says that it ends with this status.
 #![tactic(auto)]
 
 use play_commands::ForestplayCommands;
-use serving::{arguments, serve_words};
-use std::process::ExitCode;
+use serving::{Served, arguments, serve_words};
+use std::rt::{Stderr, Stdin, Stdout};
 
-fn main(rt: HostRuntime) -> ExitCode {
+fn main(rt: HostRuntime) -> Served<ForestplayCommands, Stdin, Stdout, Stderr> {
     let mut input = rt.stdin();
     let mut output = rt.stdout();
     let mut errors = rt.stderr();
-    ExitCode::from(serve_words::<ForestplayCommands, _, _, _, _>(
-        &rt,
-        arguments(&rt),
-        &mut input,
-        &mut output,
-        &mut errors,
-    ))
+    serve_words(&rt, arguments(&rt), &mut input, &mut output, &mut errors)
 }

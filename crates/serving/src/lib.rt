@@ -2,7 +2,8 @@
 //! status, over a source and two sinks of the caller's.
 //!
 //! What the commands of an executable are is its `Commands`. Those of `forestplan` are here, and those of `forestplay`
-//! in `play_commands`. Each program calls `serve_words` with the words and the streams that the system gives.
+//! in `play_commands`. Each program calls `serve_words` with the words and the streams that the system gives, and ends
+//! with the `Served` that it returns.
 //!
 //! ```
 //! let mut input: &[u8] = b"p edge 2 1\ne 1 2\n";
@@ -22,10 +23,12 @@
 mod answer;
 mod commands;
 mod process;
+mod served;
 mod serving;
 mod words;
 
 pub use answer::ForestplanCommands;
 pub use commands::Commands;
-pub use process::{arguments, serve_words};
+pub use process::arguments;
+pub use served::{Served, serve_words};
 pub use serving::serve;

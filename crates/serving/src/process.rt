@@ -22,11 +22,10 @@ pub fn arguments<T: Env + AllocGlobal>(rt: &T) -> io::Result<Vec<String>> {
     Ok(std::env::args(rt)?.collect(rt.alloc())?)
 }
 
-/// Serves the command of an executable that the words name, and returns the status of the program. `main` gives
-/// `arguments`, standard input, output and errors.
+/// Serves the command of an executable that the words name, and returns the status of the program.
 ///
 /// If a word is no text, the words are those of `no_text_of`: the name of the executable, and U+FFFD.
-pub fn serve_words<C: Commands, T, R: Source, W: Sink, E: Sink>(
+pub fn status_of<C: Commands, T, R: Source, W: Sink, E: Sink>(
     rt: &T,
     words: io::Result<Vec<String>>,
     input: &mut R,

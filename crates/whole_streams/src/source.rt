@@ -39,6 +39,8 @@ impl Source for &[u8] {
 /// The number of reads after which an input counts as endless.
 pub const READ_LIMIT: u32 = 1_073_741_824;
 
+const _: () = prove!(READ_LIMIT == 1_073_741_824);
+
 const PIECE: usize = 65_536;
 
 /// Why an input was not read whole.

@@ -2,7 +2,7 @@ use Rattle.std.proofs.Common.{refl}
 use Rattle.serving.specs.Serve.{no_text_of}
 use Rattle.serving.specs.Streams.{reading, writing}
 use Rattle.serving.proofs.Giving.{no-memory}
-use Rattle.serving.proofs.process.serve_words.Goals as goal
+use Rattle.serving.proofs.process.status_of.Goals as goal
 
 pub returns-in-Err-clause-refused : goal.returns-in-Err-clause-refused
 returns-in-Err-clause-refused g c = rw c.in-Err.is (
