@@ -1,3 +1,2 @@
-pub mod Asides
 pub mod Makes
 pub mod News

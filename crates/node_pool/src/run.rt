@@ -1,20 +1,19 @@
 //! A run of workers, from a network to its outcome.
 
-ghost use Rattle.std.specs.Prelude.{◌≡◌, ◌↔◌, IfErr, IfOk, IsTrue, Result, Err, map};
+ghost use Rattle.std.specs.Prelude.{◌≡◌, ◌≢◌, ◌↔◌, IfErr, IfOk, IsTrue, Result, Err, map};
 ghost use Rattle.actor.specs.Tables.{table_of};
 ghost use Rattle.gather_laws.specs.Outcome.{IsOutcome};
-ghost use Rattle.run_faults.specs.declared.fault.PoolFault.TheVariants.{BadOptions};
+ghost use Rattle.run_faults.specs.declared.fault.PoolFault.TheVariants.{BadOptions, StampFull};
 ghost use Rattle.run_options.specs.Ranges.{AreInRange};
 ghost use Rattle.outcomes.specs.Rows.{rows_of};
-ghost use Rattle.node_pool.specs.Asides.{unless_full};
 ghost use Rattle.node_pool.specs.Makes.{AreMade, tables_of};
 
 use crate::making::{Made, make_links};
 use crate::starting::start_nodes;
-use actor::{Gate, Links, Node, Wiring};
+use actor::{Gate, Links, Wiring};
 use interference::Network;
 use node_api::NodeProgram;
-use outcomes::{Outcome, gathered, some_full};
+use outcomes::{Outcome, gathered};
 use pool::{NodesFault, run_nodes};
 use run_faults::PoolFault;
 use run_options::{MAX_CAPACITY, MAX_WORKERS, Options};
@@ -31,16 +30,6 @@ fn are_in_range(options: Options) -> bool
         && options.workers <= MAX_WORKERS
         && 1 <= options.capacity
         && options.capacity <= MAX_CAPACITY
-}
-
-// Whether a node set a wire aside since the stamp of its take would be too great: that is the fault of the run.
-fn unless_full<J: Wiring, P: NodeProgram>(nodes: &[Box<Node<J, P>>]) -> Result<(), NodesFault>
-    ensures full { result ≡ unless_full tt (map (λ b. b.value.aside) nodes.now) }
-{
-    if some_full(nodes) {
-        return Err(NodesFault::StampFull);
-    }
-    Ok(())
 }
 
 // Runs nodes over the links that were made, whose queues the run has picked.
@@ -65,7 +54,6 @@ fn run_made<J: Wiring + Send + Sync, P: NodeProgram, G: Gate + Sync, R: Threads 
     let nodes = start_nodes::<J, P>(alloc, net, ends, options.transcript)?;
     let links = Links::<J, P>::new(links);
     let nodes = run_nodes(rt, alloc, &links, gate, nodes, options)?;
-    unless_full(nodes.as_slice())?;
     Ok(gathered(rt, alloc, net, &links, nodes)?)
 }
 
@@ -78,9 +66,8 @@ fn run_made<J: Wiring + Send + Sync, P: NodeProgram, G: Gate + Sync, R: Threads 
 /// # Errors
 ///
 /// `BadOptions`, which is looked at first, exactly if the options are out of range; `Memory` if memory is refused;
-/// `Spawn` if a thread is, and those that had begun are joined; `StampFull` if a stamp would pass
-/// 18446744073709551615, and there is no other fault. No clause says which of these three it is. Nothing is left of
-/// the run.
+/// `Spawn` if a thread is, and those that had begun are joined. No clause says which of these two it is. Never
+/// `StampFull`: no stamp comes to 2^64, since a whole run has fewer events. Nothing is left of the run.
 pub fn run_workers<P: NodeProgram, G: Gate + Sync, R: Threads + Wait + Sync>(
     rt: &R,
     alloc: Global,
@@ -92,6 +79,7 @@ pub fn run_workers<P: NodeProgram, G: Gate + Sync, R: Threads + Wait + Sync>(
         (λ outcome. IsOutcome P.program net.now options.capacity options.transcript outcome) }
     ensures in_range { IfOk result (λ _. AreInRange options) }
     ensures bad_options { IfErr result (λ fault. fault ≡ BadOptions → AreInRange options → ⊥) }
+    ensures stamps_fit { IfErr result (λ fault. fault ≢ StampFull) }
     ensures reported_first { (AreInRange options → ⊥) → result ≡ Err BadOptions }
 {
     if !are_in_range(options) {

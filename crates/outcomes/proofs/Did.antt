@@ -26,7 +26,7 @@ use Rattle.outcomes.proofs.Simulating.{written}
 use Rattle.outcomes.proofs.Stamping.{have_met}
 
 -- each thing has something, so a list of things has all of it
-chosen : {A : Type 0} {D : A → Type 0} → ((a : A) → ∥ D a ∥₁) → (xs : List A)
+pub chosen : {A : Type 0} {D : A → Type 0} → ((a : A) → ∥ D a ∥₁) → (xs : List A)
     → ∥ ((ys : List ((a : A) × D a)) × (map (λ y. y.0) ys ≡ xs)) ∥₁
 chosen each [] = ∣ ([], refl) ∣₁
 chosen each (x ∷ xs) = ∥∥₁_elim (each x) ∥∥₁_prop (λ d. ∥∥₁_map (chosen each xs) (λ ys. ((x, d) ∷ ys.0, ap (λ l. x ∷ l) ys.1)))
@@ -34,11 +34,12 @@ chosen each (x ∷ xs) = ∥∥₁_elim (each x) ∥∥₁_prop (λ d. ∥∥₁
 module _ {S M E A X Y : Type 0} {program : Program S M E} {net : Net} {nodes : List A} {vertex : A → ℕ} {alpha : A → Alpha S M}
     {aside : A → Option (Aside M)} {counter : A → ℕ} {puts : A → List X} {put : X → List (Stamped M)} {takes : A → List Y} {taken : Y → List (Stamped M)}
     {entries : A → List (StampedEntry M)} {crossed : List (List Y)} {transcript : Bool} {outcome : Outcome S M}
-    (are : AreGathered program net nodes vertex alpha aside counter puts put takes taken entries crossed transcript outcome) where
+    (are : AreGathered program net nodes vertex alpha aside counter puts put takes taken entries crossed transcript outcome)
+    (by_refusal : All (λ a. (x : Aside M) → aside a ≡ Some x → x.why ≡ Refused) nodes) where
   -- with a transcript, a list of events leads to the nodes and links
   run_to : IsTrue transcript → IsRunTo program net (node_in program net outcome) (λ v i. link_of (link_in outcome v i))
   run_to on =
-      let met = have_met are (written are) on in
+      let met = have_met are (written are by_refusal) on in
       let merge = merge_of (count_of net) (entries_in outcome) (met_written program net are.network _ _ _ _ _ (entries_in outcome) met).1 in
       let to = (runs_merge program net are.network outcome _ _ met (λ v i is lt. sym (taken_is are v i is lt)) merge.0 merge.1).0 in
       record { events = to.replay.events; last = to.last; is_run = to.replay.is_run; nodes_are = to.nodes_are; links_are = to.links_are }
@@ -56,13 +57,13 @@ module _ {S M E A X Y : Type 0} {program : Program S M E} {net : Net} {nodes : L
     by f = sym (map-map f (λ (y : (a : A) × DidAt a). y.0) all) ∙ ap (map f) same
 
     -- the outcome, had the nodes written down what they did
-    abbrev full : Outcome S M
+    abbrev pub full : Outcome S M
     full = record {
       nodes = map (λ (y : (a : A) × DidAt a). record { vertex = vertex y.0; alpha = alpha y.0; entries = y.1.entries }) all;
       links = outcome.links;
     }
 
-    gathered_full : AreGathered program net all (λ y. vertex y.0) (λ y. alpha y.0) (λ y. aside y.0) (λ y. counter y.0) (λ y. puts y.0) put
+    pub gathered_full : AreGathered program net all (λ y. vertex y.0) (λ y. alpha y.0) (λ y. aside y.0) (λ y. counter y.0) (λ y. puts y.0) put
         (λ y. takes y.0) taken (λ y. y.1.entries) crossed true full
     gathered_full = record {
       laws = are.laws;
@@ -70,8 +71,6 @@ module _ {S M E A X Y : Type 0} {program : Program S M E} {net : Net} {nodes : L
       last = λ y. are.last y.0;
       keeps = λ y. are.keeps y.0;
       set_aside = λ y. are.set_aside y.0;
-      by_refusal = all_by (λ a. (x : Aside M) → aside a ≡ Some x → x.why ≡ Refused) (λ y. y.0) all
-          (subst (λ l. All (λ a. (x : Aside M) → aside a ≡ Some x → x.why ≡ Refused) l) (sym same) are.by_refusal);
       writes = λ y. y.1.writes;
       stamps = λ y. y.1.stamps;
       outs = λ y. are.outs y.0;
@@ -86,9 +85,12 @@ module _ {S M E A X Y : Type 0} {program : Program S M E} {net : Net} {nodes : L
       splits = are.splits;
     }
 
-    run_of : IsRunTo program net (node_in program net outcome) (λ v i. link_of (link_in outcome v i))
-    run_of =
-        let to = run_to gathered_full refl in
+    run_of : All (λ a. (x : Aside M) → aside a ≡ Some x → x.why ≡ Refused) nodes
+        → IsRunTo program net (node_in program net outcome) (λ v i. link_of (link_in outcome v i))
+    run_of by_refusal =
+        let refused = all_by (λ a. (x : Aside M) → aside a ≡ Some x → x.why ≡ Refused) (λ y. y.0) all
+        (subst (λ l. All (λ a. (x : Aside M) → aside a ≡ Some x → x.why ≡ Refused) l) (sym same) by_refusal) in
+        let to = run_to gathered_full refused refl in
         let alphas = gathered_full.alphas_are ∙ by alpha ∙ sym are.alphas_are in
         record {
           events = to.events;
@@ -98,5 +100,6 @@ module _ {S M E A X Y : Type 0} {program : Program S M E} {net : Net} {nodes : L
           links_are = to.links_are;
         }
 
-  pub ran : ((a : A) → ∥ DidAt a ∥₁) → ∥ IsRunTo program net (node_in program net outcome) (λ v i. link_of (link_in outcome v i)) ∥₁
-  ran each = ∥∥₁_map (chosen each nodes) (λ ys. run_of ys.0 ys.1)
+  pub ran : ((a : A) → ∥ DidAt a ∥₁) → All (λ a. (x : Aside M) → aside a ≡ Some x → x.why ≡ Refused) nodes
+      → ∥ IsRunTo program net (node_in program net outcome) (λ v i. link_of (link_in outcome v i)) ∥₁
+  ran each by_refusal = ∥∥₁_map (chosen each nodes) (λ ys. run_of ys.0 ys.1 by_refusal)

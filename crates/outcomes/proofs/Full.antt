@@ -1,33 +1,35 @@
--- If no node has set a wire aside since its stamp would be too great, each wire that was set aside was refused.
-use Rattle.std.proofs.Common.{◌≡◌, false, List, [], ◌∷◌, map, Some, None, refl, subst, ap}
-use Rattle.std.specs.List.{list_any}
-use Rattle.std.specs.Prelude.{All, Option, ◌||◌, Bool, true}
-use Rattle.std.proofs.lemmas.List.Elements.{All-cons, All-nil}
+-- What nodes whose stamps are few have set aside, and what they remember.
+use Rattle.std.proofs.Common.{◌≡◌, ℕ, ◌+◌, ◌^◌, ◌<◌, ◌≤◌, List, Some, refl, ap, ◌∙◌, arith, get_or}
+use Rattle.std.specs.Prelude.{All, Option, max}
 use Rattle.actor.specs.declared.aside.Aside.{Aside}
 use Rattle.actor.specs.declared.aside.WhyAside.{WhyAside}
 use Rattle.actor.specs.declared.aside.WhyAside.TheVariants.{Refused, StampFull}
-use Rattle.outcomes.specs.Full.{is_full, is_full_why, some_full}
+use Rattle.actor.specs.declared.refused.TurnRefused.{TurnRefused}
+use Rattle.actor.specs.declared.refused.TurnRefused.TheVariants as refused
+use Rattle.actor.specs.HasStamps.{aside_stamp, stamp_of_why}
+use Rattle.outcomes.specs.Full.{HasStampLeft}
 
-neither : (a b : Bool) → a || b ≡ false → (a ≡ false) × (b ≡ false)
-neither true b e = absurd cc
-neither false b e = (refl, e)
+-- a node that has a stamp left has set no wire aside for its stamp
+not_for_its_stamp : {M : Type 0} (counter : ℕ) (aside : Option (Aside M)) (x : Aside M) → HasStampLeft counter aside → aside ≡ Some x
+    → ((s : ℕ) → x.why ≡ StampFull s → 2 ^ 64 ≤ max counter s + 1) → x.why ≡ Refused
+not_for_its_stamp counter aside x left e full = by_why x.why refl
+  where
+    by_why : (why : WhyAside) → x.why ≡ why → x.why ≡ Refused
+    by_why Refused same = same
+    by_why (StampFull s) same =
+        let came : aside_stamp aside ≡ s = ap (λ o. aside_stamp o) e ∙ ap (λ w. stamp_of_why w) same in
+        let past = full s same in
+        absurd (omega (arith, left, came, past))
 
-why_refused : (why : WhyAside) → is_full_why why ≡ false → why ≡ Refused
-why_refused Refused e = refl
-why_refused (StampFull s) e = absurd cc
+module _ {A M : Type 0} (counter : A → ℕ) (aside : A → Option (Aside M)) (nodes : List A) where
+  pub all_left : (most : ℕ) → most < 2 ^ 60 → All (λ a. max (counter a) (aside_stamp (aside a)) ≤ most) nodes
+      → All (λ a. HasStampLeft (counter a) (aside a)) nodes
+  all_left most few within k d lt = let le = within k d lt in omega (arith, le, few)
 
-module _ {A M : Type 0} (aside : A → Option (Aside M)) where
-  -- each node asked by itself
-  pub some_full-any : (nodes : List A) → list_any (λ a. is_full (aside a)) nodes ≡ some_full (map aside nodes)
-  some_full-any [] = refl
-  some_full-any (a ∷ nodes) = ap (λ b. is_full (aside a) || b) (some_full-any nodes)
-
-  refused_one : (o : Option (Aside M)) → is_full o ≡ false → (x : Aside M) → o ≡ Some x → x.why ≡ Refused
-  refused_one None e x is = absurd cc
-  refused_one (Some y) e x is = let same : y ≡ x = cc in subst (λ z. z.why ≡ Refused) same (why_refused y.why e)
-
-  pub all_refused : (nodes : List A) → some_full (map aside nodes) ≡ false → All (λ a. (x : Aside M) → aside a ≡ Some x → x.why ≡ Refused) nodes
-  all_refused [] e = All-nil (λ a. (x : Aside M) → aside a ≡ Some x → x.why ≡ Refused)
-  all_refused (a ∷ nodes) e =
-      let parts = neither (is_full (aside a)) (some_full (map aside nodes)) e in
-      All-cons (λ a. (x : Aside M) → aside a ≡ Some x → x.why ≡ Refused) a nodes (refused_one (aside a) parts.0) (all_refused nodes parts.1)
+  module _ (left : All (λ a. HasStampLeft (counter a) (aside a)) nodes) where
+    -- each wire that was set aside was refused
+    pub all_refused : ((a : A) (x : Aside M) → aside a ≡ Some x → (s : ℕ) → x.why ≡ StampFull s → 2 ^ 64 ≤ max (counter a) s + 1)
+        → All (λ a. (x : Aside M) → aside a ≡ Some x → x.why ≡ Refused) nodes
+    all_refused full k d lt x e =
+        let a = get_or nodes k d in
+        not_for_its_stamp (counter a) (aside a) x (left k d lt) e (λ s why. full a x e s why)

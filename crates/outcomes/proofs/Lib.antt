@@ -8,6 +8,8 @@ pub mod Sides
 mod MetRows
 mod Linked
 mod Stamping
+mod Wires
+mod Fits
 mod Full
 mod Every
 mod Meetings

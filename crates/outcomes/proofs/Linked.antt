@@ -12,7 +12,6 @@ use Rattle.alpha_core.specs.declared.stamped.Stamped.{Stamped}
 use Rattle.alpha_core.specs.StampedWires.{wires_of}
 use Rattle.alpha_core.specs.View.{Alpha}
 use Rattle.actor.specs.declared.aside.Aside.{Aside}
-use Rattle.actor.specs.declared.aside.WhyAside.TheVariants.{Refused}
 use Rattle.actor.specs.HasStamps.{HasStamps}
 use Rattle.actor.specs.Node.{IsAside, by_port, reacted_to}
 use Rattle.actor.specs.Written.{IsTranscript}
@@ -33,7 +32,6 @@ pub record AreGathered {S M E A X Y : Type 0} (program : Program S M E) (net : N
       (by_port (reacted_to (aside a) (map (λ y. wires_of (taken y)) (takes a))))
   pub set_aside : (a : A) (x : Aside M) → aside a ≡ Some x
       → IsAside (last_pulse_on program net) (alpha a).node.view (map (λ y. wires_of (taken y)) (takes a)) x
-  pub by_refusal : All (λ a. (x : Aside M) → aside a ≡ Some x → x.why ≡ Refused) nodes
   pub writes : (a : A) → IsTranscript program net (vertex a) transcript (alpha a).node (by_port (map (λ x. wires_of (put x)) (puts a)))
       (by_port (reacted_to (aside a) (map (λ y. wires_of (taken y)) (takes a)))) (bare_of (entries a))
   pub stamps : (a : A) → HasStamps net (vertex a) transcript (counter a) (by_port (map put (puts a))) (by_port (map taken (takes a))) (entries a)

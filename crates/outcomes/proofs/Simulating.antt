@@ -1,8 +1,8 @@
 -- The nodes that were gathered, and the lists of their links, are an outcome.
 -- 1. The ends have met, with what the links say was put and taken (`Linked`).
--- 2. So no wire was set aside, and each node keeps its links with the lists of the links (`kept`).
+-- 2. No wire was set aside for its stamp (`Fits`), so none was set aside, and each node keeps its links with the lists of the links (`kept`).
 -- 3. So the nodes simulate the synchronous run, and keep their stamps (`Stamping`); the rest is read of the rows (`is_outcome`).
-use Rattle.std.proofs.Common.{◌≡◌, ℕ, ◌-◌, ◌<◌, ◌≤◌, List, [], ◌++◌, length, map, get_or, sym, ap, ◌∙◌, subst, arith, None}
+use Rattle.std.proofs.Common.{◌≡◌, ℕ, ◌-◌, ◌<◌, ◌≤◌, List, [], ◌++◌, length, map, get_or, sym, ap, ◌∙◌, subst, arith, None, Some}
 use Rattle.std.specs.Prelude.{Bool, Option, All}
 use Rattle.std.proofs.Math.Path.{transport}
 use Rattle.std.proofs.lemmas.List.{length-map}
@@ -20,6 +20,7 @@ use Rattle.alpha_core.specs.StampedWires.{wires_of}
 use Rattle.alpha_core.specs.View.{Alpha}
 use Rattle.alpha_core.specs.declared.wire.Wire.{Wire}
 use Rattle.actor.specs.declared.aside.Aside.{Aside}
+use Rattle.actor.specs.declared.aside.WhyAside.TheVariants.{Refused}
 use Rattle.entries.specs.declared.rows.StampedEntry.{StampedEntry}
 use Rattle.entries.specs.Rows.{bare_of}
 use Rattle.actor.specs.Node.{IsAside, by_port, reacted_to}
@@ -36,95 +37,63 @@ use Rattle.outcomes.proofs.Rows.{get_map, get_field, length-nodes}
 use Rattle.outcomes.proofs.Linked.{AreGathered, alpha_is, entries_at, here, many, put_is, puts_at, puts_here, row_long, row_there, split_is, taken_here}
 use Rattle.outcomes.proofs.Linked.{taken_is, takens_at, takens_here}
 use Rattle.outcomes.proofs.Stamping.{have_met}
+use Rattle.outcomes.proofs.Wires.{aside_at, aside_is, asides_at, as_many_ports, came_at, came_by, came_is, node_is, sent_at, sent_by, sent_is}
+use Rattle.outcomes.proofs.Wires.{wires_split, wrote_at}
 
 module _ {S M E A X Y : Type 0} {program : Program S M E} {net : Net} {nodes : List A} {vertex : A → ℕ} {alpha : A → Alpha S M}
     {aside : A → Option (Aside M)} {counter : A → ℕ} {puts : A → List X} {put : X → List (Stamped M)} {takes : A → List Y} {taken : Y → List (Stamped M)}
     {entries : A → List (StampedEntry M)} {crossed : List (List Y)} {transcript : Bool} {outcome : Outcome S M}
-    (are : AreGathered program net nodes vertex alpha aside counter puts put takes taken entries crossed transcript outcome) where
-  -- what the nodes set aside, and what their ends put and took, without stamps, by vertex
-  abbrev asides_at : ℕ → Option (Aside M)
-  asides_at v = get_or (map aside nodes) (v - 1) None
-
-  abbrev sent_at : ℕ → List (List (Wire M))
-  sent_at v = map (λ l. wires_of l) (puts_at are v)
-
-  abbrev came_at : ℕ → List (List (Wire M))
-  came_at v = map (λ l. wires_of l) (takens_at are v)
-
-  node_is : (v : ℕ) (is : IsVertex net v) → (alpha (here are v is).0).node ≡ node_in program net outcome v
-  node_is v is = ap (λ x. x.node) (sym (alpha_is are v is))
-
-  aside_is : (v : ℕ) (is : IsVertex net v) → aside (here are v is).0 ≡ asides_at v
-  aside_is v is = sym (get_map aside nodes (v - 1) (here are v is).0 None (here are v is).1)
-
-  sent_is : (v : ℕ) (is : IsVertex net v) → map (λ x. wires_of (put x)) (puts (here are v is).0) ≡ sent_at v
-  sent_is v is = sym (map-map (λ l. wires_of l) put (puts (here are v is).0)) ∙ ap (map (λ l. wires_of l)) (puts_here are v is)
-
-  came_is : (v : ℕ) (is : IsVertex net v) → map (λ y. wires_of (taken y)) (takes (here are v is).0) ≡ came_at v
-  came_is v is = sym (map-map (λ l. wires_of l) taken (takes (here are v is).0)) ∙ ap (map (λ l. wires_of l)) (takens_here are v is)
-
-  -- and by port
-  sent_by : (v i : ℕ) → by_port (sent_at v) i ≡ put_by outcome v i
-  sent_by v i = sym (get_field (λ l. wires_of l) (puts_at are v) i []) ∙ ap (λ l. wires_of l) (put_is are v i)
-
-  came_by : (v i : ℕ) (ws : List (Stamped M)) → by_port (takens_at are v) i ≡ ws → by_port (came_at v) i ≡ wires_of ws
-  came_by v i ws e = sym (get_field (λ l. wires_of l) (takens_at are v) i []) ∙ ap (λ l. wires_of l) e
-
-  wires_split : (v i : ℕ) → IsVertex net v → i < degree_of net v → put_by outcome v i ≡ wires_of (link_in outcome v i).taken ++ held_on outcome v i
-  wires_split v i is lt = split_wires _ _ _ (split_is are v i is lt)
-
-  met : EndsHaveMet program net (node_in program net outcome) asides_at sent_at came_at (held_on outcome)
+    (are : AreGathered program net nodes vertex alpha aside counter puts put takes taken entries crossed transcript outcome)
+    (by_refusal : All (λ a. (x : Aside M) → aside a ≡ Some x → x.why ≡ Refused) nodes) where
+  met : EndsHaveMet program net (node_in program net outcome) (asides_at are) (sent_at are) (came_at are) (held_on outcome)
   met = record {
     each = λ v is.
         let n = here are v is in
-        transport (λ k. NodeKept program net (n.2 k) (node_is v is k) (by_port (sent_is v is k)) (by_port (reacted_to (aside_is v is k) (came_is v is k))))
+        transport (λ k. NodeKept program net (n.2 k) (node_is are v is k) (by_port (sent_is are v is k))
+        (by_port (reacted_to (aside_is are v is k) (came_is are v is k))))
         (are.keeps n.0);
-    refused = λ v is x e.
-        let n = here are v is in
-        transport (λ k. IsAside (last_pulse_on program net) (node_is v is k).view (came_is v is k) x) (are.set_aside n.0 x (aside_is v is ∙ e));
+    refused = aside_at are;
     by_refusal = λ v is x e.
         let n = here are v is in
-        are.by_refusal (v - 1) n.0 (omega (arith, is.0, is.1, length-nodes net vertex nodes are.order)) x
-        (ap aside (get_or_from_slice_get nodes (v - 1) n.0 n.0 n.1) ∙ aside_is v is ∙ e);
-    ports = λ v is.
-        let n = here are v is in
-        ap (λ l. length l) (sym (came_is v is)) ∙ length-map (takes n.0) (λ y. wires_of (taken y)) ∙ are.ins n.0 ∙ ap (λ u. degree_of net u) n.2;
-    splits = λ v i is lt. sent_by v i ∙ wires_split v i is lt
-        ∙ ap (λ l. l ++ held_on outcome v i) (sym (came_by (neighbour_of net v i) (back_port_of net v i) _ (sym (taken_is are v i is lt))));
+        by_refusal (v - 1) n.0 (omega (arith, is.0, is.1, length-nodes net vertex nodes are.order)) x
+        (ap aside (get_or_from_slice_get nodes (v - 1) n.0 n.0 n.1) ∙ aside_is are v is ∙ e);
+    ports = as_many_ports are;
+    splits = λ v i is lt. sent_by are v i ∙ wires_split are v i is lt
+        ∙ ap (λ l. l ++ held_on outcome v i) (sym (came_by are (neighbour_of net v i) (back_port_of net v i) _ (sym (taken_is are v i is lt))));
   }
 
-  none_aside : (v : ℕ) → IsVertex net v → asides_at v ≡ None
-  none_aside = (met_simulate program are.laws net are.network (node_in program net outcome) asides_at sent_at came_at (held_on outcome) met).0
+  none_aside : (v : ℕ) → IsVertex net v → asides_at are v ≡ None
+  none_aside = (met_simulate program are.laws net are.network (node_in program net outcome) (asides_at are) (sent_at are) (came_at are) (held_on outcome) met).0
 
-  taken_by_port : (v : ℕ) → IsVertex net v → (i : ℕ) → i < degree_of net v → by_port (came_at v) i ≡ taken_by net outcome v i
-  taken_by_port v is i lt = came_by v i _ (taken_here are v is i lt)
+  taken_by_port : (v : ℕ) → IsVertex net v → (i : ℕ) → i < degree_of net v → by_port (came_at are v) i ≡ taken_by net outcome v i
+  taken_by_port v is i lt = came_by are v i _ (taken_here are v is i lt)
 
   -- no wire was set aside, so each node keeps its links with what the links say
   kept : AllKept program net (node_in program net outcome) (put_by outcome) (taken_by net outcome) (held_on outcome)
   kept = record {
     each = λ v is.
-        node_same program net v (node_in program net outcome v) (by_port (sent_at v)) (by_port (came_at v)) _ _ (λ i lt. sent_by v i) (taken_by_port v is)
-        (subst (λ o. NodeKept program net v (node_in program net outcome v) (by_port (sent_at v)) (by_port (reacted_to o (came_at v)))) (none_aside v is)
-        (met.each v is));
+        node_same program net v (node_in program net outcome v) (by_port (sent_at are v)) (by_port (came_at are v)) _ _ (λ i lt. sent_by are v i)
+        (taken_by_port v is)
+        (subst (λ o. NodeKept program net v (node_in program net outcome v) (by_port (sent_at are v)) (by_port (reacted_to o (came_at are v))))
+        (none_aside v is) (met.each v is));
     splits = λ v i is lt.
-        ap (λ l. l ++ held_on outcome v i) (over net are.network (λ w j. wires_of (link_in outcome w j).taken) v i is lt) ∙ sym (wires_split v i is lt);
+        ap (λ l. l ++ held_on outcome v i) (over net are.network (λ w j. wires_of (link_in outcome w j).taken) v i is lt) ∙ sym (wires_split are v i is lt);
   }
 
   -- and its entries are those of what the links say
   pub written : (v : ℕ) → IsVertex net v
       → IsTranscript program net v transcript (node_in program net outcome v) (put_by outcome v) (taken_by net outcome v) (bare_of (entries_in outcome v))
   written v is =
-      let n = here are v is in
-      let wrote : IsTranscript program net v transcript (node_in program net outcome v) (by_port (sent_at v)) (by_port (came_at v))
+      let wrote : IsTranscript program net v transcript (node_in program net outcome v) (by_port (sent_at are v)) (by_port (came_at are v))
       (bare_of (entries_in outcome v)) =
-      transport (λ k. IsTranscript program net (n.2 k) transcript (node_is v is k) (by_port (sent_is v is k))
-      (by_port (reacted_to ((aside_is v is ∙ none_aside v is) k) (came_is v is k))) (bare_of (entries_at are v is k))) (are.writes n.0) in
+      subst (λ o. IsTranscript program net v transcript (node_in program net outcome v) (by_port (sent_at are v))
+      (by_port (reacted_to o (came_at are v))) (bare_of (entries_in outcome v))) (none_aside v is) (wrote_at are v is) in
       record {
         written = λ yes.
             let all = wrote.written yes in
             record {
               run = all.run;
-              puts_are = λ i lt. all.puts_are i lt ∙ sent_by v i;
+              puts_are = λ i lt. all.puts_are i lt ∙ sent_by are v i;
               takes_are = λ i lt. all.takes_are i lt ∙ taken_by_port v is i lt;
               pulses_are = all.pulses_are;
             };

@@ -1,19 +1,8 @@
--- Whether a node has set a wire aside since the stamp of its take would be too great.
-use Rattle.std.specs.Prelude.{Bool, true, false, ◌||◌, List, [], ◌∷◌, Option, Some, None}
+-- Whether a node has come to its greatest stamp.
+use Rattle.std.specs.Prelude.{ℕ, ◌+◌, ◌<◌, ◌^◌, max, Option}
 use Rattle.actor.specs.declared.aside.Aside.{Aside}
-use Rattle.actor.specs.declared.aside.WhyAside.{WhyAside}
-use Rattle.actor.specs.declared.aside.WhyAside.TheVariants.{Refused, StampFull}
+use Rattle.actor.specs.HasStamps.{aside_stamp}
 
-abbrev pub is_full_why : WhyAside → Bool
-is_full_why Refused = false
-is_full_why (StampFull stamp) = true
-
-module _ {M : Type 0} where
-  abbrev pub is_full : Option (Aside M) → Bool
-  is_full None = false
-  is_full (Some aside) = is_full_why aside.why
-
-  -- whether one of these nodes has
-  abbrev pub some_full : List (Option (Aside M)) → Bool
-  some_full [] = false
-  some_full (aside ∷ asides) = is_full aside || some_full asides
+-- A node with this counter can give its next event a stamp, and could the take of a wire that it set aside.
+abbrev pub HasStampLeft : {M : Type 0} → ℕ → Option (Aside M) → Type 0
+HasStampLeft counter aside = max counter (aside_stamp aside) + 1 < 2 ^ 64

@@ -1,10 +1,11 @@
 //! The nodes and links of a run become its outcome.
 
-ghost use Rattle.std.specs.Prelude.{◌≡◌, ℕ, IfOk, false, map};
+ghost use Rattle.std.specs.Prelude.{◌≡◌, ◌<◌, ◌^◌, ℕ, All, IfOk, map};
 ghost use Rattle.interference.specs.Net.{vertices};
+ghost use Rattle.node_api.specs.Program.{last_pulse_on};
 ghost use Rattle.actor.specs.Links.{HoldAtMost};
 ghost use Rattle.gather_laws.specs.Outcome.{IsOutcome};
-ghost use Rattle.outcomes.specs.Full.{some_full};
+ghost use Rattle.outcomes.specs.Full.{HasStampLeft};
 
 use crate::cross::crossed;
 use crate::meeting::meet_rows;
@@ -16,9 +17,16 @@ use node_api::NodeProgram;
 use std::alloc::Global;
 use std::sync::Wait;
 
+// The last pulse of a program, which has 32 binary digits by its type.
+fn last_pulse_of<P: NodeProgram>(net: &Network) -> u32
+    ensures short { last_pulse_on P.program net.now < 2 ^ 32 }
+{
+    P::last_pulse(net)
+}
+
 /// What the nodes of a run, ascending, and its links leave, once all threads are joined. The outcome holds for every
-/// capacity that no link's own capacity exceeds. No node may have set a wire aside since the stamp of its take would be
-/// too great: `some_full` says whether one has.
+/// capacity that no link's own capacity exceeds. No node has come to its greatest stamp, since a whole run has fewer
+/// events than that; so no turn of one was refused a stamp.
 ///
 /// # Errors
 ///
@@ -32,10 +40,12 @@ pub fn gathered<J: Wiring, P: NodeProgram, R: Wait>(
 ) -> Result<Outcome<P>, Memory>
     requires network { J.net ≡ net.now }
     requires nodes { map (λ b. b.value.vertex) nodes.items ≡ vertices J.net }
-    requires stamps { some_full (map (λ b. b.value.aside) nodes.items) ≡ false }
     ensures outcome { IfOk result (λ outcome. (capacity : ℕ)
         → HoldAtMost links.now capacity → IsOutcome P.program net.now capacity J.transcript outcome) }
+    ensures stamps { IfOk result (λ _. All (λ b. HasStampLeft b.value.counter b.value.aside) nodes.items) }
 {
+    // So a run has fewer than 2^60 events, by a clause of this call.
+    let _last = last_pulse_of::<P>(net);
     let NodesAndEnds {
         actors,
         puts,

@@ -6,7 +6,6 @@
 //! needs a thread: `node_pool` runs the nodes.
 //!
 //! ```text
-//! if some_full(nodes.as_slice()) { return Err(NodesFault::StampFull); }
 //! let outcome = gathered(&rt, alloc, &network, &links, nodes)?;
 //! if outcome.is_whole() { .. outcome.actors() .. }
 //! ```
@@ -23,4 +22,4 @@ mod taking_apart;
 
 pub use gathering::gathered;
 pub use outcome::Outcome;
-pub use taking_apart::{Actor, some_full};
+pub use taking_apart::Actor;

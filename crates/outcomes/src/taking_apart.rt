@@ -2,10 +2,9 @@
 
 ghost use Rattle.std.specs.Prelude.{◌≡◌, ◌≤◌, [], IfOk, map, vec_capacity};
 ghost use Rattle.entries.specs.Recorded.{entries_by};
-ghost use Rattle.outcomes.specs.Full.{is_full, some_full};
 ghost use Rattle.outcomes.specs.Rows.{rows_of};
 
-use actor::{Aside, Node, WhyAside, WiredPut, WiredTake, Wiring};
+use actor::{Node, WiredPut, WiredTake, Wiring};
 use alpha_core::AlphaNode;
 use entries::Entries;
 use node_api::NodeProgram;
@@ -56,26 +55,6 @@ pub struct NodesAndEnds<J: Wiring, P: NodeProgram> {
     pub actors: Vec<Actor<P>>,
     pub puts: Vec<Vec<WiredPut<J, P::Payload>>>,
     pub takes: Vec<Vec<WiredTake<J, P::Payload>>>,
-}
-
-// Whether a wire was set aside because taking it would overflow a counter.
-fn is_full<M>(aside: &Option<Aside<M>>) -> bool
-    ensures { result ≡ is_full aside.now }
-{
-    matches!(
-        aside,
-        Some(Aside {
-            why: WhyAside::StampFull(_),
-            ..
-        })
-    )
-}
-
-/// Whether one of the nodes has set a wire aside since the stamp of its take would be too great.
-pub fn some_full<J: Wiring, P: NodeProgram>(nodes: &[Box<Node<J, P>>]) -> bool
-    ensures { result ≡ some_full (map (λ b. b.value.aside) nodes.now) }
-{
-    nodes.iter().any(|node| is_full(&node.aside))
 }
 
 // No nodes and no ends, with room for `count` nodes and their ends.

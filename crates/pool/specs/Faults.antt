@@ -1,6 +1,4 @@
--- What a fault of threads, of a turn or of nodes is one layer above.
-use Rattle.actor.specs.declared.refused.TurnRefused.{TurnRefused}
-use Rattle.actor.specs.declared.refused.TurnRefused.TheVariants as turn
+-- What a fault of threads or of nodes is one layer above.
 use Rattle.pool.specs.declared.faults.NodesFault.{NodesFault}
 use Rattle.pool.specs.declared.faults.NodesFault.TheVariants as nodes
 use Rattle.pool.specs.declared.faults.ThreadsFault.{ThreadsFault}
@@ -12,11 +10,6 @@ abbrev pub fault_of_threads : ThreadsFault → NodesFault
 fault_of_threads threads.Memory = nodes.Memory
 fault_of_threads threads.Spawn = nodes.Spawn
 
-abbrev pub fault_of_turn : TurnRefused → NodesFault
-fault_of_turn turn.Memory = nodes.Memory
-fault_of_turn turn.StampFull = nodes.StampFull
-
 abbrev pub fault_of_nodes : NodesFault → PoolFault
 fault_of_nodes nodes.Memory = pool.Memory
 fault_of_nodes nodes.Spawn = pool.Spawn
-fault_of_nodes nodes.StampFull = pool.StampFull

@@ -1,13 +1,14 @@
 -- Which fault a run has if turns of its nodes ended early.
-use Rattle.std.specs.Prelude.{Bool, true, false, List, [], ◌∷◌, Option, Some, None, Result, Ok, Err}
+use Rattle.std.specs.Prelude.{List, [], ◌∷◌, Option, Some, None, Result, Ok, Err}
 use Rattle.actor.specs.declared.refused.TurnRefused.{TurnRefused}
-use Rattle.actor.specs.declared.refused.TurnRefused.TheVariants.{Memory, StampFull}
+use Rattle.actor.specs.declared.refused.TurnRefused.TheVariants as turn
+use Rattle.pool.specs.declared.faults.NodesFault.{NodesFault}
+use Rattle.pool.specs.declared.faults.NodesFault.TheVariants as nodes
 
--- What a run reports of the refusals that its nodes remember: memory first, and then a stamp that would be too great,
--- also if one was before.
-abbrev pub fault_of_refusals : {A : Type 0} → A → List (Option TurnRefused) → Bool → Result A TurnRefused
-fault_of_refusals done [] true = Err StampFull
-fault_of_refusals done [] false = Ok done
-fault_of_refusals done (None ∷ refusals) full = fault_of_refusals done refusals full
-fault_of_refusals done (Some Memory ∷ refusals) full = Err Memory
-fault_of_refusals done (Some StampFull ∷ refusals) full = fault_of_refusals done refusals true
+-- What a run reports of the refusals that its nodes remember: memory, if it was refused to one. That no stamp was is
+-- known once the nodes are gathered.
+abbrev pub fault_of_refusals : {A : Type 0} → A → List (Option TurnRefused) → Result A NodesFault
+fault_of_refusals done [] = Ok done
+fault_of_refusals done (None ∷ refusals) = fault_of_refusals done refusals
+fault_of_refusals done (Some turn.Memory ∷ refusals) = Err nodes.Memory
+fault_of_refusals done (Some turn.StampFull ∷ refusals) = fault_of_refusals done refusals

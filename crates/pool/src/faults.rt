@@ -1,9 +1,8 @@
 //! Why a run returns no nodes. Each call has the faults that it can have, and no other.
 
 ghost use Rattle.std.specs.Prelude.{◌≡◌};
-ghost use Rattle.pool.specs.Faults.{fault_of_nodes, fault_of_threads, fault_of_turn};
+ghost use Rattle.pool.specs.Faults.{fault_of_nodes, fault_of_threads};
 
-use actor::TurnRefused;
 use interference::Memory;
 use run_faults::PoolFault;
 use std::alloc::AllocError;
@@ -44,8 +43,6 @@ pub enum NodesFault {
     Memory,
     /// A thread was refused; those that had begun are joined.
     Spawn,
-    /// A stamp of a node would pass 18446744073709551615, and there is no other fault.
-    StampFull,
 }
 
 impl From<Memory> for NodesFault {
@@ -69,17 +66,6 @@ impl From<ThreadsFault> for NodesFault {
     }
 }
 
-impl From<TurnRefused> for NodesFault {
-    ghost from_gives = { λ refused result. result ≡ fault_of_turn refused };
-
-    fn from(refused: TurnRefused) -> NodesFault {
-        match refused {
-            TurnRefused::Memory => NodesFault::Memory,
-            TurnRefused::StampFull => NodesFault::StampFull,
-        }
-    }
-}
-
 impl From<NodesFault> for PoolFault {
     ghost from_gives = { λ fault result. result ≡ fault_of_nodes fault };
 
@@ -87,7 +73,6 @@ impl From<NodesFault> for PoolFault {
         match fault {
             NodesFault::Memory => PoolFault::Memory,
             NodesFault::Spawn => PoolFault::Spawn,
-            NodesFault::StampFull => PoolFault::StampFull,
         }
     }
 }

@@ -1,9 +1,10 @@
 //! A run of workers over their deques.
 
-ghost use Rattle.std.specs.Prelude.{◌≡◌, ◌≤◌, All, IfOk, None, length, map, reverse, vec_len};
+ghost use Rattle.std.specs.Prelude.{◌≡◌, ◌≢◌, ◌≤◌, All, IfOk, Some, length, map, reverse, vec_len};
 ghost use Rattle.interference.specs.Net.{vertices};
 ghost use Rattle.crossbeam_deque.specs.Handles.{stealer_deque, worker_deque};
 ghost use Rattle.worker_deques.specs.Passes.{deques_of};
+ghost use Rattle.actor.specs.declared.refused.TurnRefused.TheVariants.{Memory};
 ghost use Rattle.actor.specs.Stepped.{refusal_of};
 
 use crate::faults::{NodesFault, ThreadsFault};
@@ -76,7 +77,8 @@ fn run_all<J: Wiring + Send + Sync, P: NodeProgram, G: Gate + Sync, R: Threads +
             ensures passes { IfOk result (λ done. map (λ d. deques_of d.passes.items) done.items
                 ≡ map (λ d. deques_of d.passes.items) states.items) }
         {
-            let children = start_all(scope, rt, alloc, shared, stealers, states)?;
+            let children = Vec::with_capacity(alloc, states.len())?;
+            let children = start_all(scope, rt, shared, stealers, states, children)?;
             Ok(join_all(rt, shared.signals, children)?)
         },
     )?;
@@ -84,13 +86,13 @@ fn run_all<J: Wiring + Send + Sync, P: NodeProgram, G: Gate + Sync, R: Threads +
 }
 
 /// Runs the nodes, given from the last vertex down, by `options.workers` workers, each of which makes at most
-/// `options.turns` looks, and returns each node once, ascending. None of them remembers a refusal of a turn.
+/// `options.turns` looks, and returns each node once, ascending. None of them remembers that memory was refused to a
+/// turn; that no stamp was, `outcomes::gathered` shows.
 ///
 /// # Errors
 ///
 /// `Memory` if memory is refused, also for an entry of a node: its worker stops at once. `Spawn` if a thread is
-/// refused. `StampFull` if a stamp of a node would pass 18446744073709551615, and there is no other fault: its worker
-/// stops at once. Which of these it is, a clause of `fault_of_refusals` says. The workers that had begun are joined.
+/// refused. The workers that had begun are joined.
 pub fn run_nodes<J: Wiring + Send + Sync, P: NodeProgram, G: Gate + Sync, R: Threads + Wait + Sync>(
     rt: &R,
     alloc: Global,
@@ -102,7 +104,7 @@ pub fn run_nodes<J: Wiring + Send + Sync, P: NodeProgram, G: Gate + Sync, R: Thr
     requires nodes { map (λ b. b.value.vertex) nodes.items ≡ reverse (vertices J.net) }
     requires workers { (1 ≤ options.workers) × (options.workers ≤ MAX_WORKERS) }
     ensures order { IfOk result (λ all. map (λ b. b.value.vertex) all.items ≡ vertices J.net) }
-    ensures none_refused { IfOk result (λ all. All (λ b. refusal_of b.value ≡ None) all.items) }
+    ensures none_refused { IfOk result (λ all. All (λ b. refusal_of b.value ≢ Some Memory) all.items) }
 {
     let nodes = run_all(rt, alloc, links, gate, nodes, options)?;
     fault_of_refusals(nodes.as_slice())?;

@@ -1,6 +1,6 @@
 //! The threads of a run: each worker has one of its own.
 
-ghost use Rattle.std.specs.Prelude.{◌≡◌, ◌<◌, ◌≤◌, All, IfErr, IfOk, length, map, vec_len};
+ghost use Rattle.std.specs.Prelude.{◌≡◌, ◌<◌, ◌≤◌, [], All, IfErr, IfOk, length, map, vec_capacity, vec_len};
 ghost use Rattle.crossbeam_deque.specs.Handles.{stealer_deque, worker_deque};
 ghost use Rattle.worker_deques.specs.Passes.{deques_of};
 ghost use Rattle.pool.specs.declared.faults.ThreadsFault.TheVariants.{Spawn};
@@ -13,7 +13,6 @@ use deque_rule::{StealHandle, Task};
 use interference::Memory;
 use node_api::NodeProgram;
 use run_options::MAX_WORKERS;
-use std::alloc::Global;
 use std::snapshot::Snapshot;
 use std::sync::Wait;
 use std::thread;
@@ -55,12 +54,12 @@ fn start<'s, E, J: Wiring + Send + Sync, P: NodeProgram, G: Gate + Sync, R: Thre
     }
 }
 
-/// Starts a worker for each of the states, in threads of the scope: worker k has state k, from 0.
+/// Starts a worker for each of the states, in threads of the scope: worker k has state k, from 0. The list of threads
+/// has room for all.
 ///
 /// # Errors
 ///
-/// `Memory` if memory for the list of threads is refused, before any begins. `Spawn` if a thread is refused; the others
-/// stop, and the scope joins them.
+/// `Spawn` if a thread is refused, and no other; the others stop, and the scope joins them.
 pub fn start_all<
     's,
     E,
@@ -71,17 +70,19 @@ pub fn start_all<
 >(
     scope: &Scope<'s, E>,
     rt: &'s R,
-    alloc: Global,
     shared: &'s Shared<'s, J, P, G>,
     stealers: &'s [StealHandle<Node<J, P>>],
     states: Vec<WorkerState<Node<J, P>>>,
+    mut children: Vec<Child<Node<J, P>>>,
 ) -> Result<Vec<Child<Node<J, P>>>, ThreadsFault>
     requires few { vec_len states ≤ MAX_WORKERS }
     requires workers { vec_len states ≡ length stealers.now }
     requires deques { All (λ d. deques_of d.passes.items ≡ map stealer_deque stealers.now) states.items }
+    requires none { children.items ≡ [] }
+    requires room { vec_len states ≤ vec_capacity children }
     ensures states { IfOk result (λ hs. map (λ h. h.promise.0.value) hs.items ≡ states.items) }
+    ensures spawn { IfErr result (λ fault. fault ≡ Spawn) }
 {
-    let mut children = Vec::with_capacity(alloc, states.len())?;
     let mut worker = 0;
     for state in states {
         children.push_reserved(start(scope, rt, shared, stealers, worker, state)?);

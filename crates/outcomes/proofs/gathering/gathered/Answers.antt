@@ -1,4 +1,4 @@
-use Rattle.std.proofs.Common.{◌≡◌, ◌≤◌, ◌++◌, length, map, refl, sym, ◌∙◌, subst}
+use Rattle.std.proofs.Common.{◌≡◌, ◌≤◌, ◌<◌, ◌^◌, ◌++◌, length, map, refl, sym, ◌∙◌, subst}
 use Rattle.std.specs.Prelude.{All}
 use Rattle.std.proofs.lemmas.Simd.{map-map}
 use Rattle.interference.specs.Net.{IsNetwork}
@@ -10,7 +10,10 @@ use Rattle.outcomes.specs.Rows.{AreCrossed, HasShape, rows_of}
 use Rattle.actor.specs.HasStamps.{HasStamps}
 use Rattle.entries.specs.Recorded.{entries_by}
 use Rattle.link_queue.specs.Ends.{held_stamped, put_list, put_stamped, taken_list, taken_stamped}
-use Rattle.outcomes.proofs.Full.{all_refused}
+use Rattle.node_api.specs.Program.{last_pulse_on}
+use Rattle.progress_laws.proofs.Short.{few-events}
+use Rattle.outcomes.proofs.Fits.{none_full}
+use Rattle.outcomes.proofs.Full.{all_left, all_refused}
 use Rattle.outcomes.proofs.Sides.{all_by}
 use Rattle.outcomes.specs.Meets.{history_of_met, put_of, taken_of}
 use Rattle.gather_laws.specs.Outcome.{IsOutcome, Outcome}
@@ -66,7 +69,6 @@ returns g c =
       last = λ b. b.value.kept.last_is;
       keeps = λ b. b.value.kept.keeps;
       set_aside = λ b x e. b.value.kept.set_aside x e;
-      by_refusal = all_refused (λ b. b.value.aside) nodes c.requires.stamps;
       writes = λ b. let n = b.value in
           subst (λ t. IsTranscript program net n.vertex t n.alpha.node (by_port (map (λ e. put_list e.end) n.puts.items))
           (by_port (reacted_to n.aside (map (λ e. taken_list e.end) n.takes.items))) (bare_of (entries_by n.recorder))) n.kept.recorded n.kept.writes;
@@ -90,10 +92,16 @@ returns g c =
       splits = all_rows (λ row. row.items) mets (λ h. h.put ≡ h.taken ++ h.held) history_of_met
           (all_by (λ mets. All (λ met. put_of met ≡ taken_of met ++ held_stamped met) mets) (λ row. row.items) mets met.splits);
     } in
+    let few = few-events program net ok (subst (λ n. last_pulse_on program n < 2 ^ 32) (sym c.requires.network)
+    c.last_pulse_of-last.ensures.short) in
+    let fits = none_full gathered (λ b x e. b.value.kept.full x e) (λ b. b.value.kept.did) in
+    let left = all_left (λ b. b.value.counter) (λ b. b.value.aside) nodes _ few fits in
+    let refused = all_refused (λ b. b.value.counter) (λ b. b.value.aside) nodes left (λ b x e s why. (b.value.kept.full x e s why).1) in
     record {
       outcome = λ capacity below.
           subst (λ net. IsOutcome program net capacity g.J.Wiring.transcript outcome) c.requires.network
-          (is_outcome gathered capacity
+          (is_outcome gathered refused capacity
           (all_rows (λ row. row.items) mets (λ h. length h.held ≤ capacity) history_of_met (c.in_ok-links.ensures.room capacity below))
-          (ran gathered (λ b. b.value.kept.did)));
+          (ran gathered (λ b. b.value.kept.did) refused));
+      stamps = left;
     }

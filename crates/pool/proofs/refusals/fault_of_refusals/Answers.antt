@@ -1,10 +1,6 @@
 use Rattle.std.proofs.Common.{arith}
 use Rattle.std.proofs.lemmas.Grind.{common_steps}
-use Rattle.pool.proofs.refusals.fault_of_refusals.Goals.{in-None, in-Some-StampFull}
 use Rattle.pool.proofs.refusals.fault_of_refusals.Goals as goal
 
 pub loop-node-preserved : goal.loop-node-preserved
-loop-node-preserved g c = elim c.match-refusal.branch [
-  | in-None w ↦ grind (arith, common_steps)
-  | in-Some-StampFull w ↦ grind (arith, common_steps)
-]
+loop-node-preserved g c = grind (arith, common_steps)

@@ -47,8 +47,8 @@ loop-state-preserved g c = record {
       c.push_reserved.ensures.items c.in_ok-start.ensures.state c.loop-state.invariant.states;
 }
 
-pub returns : goal.returns
-returns g c =
+pub returns-clause-states : goal.returns-clause-states
+returns-clause-states g c =
     let end = YieldsList-end (YieldsList-from_vec {s = c.into_iter-state-iterator.result} c.args.states.items (search rules) (search rules))
     c.loop-state.yielded c.loop-state.state-iterator c.loop-state.yielded_by c.next.result c.next.new.self c.in-None.is c.next.ensures.steps in
-    record { states = c.loop-state.invariant.states ∙ sym (map-id c.loop-state.yielded) ∙ end.0 }
+    c.loop-state.invariant.states ∙ sym (map-id c.loop-state.yielded) ∙ end.0
