@@ -41,6 +41,11 @@ COLOURING = {
         "elif own == {8: 5, 10: 4, 12: 3}[p]:",
         "elif own == {8: 5, 12: 3}.get(p):",
     ),
+    "drop_five": (
+        "5 is never dropped",
+        "elif own == {8: 5, 10: 4, 12: 3}[p]:",
+        "elif own == {10: 4, 12: 3}.get(p):",
+    ),
     "bit_highest": (
         "the bit step takes the highest digit that differs",
         "    digit = 0\n    while above is not None and (own >> digit & 1) == (above >> digit & 1):\n"

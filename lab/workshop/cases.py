@@ -12,11 +12,12 @@ from lab.networks.smaller import remade
 from lab.workshop.findings import Finding
 from lab.workshop.protocol import COLOURING
 
-# Each mistake of the colouring that can be caught shows on most4, rest3 or drops, and each of the synchroniser on
+# Each mistake of the colouring that can be caught shows on most4, rest3 or drops8, and each of the synchroniser on
 # alone4 or triangle.
-NETWORKS = "path1,two,path3,triangle,rest3,alone4,most4,star4,ring5,complete4,random6,drops"
-# How the identifiers of a varied run are chosen: in half of the runs so that bit steps and drops stay as they are.
-HOW = ("own", "moved", "moved", "mixed", "sparse", "long")
+NETWORKS = "path1,two,path3,triangle,rest3,alone4,most4,drops8,star4,ring5,complete4,random6"
+# How the identifiers of a varied run are chosen; on the networks that are there for their bit steps and drops by the
+# first two ways, which leave these as they are.
+HOW, KEPT = ("own", "moved", "mixed", "sparse", "long"), ("rest3", "most4", "drops8")
 # The programs whose nodes heed bars.
 WITH_BARS = (COLOURING, "independent-set", "recolouring")
 
@@ -80,7 +81,7 @@ def varied(network: Network, chance: Random, program: str) -> Network:
         "mixed": lambda: chance.sample(vertices, len(vertices)),
         "sparse": lambda: chance.sample(range(max(100, 4 * len(vertices))), len(vertices)),
         "long": lambda: [chance.getrandbits(128) for _ in vertices],
-    }[chance.choice(HOW)]()
+    }[chance.choice(HOW[:2] if network.name in KEPT else HOW)]()
     if program == "layers" and 1 not in names and chance.random() < 0.8:
         names[chance.randrange(len(names))] = 1
     bars = network.bars

@@ -6,13 +6,10 @@ import shutil
 import subprocess
 import sys
 import tempfile
-from argparse import Namespace
 from random import Random
 from types import SimpleNamespace
 
-from lab.network import Network
 from lab.workshop.cases import Case, network_of
-from lab.workshop.guard import Guard
 from lab.workshop.options import parsed
 from lab.workshop.playing import Player
 from tests import FORESTLAB, TOP
@@ -24,7 +21,7 @@ LIMIT = 120  # seconds; a busy machine is slow
 MISTAKES = SimpleNamespace(**runpy.run_path(os.path.join(EXAMPLES, "mistakes.py")))
 
 
-def python(*path: str) -> list[str]:
+def python(*path):
     """The command of a node in Python, by its path in the examples."""
     return [sys.executable, "-S", os.path.join(EXAMPLES, *path)]
 
@@ -34,47 +31,32 @@ ROUNDS, ALPHA, GREEDY = (
 )
 
 
-def network(name: str) -> Network:
+def network(name):
     return network_of(name, Random("1"))
 
 
-def options_of(assignment: str, *words: str, **options) -> Namespace:
+def options_of(assignment, *words, **options):
     """Options of the command line, and others in their place."""
     found = parsed([assignment, *words, *([] if "--" in words else ["--", "x"])])
     vars(found).update({"timeout": 20.0} | options)
     return found
 
 
-def played(
-    assignment: str,
-    name: str | Network,
-    *commands: list[str],
-    policy: str = "random",
-    seed: str = "1",
-    guard: Guard | None = None,
-    **options,
-) -> Case:
+def played(assignment, name, *commands, policy="random", seed="1", **options):
     """One run, in this process, with these options of the command line."""
     case = Case(0, network(name) if isinstance(name, str) else name, policy, seed)
     words = [word for command in commands for word in ("--", *command)]
-    Player(options_of(assignment, *words, **options), guard).play(case)
+    Player(options_of(assignment, *words, **options)).play(case)
     return case
 
 
 class Played(Rows):
-    def wrong_node(self, name: str, file: str, *words: str) -> list[str]:
+    def wrong_node(self, name, file, *words):
         """The command of a node with a mistake."""
         MISTAKES.write(self.folder, [name])
         return [sys.executable, "-S", os.path.join(self.folder, name, file), *words]
 
-    def found(
-        self,
-        right: tuple | None,
-        assignment: str,
-        given: str | Network,
-        *commands: list[str],
-        **more,
-    ):
+    def found(self, right, assignment, given, *commands, **more):
         """The row of a run with what is wrong in it, (verdict, node, pulse), or None; returns the finding."""
         finding = played(assignment, given, *commands, **more).finding
         got = finding and (finding.kind, finding.node, finding.pulse)
@@ -83,11 +65,11 @@ class Played(Rows):
         self.note(name, got == right, finding and finding.text())
         return finding
 
-    def right(self, *given, **more) -> None:
+    def right(self, *given, **more):
         self.found(None, *given, **more)
 
 
-def answering(*lines: str) -> list[str]:
+def answering(*lines):
     """A node that answers each message with these lines."""
     text = "".join(line + "\n" for line in [*lines, "end"])
     return [
@@ -99,7 +81,7 @@ def answering(*lines: str) -> list[str]:
     ]
 
 
-def ending_with(line: str) -> list[str]:
+def ending_with(line):
     """A node that is silent, and says this in its last pulse."""
     code = (
         "import sys\nnumber = {'last': 0, 'pulse': 0}\nfor line in sys.stdin:\n    word, *rest = line.split()\n"
@@ -110,12 +92,12 @@ def ending_with(line: str) -> list[str]:
     return [sys.executable, "-S", "-c", code]
 
 
-def call(*words: str, **more) -> subprocess.CompletedProcess:
+def call(*words, **more):
     return subprocess.run([*DOOR, *words], capture_output=True, text=True, timeout=LIMIT, **more)
 
 
 @functools.cache
-def compiled(source: str) -> list[str] | None:
+def compiled(source):
     """The command of a program in C or Java; None on a machine without Java."""
     to = tempfile.TemporaryDirectory()
     made.append(to)  # until the tests end

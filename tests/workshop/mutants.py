@@ -1,15 +1,15 @@
-"""Mutants of the right nodes: each line left out, each comparison turned, each number moved by one. The networks that
-WORKSHOP names show each that is wrong at all. Nodes run in this process; the rest is the workshop."""
+"""Mutants of the right nodes: each typical mistake, each line left out, each comparison turned, each number moved by
+one. The networks that WORKSHOP names show each that is wrong at all. Nodes run in this process; the rest is the
+workshop."""
 import ast
-import contextlib
 import copy
 import os
-import signal
 import sys
 import types
-from collections.abc import Callable, Iterator
 from functools import cache, partial
+from unittest import mock
 
+from lab.definitions import own_program
 from lab.schedules.policies import POLICIES, Policy
 from lab.workshop.alpha_run import AlphaRun
 from lab.workshop.cases import cases_of
@@ -18,7 +18,7 @@ from lab.workshop.findings import Fault
 from lab.workshop.nodes import attempt
 from lab.workshop.right_rounds import RightRounds
 from tests.cases import Case
-from tests.workshop.base import EXAMPLES, network, options_of
+from tests.workshop.base import EXAMPLES, MISTAKES, network, options_of
 
 FILES = ("colouring", "programs", "rounds_node", "alpha_node")
 TURNED = {
@@ -33,16 +33,26 @@ TURNED = {
     ast.In: ast.NotIn,
     ast.NotIn: ast.In,
 }
+# By program, the file that has it, its classes there, and the networks on which WORKSHOP has it tried.
+COLOURED = ("two", "triangle", "star4", "most4")
+PROGRAMS = {
+    "colouring": ("colouring", (), ("path1", "most4", "rest3", "drops8")),
+    "leader": ("programs", ("Leader",), ("path5", "alone4")),
+    "layers": ("programs", ("Layers",), ("path5", "alone4")),
+    "matching": ("programs", ("Sequel", "Matching"), COLOURED),
+    "independent-set": ("programs", ("Sequel", "IndependentSet"), COLOURED),
+    "recolouring": ("programs", ("Sequel", "Recolouring"), COLOURED),
+}
 MODULES = ast.FunctionDef, ast.ClassDef, ast.Import, ast.ImportFrom
-SECONDS = 2.0  # that one run of a mutant may take, before it counts as endless
+SECONDS = 5.0  # that one run of a mutant may take, before it counts as endless
 
 
-def source(name: str) -> str:
+def source(name):
     with open(os.path.join(EXAMPLES, "python", f"{name}.py"), encoding="utf-8") as file:
         return file.read()
 
 
-def changes(node: ast.AST) -> Iterator[tuple[str, Callable]]:
+def changes(node):
     """The changes of one place: what is changed, and how it is made in a copy of it."""
     if isinstance(node, ast.Compare):
         turned = TURNED[type(node.ops[0])]
@@ -57,30 +67,39 @@ def changes(node: ast.AST) -> Iterator[tuple[str, Callable]]:
                 yield f"without `{ast.unparse(line)}`", partial(without, name=name, at=at)
 
 
-def without(node: ast.AST, name: str, at: int) -> None:
+def without(node, name, at):
     getattr(node, name)[at] = ast.Pass()
 
 
-def does_something(line: ast.stmt) -> bool:
+def does_something(line):
     """Whether a line is one that runs in a node: no docstring, and nothing of how a module is put together."""
     if isinstance(line, ast.Expr):
         return isinstance(line.value, ast.Call)
-    is_main = isinstance(line, ast.If) and "__main__" in ast.unparse(line.test)
-    return not is_main and not isinstance(line, MODULES)
+    return not isinstance(line, MODULES)
 
 
-def mutants(text: str) -> Iterator[tuple[str, str]]:
-    """By a name with its line, the texts that differ in one place."""
-    tree = ast.parse(text)
-    tree.body = [line for line in tree.body if "__main__" not in ast.unparse(line)]
-    for number, node in enumerate(ast.walk(tree)):
-        for words, change in changes(node):
-            other = copy.deepcopy(tree)
-            change(next(place for at, place in enumerate(ast.walk(other)) if at == number))
-            yield f"line {getattr(node, 'lineno', 0)}: {words}", ast.unparse(other)
+def typical(file):
+    """By their names, the texts that have a typical mistake."""
+    for name, (_, right, wrong) in MISTAKES.FILES[f"{file}.py"].items():
+        yield name, source(file).replace(right, wrong)
 
 
-def node_class(assignment: str, texts: dict[str, str]) -> type:
+def mutants(file, classes):
+    """By a name with its line, the texts that differ in one place of these classes; of all classes and functions of
+    the file if there are none."""
+    tree = ast.parse(source(file))
+    for at, part in enumerate(tree.body):
+        is_one = isinstance(part, (ast.ClassDef, ast.FunctionDef))
+        if not is_one or classes and part.name not in classes:
+            continue
+        for number, node in enumerate(ast.walk(part)):
+            for words, change in changes(node):
+                other = copy.deepcopy(tree)
+                change(list(ast.walk(other.body[at]))[number])
+                yield f"line {getattr(node, 'lineno', 0)}: {words}", ast.unparse(other)
+
+
+def node_class(assignment, texts):
     """The class of a node in modules of these texts, which import each other."""
     before = {}
     for name in texts:
@@ -99,60 +118,43 @@ def node_class(assignment: str, texts: dict[str, str]) -> type:
                 sys.modules[name] = module
 
 
-class Endless(BaseException):
-    """A run takes too long."""
-
-
-@contextlib.contextmanager
-def limited(seconds: float = SECONDS):
-    def stop(*_):
-        raise Endless
-
-    before = signal.signal(signal.SIGALRM, stop)
-    signal.setitimer(signal.ITIMER_REAL, seconds)
-    try:
-        yield
-    finally:
-        signal.setitimer(signal.ITIMER_REAL, 0)
-        signal.signal(signal.SIGALRM, before)
-
-
 class InProcess:
-    """Nodes of a class, in place of programs."""
+    """Nodes of a class, in place of programs. They say nothing of their colours that needn't be said."""
 
     def __init__(self, make):
         self.make, self.nodes = make, {}
 
-    def ask(self, v: int, lines: list[str], if_late=None) -> list[str]:
+    def ask(self, v, lines, if_late=None):
         fields = [line.split() for line in lines]
         try:
             if fields[0][0] == "workshop":
                 own = {words[0]: int(words[1]) for words in fields[1:]}
                 self.nodes[v] = self.make(own | {"barred": set(map(int, fields[-1][2:]))})
                 return list(map(str, self.nodes[v].start()))
-            return list(map(str, self.nodes[v].react(fields)))
-        except Exception as why:
+            answer = map(str, self.nodes[v].react(fields))
+            return [line for line in answer if not line.startswith(("colour", "chose"))]
+        except (Exception, SystemExit) as why:
             raise Fault("ended", f"{type(why).__name__}: {why}") from None
 
-    def ask_all(self, questions: dict[int, list[str]]) -> dict[int, list[str] | Fault]:
+    def ask_all(self, questions):
         return {v: attempt(self.ask, v, lines) for v, lines in questions.items()}
 
-    def stop(self, patience: float = 0.0) -> None:
+    def stop(self, patience=0.0):
         pass
 
 
 known = cache(lambda name, program: RightRounds(network(name), program))
 
 
-def is_wrong(make: type, rounds: RightRounds, policy: str | None = None) -> bool:
+def is_wrong(make, rounds, policy=None):
     """Whether a run of these nodes is wrong: with a clock, or without one under a policy."""
     run, net = RoundsRun(rounds), rounds.network
     if policy:
         run = AlphaRun(rounds, Policy(policy, net.vertices, net.edges, "1"))
     try:
-        with limited():
+        with own_program.limited():
             found = run.play(InProcess(partial(make, program=rounds.program)))
-    except Endless:
+    except own_program.TooLong:
         return True
     if policy is None:
         return found is not None
@@ -160,10 +162,13 @@ def is_wrong(make: type, rounds: RightRounds, policy: str | None = None) -> bool
 
 
 class Mutants(Case):
-    def survive(self, assignment: str, file: str, shown: list, others: list) -> None:
+    def setUp(self):
+        self.enterContext(mock.patch.object(own_program, "LONGEST", SECONDS))
+
+    def survive(self, assignment, file, shown, others, *classes):
         """Each mutant of a file that no run of the page shows is right in all others, too."""
         right, count = {name: source(name) for name in FILES}, 0
-        for name, text in mutants(right[file]):
+        for name, text in (*typical(file), *mutants(file, classes)):
             try:
                 make = node_class(assignment, right | {file: text})
             except Exception:
@@ -174,15 +179,16 @@ class Mutants(Case):
             wrong = next((run for run in others if is_wrong(make, *run)), None)
             said = wrong and (wrong[0].network.name, wrong[0].network.identifiers, *wrong[1:])
             self.note(f"{file} {name}", not wrong, said)
-        self.assertGreater(count, 50)
+        self.assertGreater(count, 10)
 
-    def test_of_the_colouring(self):
-        shown = [(known(name, "colouring"),) for name in ("path1", "most4", "rest3", "drops")]
-        many = [
-            case.network for case in cases_of(options_of("rounds", "--runs", "60", "--seed", "3"))
-        ]
-        others = [(RightRounds(net),) for net in many]
-        self.survive("rounds", "colouring", shown, others)
+    def test_of_programs_with_a_clock(self):
+        """On the networks that the page names for each, and on those of many runs."""
+        for program, (file, classes, names) in PROGRAMS.items():
+            shown = [(known(name, program),) for name in names]
+            words = ["--program", program, "--runs", "60", "--seed", "3"]
+            many = [case.network for case in cases_of(options_of("rounds", *words))]
+            others = [(RightRounds(net, program),) for net in many]
+            self.survive("rounds", file, shown, others, *classes)
 
     def test_of_the_synchroniser(self):
         """As WORKSHOP has it: two networks, with the newest wire first and with acknowledgements last."""

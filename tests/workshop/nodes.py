@@ -64,9 +64,10 @@ COLOURING = {
     "bars_forgotten": ((4, 19), (1, 13)),
     "bars_channels": ((4, 19), (1, 13)),
     "bars_width": ((4, 19), (3, 16)),
-    # 3 is dropped at node 3 of the row of nine, and 4 at node 1 (the network's own comment).
-    "drop_three": (None, None, (3, 12)),
-    "drop_four": (None, None, (1, 10)),
+    # On the row of eight 5 and 4 are dropped at node 2, and 3 at node 4 (the network's own comment).
+    "drop_three": (None, None, (4, 12)),
+    "drop_four": (None, None, (2, 10)),
+    "drop_five": ((3, 8), None, (2, 8)),
     "merge_last": (None, None),  # nobody ever chooses in the last pulse of a merge
 }
 # By mistake, what is found on alone4; what else the node could do there, why it can't do that, and what came early.
@@ -397,7 +398,7 @@ class Mistakes(Played):
 
     def test_of_the_colouring(self):
         for name, rights in COLOURING.items():
-            for given, right in zip(("most4", "rest3", "drops"), rights):
+            for given, right in zip(("most4", "rest3", "drops8"), rights):
                 self.found(
                     right and ("differs", *right),
                     "rounds",
@@ -567,7 +568,6 @@ class Lines(Played):
         for program, assignment, line, words in (
             ("layers", "rounds", "colour 0 1", f"which are `put PORT WORD NUMBER`, {forms}"),
             ("layers", "rounds", "layer 1 by", "`layer 1 by` is no line of an answer"),
-            ("layers", "rounds", "layer far", "`layer far` is no line of an answer"),
             ("layers", "alpha", "chose 1", f"which are `put PORT WIRE`, `pulse P`, {forms}"),
             (
                 "layers",
@@ -587,15 +587,6 @@ class Lines(Played):
                 "channel 1",
                 "which are `put PORT WORD NUMBER`, `partner PORT`, `partner none` and ",
             ),
-            ("matching", "rounds", "partner PORT", "`partner PORT` is no line of an answer"),
-            ("independent-set", "rounds", "in 1", "`in 1` is no line of an answer"),
-            ("recolouring", "rounds", "colour 0 1", "`colour 0 1` is no line of an answer"),
-            (
-                "matching",
-                "alpha",
-                "put 0 payload 0 joined 1",
-                "`joined` is no payload of matching, which has hello, label, colour, chosen, free, take",
-            ),
             (
                 "colouring",
                 "alpha",
@@ -607,12 +598,6 @@ class Lines(Played):
                 "alpha",
                 f"pulse {1 << 32}",
                 f"`pulse {1 << 32}` is no line of an answer",
-            ),
-            (
-                "colouring",
-                "alpha",
-                "colour 0 3",
-                "`colour 0 3` is no line of an answer, which are `put PORT WIRE`",
             ),
             (
                 "colouring",
