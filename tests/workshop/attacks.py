@@ -34,24 +34,19 @@ class Attacks(Submitted):
         os.makedirs(self.here)
 
     def test_networks_of_the_working_folder(self):
-        """Files of the names of all networks, each of one node: a node that is right on that alone has what it has
-        anywhere."""
+        """Files of the names of networks, each of one node, and folders, as students may have: a node that is right on
+        that alone has what it has anywhere."""
         self.submit("anna", rounds_node_py=ONE)
         before = self.graded(runs="12")["anna"]["rounds"]
-        for name in NETWORKS.split(","):
+        names = NETWORKS.split(",")
+        for name, other in zip(names[::2], names[1::2]):
             self.file(os.path.join(self.here, name), "p edge 1 0\n")
+            os.makedirs(os.path.join(self.here, other))
         after = self.graded(runs="12", cwd=self.here)["anna"]["rounds"]
         self.same("right runs", (before["right"], after["right"]), (1, 1))
         self.same("its points", after["points"], 3)
         sizes = [case["nodes"] for case in after["cases"]]
         self.same("nodes of the networks", sizes, [case["nodes"] for case in before["cases"]])
-
-    def test_folders_that_are_called_as_networks(self):
-        """As a student's may be, if grading is called in the folder of all of them."""
-        for name in NETWORKS.split(","):
-            os.makedirs(os.path.join(self.subs, name))
-        self.submit("anna", rounds_node_py=ONE)
-        self.same("right runs", self.graded(cwd=self.subs)["anna"]["rounds"]["right"], 1)
 
     def test_a_name_means_the_example_in_each_folder(self):
         """And with `./` the file."""
@@ -79,7 +74,7 @@ class Attacks(Submitted):
         self.same("right runs", found["anna"]["rounds"]["right"], 1)
         self.same("the thief ran", os.path.exists(self.loot), False)
 
-    def why_not(self, student: str) -> str:
+    def why_not(self, student):
         return part_of(student, os.path.join(self.subs, student), "alpha").said()
 
     def test_words_of_a_command(self):

@@ -19,7 +19,7 @@ def in_turn(messages, answers):
     return "".join(part for both in pairs for part in both).splitlines()
 
 
-def by_vertex(line: str, neighbours: list[int]) -> str:
+def by_vertex(line, neighbours):
     """A line of a node as a transcript has it, with a neighbour in place of the port."""
     what, at, *rest = line.split(" ")
     return line if what == "pulse" else " ".join([what, str(neighbours[int(at)]), *rest])
@@ -34,14 +34,12 @@ class Command(Played):
             (["rounds", "two", "--", *ROUNDS], 0, ""),
             (["rounds", "two", "--timeout", ".1", "--", *WAITS], 1, ""),
             (["rounds", "two"], 2, "there is no command after `--`"),
-            (["rounds", "--"], 2, "there is no command after `--`"),
             (["nothing", "two", "--", *ROUNDS], 2, "invalid choice"),
             (
                 ["rounds", "nothing5", "--", *ROUNDS],
                 1,
                 "nothing5: there is no such file or example",
             ),
-            (["rounds", "ring2", "--", *ROUNDS], 1, "NODES is 2, and has to be at least 3"),
             (["rounds", "two", "--policies", "oldest", "--", *ROUNDS], 2, "of alpha alone"),
             (["alpha", "two", "--policies", "odd", "--", *ALPHA], 2, "there is no policy odd"),
             (["alpha", "two", "--program", "my.py", "--", *ALPHA], 2, "invalid choice: 'my.py'"),
@@ -49,11 +47,6 @@ class Command(Played):
                 ["open", "two", "--program", "layers", "--", *ALPHA],
                 2,
                 "--program is of rounds and alpha",
-            ),
-            (
-                ["rounds", "two", "--runs", "0", "--", *ROUNDS],
-                2,
-                "0 is no number from 1 to 999,999,999",
             ),
             (["rounds", "two", "--timeout", "0", "--", *ROUNDS], 2, "0 is no number of seconds"),
             (["rounds", "two", "--", "/nonexistent/node"], 2, "can't be started: No such file"),

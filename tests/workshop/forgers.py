@@ -24,7 +24,7 @@ REACHING = {
 }
 
 
-def as_a_user() -> dict:
+def as_a_user():
     """What a command is called with, so that it isn't root's."""
     user = {"user": USERS[0], "group": USERS[0], "extra_groups": []} if os.geteuid() == 0 else {}
     return {"cwd": "/", **user}
@@ -81,15 +81,3 @@ class Forgers(unittest.TestCase):
         ]
         done = call(*words, **as_a_user())
         self.assertEqual((done.returncode, got(done.stdout)), (1, {"started": "True"}), done)
-
-    def test_memory_that_is_shared(self):
-        """It is no data of the process, so that the system's own limit doesn't count it; all that it has started
-        counts, too."""
-        more = (
-            "import mmap\nfor _ in range(2):\n    if os.fork() == 0:\n        shared = mmap.mmap(-1, 150 << 20)\n"
-            "        for at in range(0, len(shared), 4096):\n            shared[at] = 1\n"
-            "        time.sleep(60)\ntime.sleep(60)\n"
-        )
-        done = call("rounds", "path1", "--memory", "200", "--", *program({}, more))
-        self.assertIn("wrong: flood", done.stdout)
-        self.assertIn("it takes more than 200 megabytes of memory", done.stdout)

@@ -74,7 +74,7 @@ AT_ONCE = (
 )
 
 
-def left() -> list[str]:
+def left():
     """Command lines of processes of these tests that are still there."""
     found = []
     for pid in filter(str.isdecimal, os.listdir("/proc")):
@@ -87,17 +87,17 @@ def left() -> list[str]:
     return found
 
 
-def left_at_last() -> list[str]:
+def left_at_last():
     """The same after a while: whoever is killed dies when the system comes to it."""
     wait_until(lambda: not left(), PATIENCE)
     return left()
 
 
-def command(code: str, first: int = 5, last: str = "") -> list[str]:
+def command(code, first=5, last=""):
     return [sys.executable, "-S", "-c", NODE.format(code=code, first=first, last=last), MARK]
 
 
-def alpha_node(methods: str) -> list[str]:
+def alpha_node(methods):
     """A right node without a clock, but for these methods."""
     code = f"{BEGIN}from alpha_node import AlphaNode\nclass Node(AlphaNode):\n    {methods}\ntalk.serve(Node)\n"
     return [sys.executable, "-S", "-c", code, MARK]
@@ -107,9 +107,7 @@ class Misbehaving(Played):
     def tearDown(self):
         self.assertEqual(left_at_last(), [])
 
-    def named(
-        self, how: str, kind: str | None, words: str, *nodes: list[str], timeout: float = 2
-    ) -> None:
+    def named(self, how, kind, words, *nodes, timeout=2):
         """What it says is harmless: it has no letter that a terminal obeys."""
         found = played("rounds", "two", *nodes, timeout=timeout).finding
         said = dict(found.lines) if found else {}

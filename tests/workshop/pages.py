@@ -14,7 +14,7 @@ from tests.cases import Case, called, said_by, text_in
 from tests.workshop.base import MISTAKES, call, python
 
 
-def page(name: str) -> str:
+def page(name):
     return text_in("docs", "learn", name)
 
 
@@ -90,7 +90,7 @@ class ClassFolder(Case):
             for name in names
         }
 
-    def text(self, path: str) -> str:
+    def text(self, path):
         return text_in(self.folder, path)
 
     def test_no_link_of_a_page_leads_to_what_isn_t_there(self):

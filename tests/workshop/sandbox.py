@@ -115,24 +115,24 @@ public class Thief implements Plugin {
 """
 
 
-def program(attacks: dict[str, str], more: str = "") -> list[str]:
+def program(attacks, more=""):
     lines = [f"tries({name!r}, lambda: {attack})\n" for name, attack in attacks.items()]
     return ["python3", "-S", "-c", BEGIN + more + "".join(lines) + END]
 
 
-def started(guard: Guard, command: list[str]) -> subprocess.Popen:
+def started(guard, command):
     pipe = subprocess.PIPE
     told = guard.start(Limits(LIMIT, 2048, 1), guard.tasks())
     return subprocess.Popen(guard.words(command), stdout=pipe, stderr=pipe, text=True, **told)
 
 
-def done(guard: Guard, command: list[str]) -> str:
+def done(guard, command):
     """What a program wrote to standard error."""
     process = started(guard, command)
     return process.communicate(timeout=LIMIT)[1]
 
 
-def got(said: str) -> dict[str, str]:
+def got(said):
     """What each attack got, from standard error or a verdict that shows it."""
     return dict(re.findall(r"([a-z_]+)=([^ `\n]+)", said))
 
@@ -155,14 +155,14 @@ class Sandboxed(Case):
     def tearDown(self):
         end_all()
 
-    def guards(self) -> tuple[Guard, Guard]:
+    def guards(self):
         """The container, and none; both in the folder of a submission."""
         if os.geteuid() == 0:
             subprocess.run(["chown", "-hR", f"{USERS[0]}:{USERS[0]}", self.copy], check=True)
         hidden = [os.path.join(self.folder, "home"), self.subs, self.room, os.path.dirname(RIGHT)]
         return Sandbox(self.copy, hidden, [], USERS[0]), unguarded(self.copy)
 
-    def names(self) -> dict[str, object]:
+    def names(self):
         """What the attacks speak of: all of it is there."""
         server = socket.create_server(("127.0.0.1", 0))
         place, abstract = (socket.socket(socket.AF_UNIX) for _ in range(2))
@@ -208,13 +208,6 @@ class Sandboxed(Case):
             self.note(f"{name}: refused", guarded[name] in REFUSED, guarded[name])
             self.note(f"{name}: an attack", open_to.get(name) not in REFUSED, open_to.get(name))
 
-    def test_nothing_outside_is_written(self):
-        """A path that is open to all is its own room there."""
-        loot = os.path.join(self.folder, "loot")
-        for guard, is_there in zip(self.guards(), (False, True)):
-            done(guard, program({"writes": f"open({loot!r}, 'w').write('x')"}))
-            self.same(type(guard).__name__, os.path.exists(loot), is_there)
-
     def test_what_a_program_has(self):
         """Its files, a room to write in, connections with itself, and what languages need of memory that is shared."""
         own = {
@@ -253,7 +246,7 @@ class Sandboxed(Case):
                 self.note(type(guard).__name__, found, left())
                 end_all()
 
-    def fault_of(self, more: str, memory: int) -> str:
+    def fault_of(self, more, memory):
         """What is found of a program that gives no answer."""
         limits = Limits(30, memory, 1)
         process = Process(program({}, more), limits, self.guards()[0], 0)
@@ -345,15 +338,12 @@ class Sandboxed(Case):
             found = sorted(os.listdir(self.room))
             self.same(f"after {more!r}", found, ["A$B.class", "A.class", "copy"])
 
-    def file_of(self, data: bytes):
+    def file_of(self, data):
         return open(self.file("classes", data), "rb")
 
     def test_where_it_cant_be(self):
-        """One sentence, which says what to do."""
+        """One sentence, which says what to do. Where it isn't installed: grade.py."""
         guard, _ = self.guards()
-        with mock.patch.dict(os.environ, PATH="/nonexistent"), self.assertRaises(Wrong) as why:
-            guard.try_out()
-        self.assertRegex(str(why.exception), "apt install bubblewrap.*container's words after `--`")
         guard.container.append("--no-such-word")
         with self.assertRaises(Wrong) as why:
             guard.try_out()
@@ -372,7 +362,7 @@ class Sandboxed(Case):
         guard.try_out()
 
 
-def unguarded(folder: str) -> Guard:
+def unguarded(folder):
     guard = Guard()
     guard.place = folder
     return guard

@@ -57,7 +57,7 @@ WRONG = {
 
 
 class Skeletons(Case):
-    def command(self, path: str) -> list[str]:
+    def command(self, path):
         if path.endswith(".java"):
             need(self, "javac")
         return [sys.executable, path] if path.endswith(".py") else compiled(path)

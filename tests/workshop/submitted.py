@@ -22,7 +22,7 @@ class Submitted(Case):
     def tearDown(self):
         self.assertEqual(left_at_last(), [])
 
-    def submit(self, student: str, **files: str) -> str:
+    def submit(self, student, **files):
         """A submission: files by name, with `_py` for `.py`."""
         folder = os.path.join(self.subs, student)
         os.makedirs(folder, exist_ok=True)
@@ -30,7 +30,7 @@ class Submitted(Case):
             self.file(os.path.join(folder, re.sub("_(py|js|c|java)$", r".\1", name)), text)
         return folder
 
-    def graded(self, *words: str, runs: str = "2", timeout: str = "30", **more) -> dict:
+    def graded(self, *words, runs="2", timeout="30", **more):
         """By student, of `grade --json` with few runs."""
         few = ["--seed", "7", "--json", "--timeout", timeout, "--runs", runs]
         done = call("grade", self.subs, *few, *words, **more)

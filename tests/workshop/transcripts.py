@@ -136,7 +136,7 @@ ROWS = (
 class Transcripts(Case):
     needs_programs = False
 
-    def says(self, text: str, line: str, *words: str, network: str = "two") -> None:
+    def says(self, text, line, *words, network="two"):
         status, _, said = said_by(
             "transcript", "check", network, *words, data=text.replace("|", "\n").encode()
         )
