@@ -94,14 +94,14 @@ StuckBefore program at v n = (event : Event) → vertex_of event ≡ v → Befor
 abbrev pub StuckTo : {S M E : Type 0} → Program S M E → NetView S M → ℕ → Type 0
 StuckTo program at v = (event : Event) → vertex_of event ≤ v → Possible program at.net at.state event → ⊥
 
+pub one_of : (i n : ℕ) → i < n + 1 → (i < n) ⊎ (i ≡ n)
+one_of i n lt = ⊎_elim (λ e. inr e) (λ side. ⊎_elim (λ below. inl below) (λ above. absurd (omega (arith, lt, above))) side) (cases_order i n)
+
 module _ {S M E : Type 0} (program : Program S M E) (at : NetView S M) where
   pub stuck_first : (v : ℕ) → (Possible program at.net at.state (Pulse v) → ⊥) → StuckBefore program at v 0
   stuck_first v never (Pulse u) is below can = never (subst (λ w. Possible program at.net at.state (Pulse w)) is can)
   stuck_first v never (Put u i) is below can = omega (arith, below)
   stuck_first v never (Take u i) is below can = omega (arith, below)
-
-  one_of : (i n : ℕ) → i < n + 1 → (i < n) ⊎ (i ≡ n)
-  one_of i n lt = ⊎_elim (λ e. inr e) (λ side. ⊎_elim (λ below. inl below) (λ above. absurd (omega (arith, lt, above))) side) (cases_order i n)
 
   pub stuck_more : (v n : ℕ) → StuckBefore program at v n → (Possible program at.net at.state (Take v n) → ⊥)
       → (Possible program at.net at.state (Put v n) → ⊥) → StuckBefore program at v (n + 1)
@@ -125,7 +125,7 @@ module _ {S M E : Type 0} (program : Program S M E) (at : NetView S M) where
       below : (u i : ℕ) → u ≡ v → i < degree_of at.net u → i < n
       below u i is lt = let lt' = subst (λ w. i < degree_of at.net w) is lt in omega (arith, lt', all)
 
-  there : (event : Event) → Possible program at.net at.state event → IsVertex at.net (vertex_of event)
+  pub there : (event : Event) → Possible program at.net at.state event → IsVertex at.net (vertex_of event)
   there (Pulse v) can = can.0
   there (Put v i) can = can.0.0
   there (Take v i) can = can.0.0

@@ -1,2 +1,4 @@
 pub mod Went
 pub mod Fair
+pub mod Recorded
+pub mod Ticks

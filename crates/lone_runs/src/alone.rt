@@ -1,12 +1,13 @@
 //! Rounds in which each event of each vertex is attempted once, until a round makes none.
 
-ghost use Rattle.std.specs.Prelude.{◌≡◌, ◌≢◌, ◌≤◌, ◌||◌, false, IfOk};
+ghost use Rattle.std.specs.Prelude.{◌≡◌, ◌≢◌, ◌≤◌, ◌||◌, false, true, IfOk, Ok};
 ghost use Rattle.interference.specs.Net.{IsVertex};
 ghost use Rattle.alpha_laws.specs.Counts.{events_of_run};
 ghost use Rattle.alpha_laws.specs.Progress.{HasEnded};
 ghost use Rattle.event_machine.specs.declared.event.Event.{Event};
 ghost use Rattle.event_machine.specs.declared.refused.StepRefused.{StepRefused};
 ghost use Rattle.event_machine.specs.Events.{Possible};
+ghost use Rattle.event_machine.specs.Step.{step};
 ghost use Rattle.event_machine.specs.State.{link_at, node_of, sent_of};
 ghost use Rattle.progress_laws.specs.Commute.{vertex_of};
 ghost use Rattle.progress_laws.specs.Endings.{IsTerminal, IsWholeState};
@@ -18,7 +19,7 @@ use interference::{Memory, Network};
 use node_api::NodeProgram;
 use std::alloc::Global;
 
-fn either(a: bool, b: bool) -> bool
+pub(crate) fn either(a: bool, b: bool) -> bool
     ensures either { result ≡ (a || b) }
 {
     a || b
@@ -37,9 +38,11 @@ fn is_memory(refused: StepRefused) -> bool
 }
 
 // Makes an event if it is possible. Returns whether it was.
-fn attempt<P: NodeProgram>(state: &mut NetState<P>, event: Event) -> Result<bool, Memory>
+pub(crate) fn attempt<P: NodeProgram>(state: &mut NetState<P>, event: Event) -> Result<bool, Memory>
     ensures went { IfOk result (λ did. Went P.program state.old did state.new) }
     ensures stuck { IfOk result (λ did. did ≡ false → Possible P.program state.new.net state.new.state event → ⊥) }
+    ensures made { IfOk result (λ did. did ≡ true
+        → step P.program state.old.net state.old.state event ≡ Ok state.new.state) }
 {
     state.is_simulation();
     let _ = state.network().nodes();
@@ -73,7 +76,7 @@ fn turn<P: NodeProgram>(state: &mut NetState<P>, v: u32) -> Result<bool, Memory>
 }
 
 // Attempts each event once. Returns whether one was possible.
-fn round<P: NodeProgram>(state: &mut NetState<P>) -> Result<bool, Memory>
+pub(crate) fn round<P: NodeProgram>(state: &mut NetState<P>) -> Result<bool, Memory>
     ensures went { IfOk result (λ did. Went P.program state.old did state.new) }
     ensures stuck { IfOk result (λ did. did ≡ false → IsTerminal P.program state.new.net state.new.state) }
     ensures bounded { IfOk result

@@ -13,5 +13,7 @@
 
 mod alone;
 pub mod laws;
+mod recording;
 
 pub use alone::run_alone;
+pub use recording::record_alone;
