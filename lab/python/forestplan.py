@@ -5,9 +5,9 @@
     forestplan.plan(G, bars={"Hof": {6}}, licence=[1, 6, 11])     # channels of the licence, and none that is barred
     forestplan.check(G, {"Ulm": 1, "Hof": 2})                     # has anybody's plan judged: its greatest channel
 
-G is a graph of networkx, or a dict with the neighbours of each node. Nodes are anything that can be a key; directions,
-weights, edges that come again and edges from a node to itself don't count. Only the text that is written here, and what
-is read of the answer, is not proved."""
+G is a graph of networkx; or a dict with a list or a set of the neighbours of each node, in which each neighbour comes
+once and is a key, too. Nodes are anything that can be a key; directions, weights and edges from a node to itself don't
+count. Only the text that is written here, and what is read of the answer, is not proved."""
 import collections
 import collections.abc
 import os
@@ -19,10 +19,6 @@ import tempfile
 Pulse = collections.namedtuple("Pulse", "number phase messages states")
 Message = collections.namedtuple("Message", "sender receiver word value")
 Entry = collections.namedtuple("Entry", "stamp node kind other wire")
-
-
-# Keys of a table, or of a graph in lists, that are no nodes.
-COLUMNS = {"source", "target", "from", "to", "weight", "nodes", "edges", "links", "V", "E"}
 
 
 class Refused(ValueError):
@@ -49,16 +45,13 @@ class _Answer:
     network = text = ""
 
     def _repr_svg_(self):
+        kind = self.kinds[self.network.count("\n") > self.most]
         with tempfile.NamedTemporaryFile("w", suffix=".txt") as file:
             file.write(self.text)
             file.flush()
-            kind = self.kinds[self.network.count("\n") > self.most]
-            return (
-                _lab(
-                    ["picture", kind, "-", self.option, file.name, "--title", "graph"], self.network
-                )
-                or None
-            )
+            words = [self.option, file.name] if self.option else []
+            words = ["picture", kind, "-", *words, "--title", "graph"]
+            return _lab(words, self.network) or None
 
 
 class Plan(_Answer, dict):
@@ -71,7 +64,7 @@ class Rounds(_Answer, list):
     """A `Pulse` for each pulse: `messages` has a `Message` each, and `states` (node, words) of what a node came to, its
     colours counted from 0."""
 
-    option, kinds, most = "--rounds", ("rounds", "rounds"), 0
+    option, kinds, most = "", ("rounds", "rounds"), 0
 
 
 class Transcript(_Answer, list):
@@ -182,55 +175,29 @@ def _pairs(G):
     """The edges of a graph of networkx, or of a dict of lists."""
     if callable(getattr(G, "edges", None)):
         return [(one, other) for one, other, *_ in G.edges()]
-    if not isinstance(G, collections.abc.Mapping) or isinstance(G, collections.abc.Set):
-        raise _no_graph(f"a {type(G).__name__} is no graph")
-    if G and COLUMNS.issuperset(G):
-        raise _no_graph(f"a dict with {', '.join(map(repr, G))} is a table")
+    if not isinstance(G, collections.abc.Mapping):
+        raise TypeError(
+            f"a {type(G).__name__} is no graph: a graph of networkx is wanted, which has functions that make one "
+            "of pairs, tables and matrices, or a dict with a list of the neighbours of each node"
+        )
     return [(one, other) for one, several in G.items() for other in _neighbours(one, several, G)]
 
 
 def _neighbours(one, several, G):
-    """The neighbours of a node of a dict; what may be none, or something else, is refused."""
+    """The neighbours of a node of a dict: each once, and each with an entry of its own."""
     found = list(_items(several, f"neighbours of {one!r}"))
-    if len(found) == len(G) > 2 and all(map(_is_bit, found)):
-        raise _no_graph(f"the neighbours of {one!r} may be a row of a matrix")
-    values = several if isinstance(several, collections.abc.Mapping) else {}
     for other in found:
-        value = values.get(other, True)
-        if not _is_edge(value):
-            what = f"the neighbour {other!r} of {one!r} has the value {value!r}"
-            raise _no_graph(f"{what}, and may be none")
-        if other != other or other not in G and _is_no_name(other, G):
-            what = f"a neighbour of {one!r} is {other!r}"
-            raise _no_graph(f"{what}, which isn't the name of a node alone")
+        if other not in G:
+            raise ValueError(f"a neighbour of {one!r} is {other!r}, which has no entry of its own")
+    if len(set(found)) < len(found):
+        raise ValueError(f"a neighbour of {one!r} comes twice")
     return found
-
-
-def _is_bit(other):
-    return isinstance(other, int) and other in (0, 1)
-
-
-def _is_edge(value):
-    """Whether a value of a neighbour says that there is one: data, or what is neither 0 nor NaN."""
-    return isinstance(value, collections.abc.Mapping) or value and value == value
-
-
-def _is_no_name(other, G):
-    """Whether it is nothing, or a node with something more."""
-    is_more = isinstance(other, tuple) and other[:1] and other[0] in G
-    return is_more or other in (None, "")
-
-
-def _no_graph(what):
-    return TypeError(
-        f"{what}: a graph of networkx is wanted, which has functions that make one of pairs, tables and "
-        "matrices, or a dict with a list of the neighbours of each node"
-    )
 
 
 def _items(several, what):
     """What is in a list or a set; a text isn't taken letter by letter."""
-    if isinstance(several, (str, bytes)) or not isinstance(several, collections.abc.Iterable):
+    is_other = isinstance(several, (str, bytes, collections.abc.Mapping))
+    if is_other or not isinstance(several, collections.abc.Iterable):
         raise TypeError(f"the {what} are {several!r}, and have to be a list or a set")
     return several
 

@@ -39,7 +39,7 @@ class Graph:
 
 def neighbours_of(nodes, pairs):
     """The same graph as a dictionary."""
-    return {node: [other for one, other in pairs if one == node] for node in nodes}
+    return {node: {other for one, other in pairs if one == node} for node in nodes}
 
 
 class InPython(Case):
@@ -75,7 +75,7 @@ class InPython(Case):
             self.note(f"check {count}", forestplan.check(graph, got, bars=bars) == max(channels))
 
     def test_licence(self):
-        triangle = forestplan.plan({"Ulm": ["Aue", "Hof"], "Aue": ["Hof"]})
+        triangle = forestplan.plan({"Ulm": ["Aue", "Hof"], "Aue": ["Hof"], "Hof": []})
         self.note("a triangle, by hand", triangle == {"Ulm": 2, "Aue": 3, "Hof": 1}, triangle)
         got = forestplan.plan(SQUARE, bars={"Ulm": {36, 99}}, licence=[36, 40, 44, 48])
         self.note("real channels", set(got.values()) <= {36, 40, 44, 48} and got["Ulm"] != 36, got)
@@ -104,34 +104,24 @@ class InPython(Case):
             ),
             (TypeError, "the neighbours of 'Ulm' are None", lambda: forestplan.plan({"Ulm": None})),
             (
-                TypeError,
-                "a row of a matrix",
+                ValueError,
+                "a neighbour of 0 comes twice",
                 lambda: forestplan.plan({0: [0, 1, 0], 1: [1, 0, 1], 2: [0, 1, 0]}),
             ),
             (
                 TypeError,
-                "has the value 0",
-                lambda: forestplan.plan({"a": {"b": 0, "c": 1}, "b": {}, "c": {}}),
+                "the neighbours of 'a' are {'b': 0}",
+                lambda: forestplan.plan({"a": {"b": 0}, "b": {}}),
             ),
             (
-                TypeError,
-                "'source', 'target' is a table",
+                ValueError,
+                "a neighbour of 'source' is 'a', which has no entry",
                 lambda: forestplan.plan({"source": ["a"], "target": ["b"]}),
             ),
             (
-                TypeError,
-                "'nodes', 'edges' is a table",
-                lambda: forestplan.plan({"nodes": "ab", "edges": [("a", "b")]}),
-            ),
-            (
-                TypeError,
-                "is ('b', 5), which isn't the name",
+                ValueError,
+                "is ('b', 5), which has no entry",
                 lambda: forestplan.plan({"a": [("b", 5)], "b": []}),
-            ),
-            (
-                TypeError,
-                "is None, which isn't the name of a node alone",
-                lambda: forestplan.plan({"a": [None]}),
             ),
             (
                 TypeError,
