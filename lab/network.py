@@ -3,6 +3,9 @@ from collections.abc import Collection, Mapping
 from dataclasses import dataclass, field
 from functools import cached_property
 
+Edge = tuple[int, int]
+Places = Mapping[int, tuple[float, float]]
+
 
 @dataclass(eq=False, repr=False)
 class Network:
@@ -19,14 +22,14 @@ class Network:
     together: the colours of a plan are 0 to `span`, and `channels` is how many these are."""
 
     nodes: int
-    edges: Collection[tuple[int, int]]
+    edges: Collection[Edge]
     said: Mapping[int, int] = field(default_factory=dict)
     bars: Mapping[int, Collection[int]] = field(default_factory=dict)
     names: Mapping[int, str] = field(default_factory=dict)
-    places: Mapping[int, tuple[float, float]] = field(default_factory=dict)
+    places: Places = field(default_factory=dict)
     name: str = ""
 
-    def __post_init__(self):
+    def __post_init__(self) -> None:
         self.vertices = range(1, self.nodes + 1)
         self.edges = sorted({(min(edge), max(edge)) for edge in self.edges})
         self.neighbours: dict[int, list[int]] = {v: [] for v in self.vertices}

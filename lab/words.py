@@ -59,7 +59,7 @@ def duration(seconds: float) -> str:
 
 def parser_of(
     name: str, words: str, what: str, more: str | None, door: str = "forestlab"
-) -> argparse.ArgumentParser:
+) -> Parser:
     """The parser of `forestlab NAME WORDS`, whose help begins with `what` and ends with `more`, as they stand."""
     return Parser(
         prog=f"{door} {name}",
@@ -95,13 +95,6 @@ def add_command(
     )
 
 
-def add_options(command, name: str, rows) -> None:
-    """Of rows (commands, option, what argparse is told of it) those of one command."""
-    for names, option, told in rows:
-        if name in names:
-            command.add_argument(option, **told)
-
-
 def bytes_at(path: str, read=lambda stream: stream.read()) -> bytes:
     """All that a file has, or standard input for `-`; or what is read of it."""
     try:
@@ -110,14 +103,14 @@ def bytes_at(path: str, read=lambda stream: stream.read()) -> bytes:
         with open(path, "rb") as file:
             return read(file)
     except OSError as why:
-        raise Wrong(f"{called(path)}: {why.strerror}") from None
+        raise Wrong(f"{text_name(path)}: {why.strerror}") from None
 
 
 def text_at(path: str) -> str:
     return bytes_at(path).decode("utf-8", "replace")
 
 
-def called(path: str) -> str:
+def text_name(path: str) -> str:
     """What a fault of a text calls it."""
     return "standard input" if path == "-" else one_line(path)
 

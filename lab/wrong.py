@@ -5,11 +5,13 @@ class Wrong(Exception):
     """A text is wrong, or a network is too large for what is asked."""
 
 
-def wrong_line(name, line, what):
-    return Wrong(f"{name} line {line}: {what}")
+def wrong_line(name: str, line: int | str, what: str) -> Wrong:
+    """A fault of a line; or at another place of a text, in words."""
+    where = line if isinstance(line, str) else f"line {line}"
+    return Wrong(f"{name} {where}: {what}")
 
 
-def at_most(kind, count, what, limit, instead):
+def at_most(kind: str, count: float, what: str, limit: int, instead: str) -> None:
     """Refuses what would be no picture any more, and names the kind to use."""
     if count > limit:
         raise Wrong(f"{kind} draws at most {limit} {what}, and here are {count}: use {instead}")

@@ -24,6 +24,8 @@ from lab.words import in_words
 Program = Any
 Payload = tuple[str, int]
 Slot = Payload | None
+# Up to the parent or down to a child, and the forest.
+Role = tuple[str, int]
 Wire = tuple
 Event = tuple[str, int, int | None]
 
@@ -58,7 +60,7 @@ class Colouring:
     span: int
     forests: int
     barred: frozenset[int]
-    roles: list[tuple[str, int] | None]
+    roles: list[Role | None]
     colours: list[int]
     before: list[int]
     old: int
@@ -120,7 +122,7 @@ class Colouring:
         """Its colour in the edge's forest to each child."""
         return [("Colour", self.colours[f]) if way == "Down" else None for way, f in self.ends()]
 
-    def ends(self) -> list[tuple[str, int]]:
+    def ends(self) -> list[Role]:
         """Its roles by port, which are all known from pulse 2 on."""
         return [role for role in self.roles if role]
 
@@ -406,7 +408,7 @@ def lacks_words(pulse: int, acks: list[int], safes: list[int]) -> str:
     return "; ".join(f"{word} {pulse} of {in_words(names)}" for word, names in lacks if names)
 
 
-def event_of(state: NetState, entry) -> Event:
+def event_of(state: NetState, entry: Any) -> Event:
     """The event of an entry of a transcript (an `Entry` of lab/transcripts/reading.py)."""
     if entry.kind == "Pulse":
         return entry.kind, entry.vertex, None
@@ -415,7 +417,7 @@ def event_of(state: NetState, entry) -> Event:
     return entry.kind, entry.vertex, state.port_to[entry.vertex, entry.neighbour]
 
 
-def entry_words(state: NetState, entry, refused: Refused) -> str:
+def entry_words(state: NetState, entry: Any, refused: Refused) -> str:
     """What comes after the line of a refused entry: what its event lacks, or the pulse or wire to which its event
     comes."""
     if str(refused) == "NoSuch":
@@ -427,7 +429,7 @@ def entry_words(state: NetState, entry, refused: Refused) -> str:
     return f": expected pulse {due}" if isinstance(due, int) else f": expected {wire_words(due)}"
 
 
-def make(state: NetState, entry):
+def make(state: NetState, entry: Any) -> None:
     """The event of an entry of a transcript, if it is possible with what the entry says; otherwise nothing is
     changed."""
     state.step(*event_of(state, entry), entry.what)

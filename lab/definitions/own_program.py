@@ -23,6 +23,7 @@ nothing may be sent.
 
 The file is run as it is, with the rights of who calls the command; what it prints goes to standard error. Nothing is
 proved of it."""
+from collections.abc import Callable, Iterator, Sequence
 import contextlib
 import os
 import random
@@ -31,9 +32,11 @@ import sys
 import threading
 import traceback
 from types import CodeType, FunctionType, ModuleType, SimpleNamespace
+from typing import Any
 
-from lab.definitions.nodes import Program, synchronous_pulses
+from lab.definitions.nodes import Program, synchronous_pulses, synchronous_run
 from lab.definitions.values import by_name, frozen
+from lab.network import Network
 from lab.wrong import Wrong, wrong_line
 
 # A function that is needed, by the names that it may have.
@@ -74,7 +77,7 @@ def code_of(path: str) -> CodeType:
     except OSError as why:
         raise Wrong(f"{path}: {why.strerror}") from None
     except SyntaxError as why:
-        raise wrong_line(path, why.lineno, why.msg) from None
+        raise wrong_line(path, why.lineno or 1, why.msg) from None
     except ValueError as why:
         raise Wrong(f"{path}: {why}") from None
 
@@ -82,7 +85,7 @@ def code_of(path: str) -> CodeType:
 def loaded(path: str, code: CodeType) -> dict:
     """What a file defines, each time with variables of its own."""
     found = {"__name__": "program", "__file__": path}
-    called(path, "", exec, code, found)  # pylint: disable=exec-used
+    call(path, "", exec, code, found)  # pylint: disable=exec-used
     return found
 
 
@@ -90,12 +93,12 @@ class TooLong(BaseException):
     """A call that doesn't end. The file's own handlers of exceptions don't catch it."""
 
 
-def end_call(*_):
+def end_call(*_) -> None:
     raise TooLong(f"it hasn't ended after {LONGEST} seconds")
 
 
 @contextlib.contextmanager
-def limited():
+def limited() -> Iterator[None]:
     """Ends what takes too long, where a signal can do that."""
     if threading.current_thread() is not threading.main_thread():
         yield
@@ -109,7 +112,7 @@ def limited():
         signal.signal(signal.SIGALRM, before)
 
 
-def called(path: str, where: str, function, *values):
+def call(path: str, where: str, function: Callable, *values) -> Any:
     """What a function of the file returns. Whatever it raises is said with its line and where that was; what it prints
     goes to standard error."""
     try:
@@ -123,7 +126,9 @@ def called(path: str, where: str, function, *values):
         ]
         kind = "" if isinstance(why, TooLong) else type(why).__name__
         said = ": ".join(filter(None, [kind, str(why)])) + (f", in {where}" if where else "")
-        raise (wrong_line(path, lines[-1], said) if lines else Wrong(f"{path}: {said}")) from None
+        raise (
+            wrong_line(path, lines[-1] or 1, said) if lines else Wrong(f"{path}: {said}")
+        ) from None
 
 
 def variables_of(functions: dict) -> dict:
@@ -184,7 +189,7 @@ class OwnNode:
         function = cls.of_file["last_pulse"]
         sizes = (net.nodes, net.greatest_degree, net.forest_count, net.greatest_bars)
         takes_four = getattr(getattr(function, "__code__", None), "co_argcount", 2) == 4
-        last = called(cls.file, "`last_pulse`", function, *sizes[: 4 if takes_four else 2])
+        last = call(cls.file, "`last_pulse`", function, *sizes[: 4 if takes_four else 2])
         if not isinstance(last, int) or isinstance(last, bool) or not 0 <= last < 2**32:
             raise Wrong(f"{cls.file}: `last_pulse` returns {last!r}, which is no pulse")
         return last
@@ -194,14 +199,14 @@ class OwnNode:
 
     def greet(self) -> list:
         where = self.where("greet", 0)
-        return self.sent(where, 0, called(self.file, where, self.greeting, self.me))
+        return self.sent(where, 0, call(self.file, where, self.greeting, self.me))
 
     def next(self, pulse: int, inbox: list) -> list:
         came = [slot and (slot[0].lower(), slot[1]) for slot in inbox]
         where = self.where(self.stepping.__name__, pulse)
         with_inbox = f"{where}, whose inbox is {cut(repr(came))}"
         return self.sent(
-            where, pulse, called(self.file, with_inbox, self.stepping, self.me, pulse, came)
+            where, pulse, call(self.file, with_inbox, self.stepping, self.me, pulse, came)
         )
 
     def sent(self, where: str, pulse: int, what) -> list:
@@ -221,7 +226,7 @@ class OwnNode:
 
     def result(self) -> str:
         where = f"`result` of the node of identifier {self.me.id}"
-        words = called(self.file, where, self.finding, self.me)
+        words = call(self.file, where, self.finding, self.me)
         if not isinstance(words, str) or "\n" in words:
             raise Wrong(f"{self.file}: `result` returns {words!r}: it must be words on one line")
         return words
@@ -231,7 +236,7 @@ class OwnNode:
         if self.drawing is None:
             return None, None
         where = f"`drawn` of the node of identifier {self.me.id}"
-        pair = called(self.file, where, self.drawing, self.me)
+        pair = call(self.file, where, self.drawing, self.me)
         is_pair = isinstance(pair, tuple) and len(pair) == 2
         if not is_pair or not is_below(pair[0], COLOURS) or not is_below(pair[1], self.degree):
             raise Wrong(
@@ -269,7 +274,7 @@ def cut(words: str) -> str:
     return words if len(words) <= LONGEST_INBOX else f"{words[:LONGEST_INBOX]}.."
 
 
-def no_payload(slot) -> str:
+def no_payload(slot: Any) -> str:
     """Why something is no payload, or nothing."""
     is_pair = isinstance(slot, tuple) and len(slot) == 2
     if not is_pair or not is_word(slot[0]) or slot[1] is None or not is_below(slot[1], None):
@@ -277,11 +282,11 @@ def no_payload(slot) -> str:
     return "" if slot[1] < 2**128 else "its number has to be below 2^128"
 
 
-def is_word(word) -> bool:
+def is_word(word: Any) -> bool:
     return isinstance(word, str) and word.isascii() and word.isalpha() and word.islower()
 
 
-def is_below(number, bound: int | None) -> bool:
+def is_below(number: Any, bound: int | None) -> bool:
     """Whether something is a number from 0, below the bound if there is one, or None."""
     if number is None:
         return True
@@ -292,7 +297,7 @@ def is_below(number, bound: int | None) -> bool:
 # What a file has to keep to, and what has to hold.
 
 
-def check_repeats(net, program: Program) -> None:
+def check_repeats(net: Network, program: Program) -> None:
     """Refuses a program of a file that does something else the second time, or keeps something outside `me`: then the
     rounds, and what nodes find in them, mean nothing. The second time the nodes come in the opposite order.
     """
@@ -311,7 +316,9 @@ def check_repeats(net, program: Program) -> None:
             )
 
 
-def rounds_of(net, program: Program, order: list[int]):
+def rounds_of(
+    net: Network, program: Program, order: Sequence[int]
+) -> Iterator[tuple[OwnNode, str, tuple]]:
     """(node, where, what it sends or finds and what it keeps) of all rounds, by vertex, the nodes being called in an
     order."""
     for pulse, nodes, _, sent in synchronous_pulses(net, program, order):
@@ -324,7 +331,7 @@ def rounds_of(net, program: Program, order: list[int]):
         yield nodes[v], nodes[v].where("result", nodes[v].last), (found[v], kept_by(nodes[v]))
 
 
-def kept_by(node: OwnNode):
+def kept_by(node: OwnNode) -> Any:
     """What a node keeps, as a key; nothing of what can't be compared, which `explore` refuses."""
     try:
         return frozen(node.me, by_name)
@@ -333,14 +340,18 @@ def kept_by(node: OwnNode):
 
 
 def what_is_wrong(
-    net, program: Program, found: dict[int, str], function: str = "right", messages: tuple = ()
+    net: Network,
+    program: Program,
+    found: dict[int, str],
+    function: str = "right",
+    messages: tuple = (),
 ) -> str:
     """What the file's `right` or `always` says of what nodes have found, in words; nothing if that is right, or if the
     file has no such function."""
     if not issubclass(program, OwnNode) or function not in program.of_file:
         return ""
     more = [list(messages)] if function == "always" and asks_for_messages(program) else []
-    said = called(
+    said = call(
         program.file, f"`{function}`", program.of_file[function], *by_identifier(net, found), *more
     )
     if said is True:
@@ -354,18 +365,16 @@ def what_is_wrong(
     return said or f"`{function}` says that it isn't right"
 
 
-def by_identifier(net, found: dict[int, str]) -> tuple[dict, dict]:
+def by_identifier(net: Network, found: dict[int, str]) -> tuple[dict, dict]:
     """What nodes have found, and their neighbours, as a file knows them."""
     name = net.identifiers
     results = {name[v]: words for v, words in found.items()}
     return results, {name[v]: sorted(name[w] for w in ws) for v, ws in net.neighbours.items()}
 
 
-def results_of(net, program: Program) -> dict[int, str]:
+def results_of(net: Network, program: Program) -> dict[int, str]:
     """What each node has found after the last pulse of the rounds."""
-    for _, nodes, _, _ in synchronous_pulses(net, program):
-        pass
-    return {v: nodes[v].result() for v in nodes}
+    return {v: node.result() for v, node in synchronous_run(net, program).items()}
 
 
 def has_verdict(program: Program) -> bool:
@@ -373,7 +382,7 @@ def has_verdict(program: Program) -> bool:
     return issubclass(program, OwnNode) and "right" in program.of_file
 
 
-def wrong_end(net, program: Program) -> str:
+def wrong_end(net: Network, program: Program) -> str:
     """What isn't right at the end of the rounds, and so of every whole run, in words; nothing if it is right, or if
     the program doesn't say."""
     return what_is_wrong(net, program, results_of(net, program)) if has_verdict(program) else ""

@@ -1,4 +1,5 @@
 """The programs that nodes can run, by their names, and programs of one's own, from a file."""
+from argparse import ArgumentParser, Namespace
 import os
 import sys
 
@@ -55,7 +56,7 @@ def program_words(program: Program) -> list[str]:
     return [] if program is Colouring else ["--program", program.name, *more]
 
 
-def program_asked(command: str, given, network: Network | None = None) -> Program:
+def program_asked(command: str, given: Namespace, network: Network | None = None) -> Program:
     """The program of a command line, which may lack options. A root that is no node of the network is refused, and if
     the program ignores the network's bars, that is said on standard error."""
     options = {option: getattr(given, option, None) for option in OPTIONS}
@@ -74,7 +75,7 @@ def program_asked(command: str, given, network: Network | None = None) -> Progra
     return program
 
 
-def add_program(words):
+def add_program(words: ArgumentParser) -> None:
     """Adds the options to a command line."""
     words.add_argument("--program", default=Colouring.name, metavar="P", help=HELP)
     words.add_argument(

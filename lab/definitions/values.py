@@ -1,12 +1,14 @@
 """Values of any kind as keys that are equal exactly for equal values."""
+from collections.abc import Callable
 import types
+from typing import Any
 
 # What is equal to nothing but itself, and is never copied.
 ITSELF = (type, types.FunctionType, types.BuiltinFunctionType)
 PLAIN = (int, str, bytes, bool, type(None))
 
 
-def frozen(value, named=lambda thing: thing):
+def frozen(value: Any, named: Callable[[Any], Any] = lambda thing: thing) -> Any:
     """A key of a value. Two values have one key if they are built alike: the same types, and in them equal parts, the
     same part being in the same places. `named` says which types and functions are the same: by default those that are
     one thing, and with `by_name` those of one name. Raises TypeError for what can't be taken apart, as a generator or
@@ -14,7 +16,7 @@ def frozen(value, named=lambda thing: thing):
     return Freezing(named).key(value)
 
 
-def by_name(thing) -> str:
+def by_name(thing: Any) -> str:
     """The name of a type or function, which two loads of a file have in common."""
     return f"{thing.__module__}.{thing.__qualname__}"
 

@@ -115,7 +115,7 @@ def rows_of_run(text: str, name: str) -> list[tuple[int, int, int]]:
     return found
 
 
-def numbers_for(rows: list, table: list[int] | None, given) -> dict[int, int]:
+def numbers_for(rows: list, table: list[int] | None, given: Namespace) -> dict[int, int]:
     """What is written for each number of a plan, as the command line asks."""
     if table is None and given.run:
         return {channel: channel for _, _, channel in rows}
@@ -170,13 +170,6 @@ def refuse_words(given: Namespace) -> None:
         given.refuse("a table is wanted, as 1 6 11")
     if given.back and given.run:
         given.refuse("a run has no real channels, so --back and --run can't be together")
-    if is_stated(given) and file_in(given.table) is None:
-        given.refuse("--columns, --no-heading and --encoding are of a TABLE in a file")
-
-
-def is_stated(given: Namespace) -> bool:
-    """Whether something is stated of a table."""
-    return bool(given.columns or given.no_heading or given.encoding)
 
 
 def main(words: list[str]) -> int:

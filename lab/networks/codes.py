@@ -184,11 +184,13 @@ class Told(NamedTuple):
     more: str
 
 
-def code_of(words):
+def code_of(words: str) -> Told | None:
     """What is told of a fault, as `C8`, `C8 vertex 1` or `forestplay: NotReady line 9: safe 0 of 2`; None if the words
     are no fault."""
     found = WRITTEN.fullmatch(words)
-    for of, codes in CODES.items() if found else ():
+    if found is None:
+        return None
+    for of, codes in CODES.items():
         for names, (what, do) in codes.items():
             if found[1] in names.split():
                 name, *numbers = names.split()
@@ -205,7 +207,7 @@ def code_of(words):
     return None
 
 
-def tell_code(told):
+def tell_code(told: Told) -> list[str]:
     """What it means, and what to do, a line each."""
     here = [f"here: {told.more}"] if told.more else []
     return [

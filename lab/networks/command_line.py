@@ -1,8 +1,10 @@
 """The command line of `forestlab network`: its commands, and what each says of itself."""
-from lab.networks.kinds import KINDS
+from argparse import ArgumentParser
+
+from lab.networks.kinds import KINDS, Kind
 from lab.networks.numbering import WAYS
 from lab.networks.options import add_form, add_stated
-from lab.words import add_command, add_commands, add_options, add_output, add_seed, parser_of
+from lab.words import add_command, add_commands, add_output, add_seed, parser_of
 
 HELP = """\
 Makes networks, reads them in other forms, and says what they are.
@@ -105,71 +107,60 @@ SAME = "the same one chooses the same again"
 FILES = {"read": "?", "tell": "+"}
 
 
-# The options of the commands, in the order of the help.
-OPTIONS = (
-    (
-        ("disk",),
-        "--radius",
-        {
-            "type": float,
-            "default": 0.26,
-            "metavar": "R",
-            "help": "joined if nearer than R sides of the square; default: 0.26",
-        },
-    ),
-    (
-        ("random",),
-        "--connected",
-        {"action": "store_true", "help": "each node can be reached from each other"},
-    ),
-    (
-        ("random",),
-        "--neighbours",
-        {"type": int, "metavar": "D", "help": "the node with the most neighbours has D"},
-    ),
-    (("random",), "--forests", {"type": int, "metavar": "U", "help": "there are U forests"}),
-    (("read",), "--sites", {"metavar": "CSV", "help": "a table of sites"}),
-    (
-        ("read",),
-        "--reach",
-        {"type": float, "metavar": "KM", "help": "joins sites that are less than KM apart"},
-    ),
-    (
-        ("read",),
-        "--bars",
-        {"metavar": "CSV", "help": "a table of channels that are barred at sites"},
-    ),
-    (
-        ("read",),
-        "--channels",
-        {
-            "metavar": "TABLE",
-            "help": "the channels that all may use, as '1 6 11', or a CSV file with a column "
-            "`channel`: the first is channel 1 of the plan; bars are of these numbers, and `forestlab channels` puts "
-            "them back",
-        },
-    ),
-    (
-        ("tell",),
-        "--payloads",
-        {"action": "store_true", "help": "counts the payloads, however many they are"},
-    ),
-    (
-        ("number",),
-        "--by",
-        {"choices": WAYS, "required": True, "help": "the order of the new numbers"},
-    ),
-    (("number",), "--reverse", {"action": "store_true", "help": "the other way round"}),
-    (("names",), "--csv", {"action": "store_true", "help": "as CSV with a heading"}),
-    (
-        ("names",),
-        "--channels",
-        {"metavar": "TABLE", "help": "real channel numbers, as '36 40 44 48'"},
-    ),
-)
+def add_options(command: ArgumentParser, name: str) -> None:
+    """The options of a command, in the order of the help."""
+    if name == "disk":
+        command.add_argument(
+            "--radius",
+            type=float,
+            default=0.26,
+            metavar="R",
+            help="joined if nearer than R sides of the square; default: 0.26",
+        )
+    if name == "random":
+        command.add_argument(
+            "--connected", action="store_true", help="each node can be reached from each other"
+        )
+        command.add_argument(
+            "--neighbours", type=int, metavar="D", help="the node with the most neighbours has D"
+        )
+        command.add_argument("--forests", type=int, metavar="U", help="there are U forests")
+    if name == "read":
+        add_tables(command)
+    if name == "tell":
+        command.add_argument(
+            "--payloads", action="store_true", help="counts the payloads, however many they are"
+        )
+    if name == "number":
+        command.add_argument(
+            "--by", choices=WAYS, required=True, help="the order of the new numbers"
+        )
+        command.add_argument("--reverse", action="store_true", help="the other way round")
+    if name == "names":
+        command.add_argument(
+            "--channels", metavar="TABLE", help="real channel numbers, as '36 40 44 48'"
+        )
 
 
-def of_kinds():
+def add_tables(command: ArgumentParser) -> None:
+    """The tables beside FILE."""
+    command.add_argument("--sites", metavar="CSV", help="a table of sites")
+    command.add_argument(
+        "--reach", type=float, metavar="KM", help="joins sites that are less than KM apart"
+    )
+    command.add_argument(
+        "--bars", metavar="CSV", help="a table of channels that are barred at sites"
+    )
+    command.add_argument(
+        "--channels",
+        metavar="TABLE",
+        help="the channels that all may use, as '1 6 11', or a CSV file with a column "
+        "`channel`: the first is channel 1 of the plan; bars are of these numbers, and `forestlab channels` puts "
+        "them back",
+    )
+
+
+def of_kinds() -> dict[str, tuple[str, str, str, str]]:
     """The same of each kind of networks."""
     rows = {}
     for name, kind in KINDS.items():
@@ -179,7 +170,7 @@ def of_kinds():
     return rows
 
 
-def command_line():
+def command_line() -> ArgumentParser:
     titles = {name: " ".join([name, *map(str.upper, kind.sizes)]) for name, kind in KINDS.items()}
     kinds = "".join(f"  {titles[name]:<20}{kind.does}\n" for name, kind in KINDS.items())
     words = parser_of("network", "COMMAND WORDS.. [options]", HELP.format(kinds=kinds), MORE_HELP)
@@ -192,7 +183,7 @@ def command_line():
             add_file(command, name)
         if name == "number":
             add_seed(command, SAME)
-        add_options(command, name, OPTIONS)
+        add_options(command, name)
         if name == "read":
             add_form(command)
         if name in ("read", "names"):
@@ -202,7 +193,7 @@ def command_line():
     return words
 
 
-def add_sizes(command, kind):
+def add_sizes(command: ArgumentParser, kind: Kind) -> None:
     """The words of a kind."""
     for size in kind.sizes:
         command.add_argument(size, type=int, metavar=size.upper(), help=f"how many {size}")
@@ -210,10 +201,6 @@ def add_sizes(command, kind):
         add_seed(command, SAME)
 
 
-def add_file(command, name):
-    command.add_argument(
-        "file",
-        metavar="FILE",
-        nargs=FILES.get(name),
-        help="a file, - for standard input, or a name, as path5",
-    )
+def add_file(command: ArgumentParser, name: str) -> None:
+    said = "a file, - for standard input, or a name, as path5"
+    command.add_argument("file", metavar="FILE", nargs=FILES.get(name), help=said)  # type: ignore[arg-type]

@@ -10,7 +10,7 @@ from dataclasses import dataclass, field
 from xml.parsers import expat
 
 from lab.networks.fields import shown
-from lab.networks.listed import Where, wrong_at
+from lab.networks.listed import Where
 from lab.networks.network_text import MAX_NODES
 from lab.wrong import Wrong, wrong_line
 
@@ -40,14 +40,15 @@ class Declared:
             raise self.wrong(where, f"`{kind}` joins nodes and isn't an edge")
 
     def wrong(self, where: Where, what: str) -> Wrong:
-        return wrong_at(self.path, where, what)
+        return wrong_line(self.path, where, what)
 
-    def check_ends(self) -> None:
-        """Each end of an edge is the id of a node, which may come after it."""
+    def checked(self) -> "Declared":
+        """The same, if each end of an edge is the id of a node, which may come after it."""
         for where, *ends in self.edges:
             for end in ends:
                 if end not in self.nodes:
                     raise self.wrong(where, f"{shown(str(end))} isn't the id of a node")
+        return self
 
 
 def in_xml(data: bytes, path: str) -> Declared:
@@ -69,7 +70,7 @@ def in_xml(data: bytes, path: str) -> Declared:
         raise wrong_line(path, why.lineno, f"no XML: {expat.ErrorString(why.code)}") from None
     except (ValueError, LookupError) as why:
         raise Wrong(f"{path}: no XML: {why}") from None
-    return declared
+    return declared.checked()
 
 
 # What GML has beside its lists, and the beginning of a list up to the next bracket.
@@ -98,7 +99,25 @@ def in_gml(data: bytes, path: str) -> Declared:
         if keys.count("label") > 1 or keys.count("name") > 1:
             raise wrong_line(path, line, "a second name of one node")
         declared.declare(found[1], line, dict(pairs))
-    return declared
+    return declared.checked()
+
+
+def loaded(data: bytes, path: str) -> dict:
+    """The object of a text in JSON; an empty one if it has none."""
+
+    def once(pairs: list[tuple[str, object]]) -> dict[str, object]:
+        found = dict(pairs)
+        if len(found) < len(pairs):
+            raise Wrong(f"{path}: an object has a key twice: {shown(', '.join(found))}")
+        return found
+
+    try:
+        whole = json.loads(data, object_pairs_hook=once)
+    except json.JSONDecodeError as why:
+        raise wrong_line(path, why.lineno, f"no JSON: {why.msg}") from None
+    except RecursionError:
+        return {}
+    return whole if isinstance(whole, dict) else {}
 
 
 def in_json(data: bytes, path: str) -> Declared:
@@ -117,25 +136,7 @@ def in_json(data: bytes, path: str) -> Declared:
                 if not isinstance(item, dict) or type(item.get(own)) not in (str, int):
                     raise declared.wrong(where, f"its `{own}` is no text and no whole number")
             declared.declare(kind, where, item)
-    return declared
-
-
-def loaded(data: bytes, path: str) -> dict:
-    """The object of a text in JSON."""
-
-    def once(pairs: list[tuple[str, object]]) -> dict[str, object]:
-        found = dict(pairs)
-        if len(found) < len(pairs):
-            raise Wrong(f"{path}: an object has a key twice: {shown(', '.join(found))}")
-        return found
-
-    try:
-        whole = json.loads(data, object_pairs_hook=once)
-    except json.JSONDecodeError as why:
-        raise wrong_line(path, why.lineno, f"no JSON: {why.msg}") from None
-    except RecursionError:
-        whole = None
-    return whole if isinstance(whole, dict) else {}
+    return declared.checked()
 
 
 def in_letters(data: bytes, path: str) -> None:

@@ -1,8 +1,12 @@
 """`forestlab network tell`: what a network is, and what a run on it comes to, its payloads and wires, and about how
 long the commands take."""
+from collections.abc import Iterator
 import subprocess
 import tempfile
+from typing import Any
 
+from lab.network import Network
+from lab.networks.network_text import Reading
 from lab.networks.texts import plain_text
 from lab.programs import program_file
 from lab.words import counted, duration
@@ -42,12 +46,12 @@ class Run:
         self.letters = 2 * digits(network.nodes) + digits(self.last) + 13
 
 
-def digits(most):
+def digits(most: int) -> float:
     """How many digits the numbers from 0 to the greatest have on average."""
     return 1 + sum(1 - 10**length / (most + 1) for length in range(1, len(str(most))))
 
 
-def rounds_here(network):
+def rounds_here(network: Network) -> Any:
     """The rounds by their definition; None in the folder of a class, which doesn't have it."""
     try:
         from lab.definitions.rounds import Rounds
@@ -56,7 +60,7 @@ def rounds_here(network):
     return Rounds(network)
 
 
-def payloads_by_program(network):
+def payloads_by_program(network: Network) -> int:
     """The payloads of the rounds, counted line by line: the whole text may have a gigabyte."""
     with tempfile.TemporaryFile() as file:
         file.write(plain_text(network).encode())
@@ -64,7 +68,7 @@ def payloads_by_program(network):
         with subprocess.Popen(
             [program_file("forestplay"), "rounds"], stdin=file, stdout=subprocess.PIPE
         ) as started:
-            found = sum(b" put " in line for line in started.stdout)
+            found = sum(b" put " in line for line in started.stdout or ())
     if started.returncode:
         raise Wrong(
             f"forestplay rounds ended with status {started.returncode}; is there too little memory?"
@@ -72,7 +76,7 @@ def payloads_by_program(network):
     return found
 
 
-def most_payloads(network):
+def most_payloads(network: Network) -> int:
     """A greeting both ways, a label and ten colours of each edge; and in each merge both ends of each edge choose.
     No run sends more: clause `by_forest` of the law `colouring_is_bounded` (crates/bound_laws)."""
     forests = network.forest_count
@@ -80,12 +84,12 @@ def most_payloads(network):
     return 13 * len(network.edges) + 2 * merged
 
 
-def processor_seconds(run, command):
+def processor_seconds(run: Run, command: str) -> float:
     """About how much processor time `plan` or `transcript` takes, by its wires alone."""
     return run.wires / WIRES_A_SECOND[command]
 
 
-def times(run):
+def times(run: Run) -> str:
     """About how much processor time `plan` and `transcript` take."""
     if run.wires <= AN_INSTANT:
         return "less than a second"
@@ -98,7 +102,7 @@ def times(run):
     )
 
 
-def size(count):
+def size(count: float) -> str:
     """Bytes, to two digits."""
     unit, name = next(
         it for it in ((1e9, "GB"), (1e6, "MB"), (1e3, "kB"), (1, "bytes")) if count >= it[0]
@@ -106,7 +110,7 @@ def size(count):
     return f"{float(f'{count / unit:.2g}'):g} {name}"
 
 
-def facts(reading, network, is_counted):
+def facts(reading: Reading, network: Network, is_counted: bool) -> list[tuple[str, str]]:
     """(name, what) of each line that `tell` prints."""
     run = Run(network, is_counted)
     degrees = [len(network.neighbours[v]) for v in network.vertices]
@@ -144,7 +148,7 @@ def facts(reading, network, is_counted):
     ]
 
 
-def warnings(reading):
+def warnings(reading: Reading) -> Iterator[str]:
     """What the programs read without a word, and a reader may not have meant."""
     there = len(reading.edges)
     if reading.promised not in (there, reading.edge_lines, 2 * there):

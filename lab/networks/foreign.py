@@ -10,19 +10,20 @@ import re
 import site
 import sys
 import warnings
+from collections.abc import Iterable
 from typing import Any
 
 from lab.networks.declared import Declared, in_gml, in_json, in_letters, in_xml
 from lab.networks.fields import shown
-from lab.networks.listed import Listed, Where, name_of, wrong_at
+from lab.networks.listed import Listed, Where, name_of, not_read
 from lab.networks.stated import Stated, decoded
 from lab.networks.table import FARTHEST
-from lab.words import counted, one_line
-from lab.wrong import Wrong
+from lab.words import one_line
+from lab.wrong import Wrong, wrong_line
 
 PACKAGE = "apt install python3-networkx, or pip install networkx"
-# How much of the words of networkx is said, and how many values of a key.
-MOST_SAID, MOST_VALUES = 300, 3
+# How much of the words of networkx is said.
+MOST_SAID = 300
 # Gephi writes GEXF 1.3, whose nodes and edges are those of 1.2, which all versions of networkx read.
 NEW_GEXF, GEXF = b"http://gexf.net/1.3", b"http://www.gexf.net/1.2draft"
 GRAPH_OF_GML = re.compile(r"^\s*graph\s*\[", re.M)
@@ -71,8 +72,7 @@ def read(data: bytes, name: str, form: str, stated: Stated = Stated()) -> Listed
     if declares != in_xml or stated.encoding:
         text = decoded(data, name, stated.encoding)
         data = re.sub(r"\A\s*<\?xml[^>]*\?>", "", text).encode()
-    declared = declares(data, name) or Declared(name)
-    declared.check_ends()
+    declared = declares(data, name)
     try:
         with warnings.catch_warnings(record=True) as warned:
             warnings.simplefilter("always")
@@ -83,12 +83,12 @@ def read(data: bytes, name: str, form: str, stated: Stated = Stated()) -> Listed
     except Exception as why:
         said = one_line(str(why))[:MOST_SAID] or type(why).__name__
         raise Wrong(f"{name}: networkx can't read it as {form}: {said}") from None
-    there = len(declared.nodes), len(declared.edges)
-    got = graph.number_of_nodes(), graph.number_of_edges()
-    if declares != in_letters and there != got:
-        counts = f"{there[0]} nodes and {there[1]} edges, and networkx reads {got[0]} and {got[1]}"
-        raise Wrong(f"{name}: the text has {counts}")
-    found = listed(graph, form, declared)
+    if declared:
+        there = f"{len(declared.nodes)} nodes and {len(declared.edges)} edges"
+        got = f"{graph.number_of_nodes()} nodes and {graph.number_of_edges()} edges"
+        if there != got:
+            raise Wrong(f"{name}: the text has {there}, and networkx reads {got}")
+    found = listed(graph, form, declared or Declared(name))
     found.notes += [f"networkx warns: {one_line(str(one.message))[:MOST_SAID]}" for one in warned]
     return found
 
@@ -106,16 +106,22 @@ def listed(graph: Any, form: str, declared: Declared) -> Listed:
         line = where.get(node, 1)
         own[node] = name_of(str(has[key] if key else node), declared.path, line)
         if own[node] in nodes:
-            raise wrong_at(declared.path, line, f"a second node is called {shown(own[node])}")
+            raise wrong_line(declared.path, line, f"a second node is called {shown(own[node])}")
         nodes[own[node]] = line
     found.edges = [(nodes[own[v]], own[v], own[w]) for v, w in graph.edges()]
     found.places = places_of({own[node]: has for node, has in rows.items()})
     if graph.is_directed():
         found.notes.append("directions aren't read")
     read = {key, "id", *(("x", "y") if found.places else ())}
-    found.notes += unread("nodes", rows.values(), read)
-    found.notes += unread("edges", [has for *_, has in graph.edges(data=True)], {"id"})
+    found.notes += not_read("keys of nodes", keys_of(rows.values(), read))
+    edges = graph.edges(data=True)
+    found.notes += not_read("keys of edges", keys_of((has for *_, has in edges), {"id"}))
     return found
+
+
+def keys_of(rows: Iterable[dict], read: set) -> list[str]:
+    """The keys that aren't read."""
+    return sorted({str(key) for has in rows for key in has} - read)
 
 
 def is_own(key: str, rows: list[dict]) -> bool:
@@ -132,16 +138,3 @@ def places_of(rows: dict[str, dict]) -> dict[str, tuple[float, float]]:
         return {}
     are_near = all(abs(x) < FARTHEST and abs(y) < FARTHEST for x, y in places.values())
     return places if are_near else {}
-
-
-def unread(what: str, rows: Any, read: set) -> list[str]:
-    """The keys of nodes or edges that aren't read, with their first values."""
-    values: dict[str, set[str]] = {}
-    for has in rows:
-        for key in has.keys() - read:
-            values.setdefault(str(key), set()).add(shown(str(has[key])))
-    said = []
-    for key, found in sorted(values.items()):
-        first = sorted(found)[:MOST_VALUES] + ([".."] if len(found) > MOST_VALUES else [])
-        said.append(f"{shown(key)} ({', '.join(first)})")
-    return [f"{counted(len(said), 'key')} of {what} not read: {'; '.join(said)}"] if said else []

@@ -2,12 +2,12 @@
 what is chosen at random comes from `random()` of a seed alone, whose numbers Python keeps from version to version."""
 import inspect
 import random
-from collections.abc import Callable
+from collections.abc import Callable, Iterable, Sequence
 from itertools import combinations, islice
 from math import cos, pi, prod, sin
 from typing import NamedTuple
 
-from lab.network import Network
+from lab.network import Edge, Network, Places
 from lab.networks.network_text import MAX_EDGES, MAX_NODES, checked
 from lab.networks.places import near
 from lab.networks.random_networks import alike_edges, below
@@ -18,42 +18,42 @@ SIDE = 1000
 WAYS_OF_A_QUEEN = ((1, 0), (0, 1), (1, 1), (-1, 1))
 
 
-def made(nodes, edges, places=None):
+def made(nodes: int, edges: Iterable[Edge], places: Places | None = None) -> Network:
     """The network of these edges, of which no more are looked at than one too many."""
     return checked(
-        Network(nodes, islice(edges, MAX_EDGES + 1), places=places or {}), "that network"
+        Network(nodes, list(islice(edges, MAX_EDGES + 1)), places=places or {}), "that network"
     )
 
 
-def circle(vertices):
+def circle(vertices: Sequence[int]) -> Places:
     """The first vertex on top, then clockwise."""
     turn = 2 * pi / max(1, len(vertices))
     return {v: (sin(turn * k), -cos(turn * k)) for k, v in enumerate(vertices)}
 
 
-def path(nodes):
+def path(nodes: int) -> Network:
     return made(
         nodes, ((v, v + 1) for v in range(1, nodes)), {v: (v - 1, 0) for v in range(1, nodes + 1)}
     )
 
 
-def ring(nodes):
+def ring(nodes: int) -> Network:
     return made(
         nodes, ((v, v % nodes + 1) for v in range(1, nodes + 1)), circle(range(1, nodes + 1))
     )
 
 
-def star(nodes):
+def star(nodes: int) -> Network:
     return made(
         nodes, ((v, nodes) for v in range(1, nodes)), circle(range(1, nodes)) | {nodes: (0, 0)}
     )
 
 
-def complete(nodes):
+def complete(nodes: int) -> Network:
     return made(nodes, combinations(range(1, nodes + 1), 2), circle(range(1, nodes + 1)))
 
 
-def board(rows, columns, ways, far):
+def board(rows: int, columns: int, ways: Sequence[Edge], far: int) -> Network:
     """The squares of a board, numbered row by row, each joined to those that are up to so far in these directions."""
     number = {(x, y): y * columns + x + 1 for y in range(rows) for x in range(columns)}
     moves = [(step * x, step * y) for step in range(1, far + 1) for x, y in ways]
@@ -66,24 +66,25 @@ def board(rows, columns, ways, far):
     return made(rows * columns, edges, {v: square for square, v in number.items()})
 
 
-def grid(rows, columns):
+def grid(rows: int, columns: int) -> Network:
     return board(rows, columns, ((1, 0), (0, 1)), 1)
 
 
-def queen(rows, columns):
+def queen(rows: int, columns: int) -> Network:
     return board(rows, columns, WAYS_OF_A_QUEEN, max(rows, columns))
 
 
-def tree(nodes, seed):
+def tree(nodes: int, seed: str | int) -> Network:
     source = random.Random(seed)
     return made(nodes, ((1 + below(source, v - 1), v) for v in range(2, nodes + 1)))
 
 
-def disk(nodes, radius, seed):
+def disk(nodes: int, radius: float, seed: str | int) -> Network:
     """Places in a square of side 1000, and an edge if two are less than `radius` sides apart."""
     if not 0 < radius <= 2:
         raise Wrong(f"the radius is {radius}, and has to be above 0 and at most 2")
-    source, free, places = random.Random(seed), set(), {}
+    source, free = random.Random(seed), set()
+    places: dict[int, tuple[int, int]] = {}
     while len(places) < nodes:
         place = below(source, SIDE + 1), below(source, SIDE + 1)
         if place not in free:
@@ -93,17 +94,25 @@ def disk(nodes, radius, seed):
     return made(nodes, ((v + 1, w + 1) for v, w in pairs), places)
 
 
-def any_edges(nodes, edges, seed, connected=False, neighbours=None, forests=None):
+def any_edges(
+    nodes: int,
+    edges: int,
+    seed: str | int,
+    connected: bool = False,
+    neighbours: int | None = None,
+    forests: int | None = None,
+) -> Network:
     """So many different edges, each set of them as likely as any other; or with the wishes of `alike_edges`."""
     pairs = nodes * (nodes - 1) // 2
     if not 0 <= edges <= min(pairs, MAX_EDGES):
         raise Wrong(f"EDGES is {edges}, and {nodes} nodes have 0 to {min(pairs, MAX_EDGES)}")
-    source, chosen = random.Random(seed), set()
+    source = random.Random(seed)
     if connected or (neighbours, forests) != (None, None):
-        chosen = alike_edges(source, nodes, edges, connected, neighbours, forests)
-        if chosen is None:
+        found = alike_edges(source, nodes, edges, connected, neighbours, forests)
+        if found is None:
             raise Wrong("no network with these wishes was found: change their numbers")
-        return made(nodes, chosen)
+        return made(nodes, found)
+    chosen: set[Edge] = set()
     while len(chosen) < min(edges, pairs - edges):
         v, w = 1 + below(source, nodes), 1 + below(source, nodes)
         if v != w:

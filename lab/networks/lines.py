@@ -2,7 +2,7 @@
 import re
 
 from lab.networks.fields import shown
-from lab.networks.listed import Listed, Where, name_of, wrong_at
+from lab.networks.listed import Listed, Where, name_of
 from lab.networks.table import NUMBER, TITLES
 from lab.words import counted
 from lab.wrong import Wrong, wrong_line
@@ -77,11 +77,10 @@ def adjacency(text: str, name: str) -> Listed:
     for line, row in rows:
         first, *others = BETWEEN.split(row)
         node = node_of(first.removesuffix(":"), name, line)
-        if node in nodes:
+        if nodes.setdefault(node, line) != line:
             raise wrong_line(name, line, f"a second line of {shown(node)}")
-        nodes[node] = line
         found.edges += [(line, node, node_of(other, name, line)) for other in others]
-    for where, _, other in found.edges:
-        if other not in nodes:
-            raise wrong_at(name, where, f"{shown(other)} has no line of its own: is the text cut?")
+    for end, where in found.ends():
+        if end not in nodes:
+            raise wrong_line(name, where, f"{shown(end)} has no line of its own: is the text cut?")
     return found

@@ -7,7 +7,7 @@ from dataclasses import dataclass, field
 from functools import lru_cache
 
 from lab.networks.fields import shown
-from lab.wrong import Wrong, wrong_line
+from lab.wrong import wrong_line
 
 LONGEST_NAME = 200
 # How a spreadsheet writes a cell that it can't work out, as #DIV/0!.
@@ -33,18 +33,13 @@ class Listed:
     bars: dict[str, set[int]] = field(default_factory=dict)
     notes: list[str] = field(default_factory=list)
 
+    def ends(self) -> list[tuple[str, Where]]:
+        """The ends of the edges, one after the other."""
+        return [(end, where) for where, *ends in self.edges for end in ends]
+
     def names(self) -> list[str]:
         """The nodes in their order."""
-        if self.nodes is not None:
-            return list(self.nodes)
-        return list(dict.fromkeys(end for _, *ends in self.edges for end in ends))
-
-
-def wrong_at(path: str, where: Where, what: str) -> Wrong:
-    """A fault at a place of a text."""
-    if isinstance(where, int):
-        return wrong_line(path, where, what)
-    return Wrong(f"{path} {where}: {what}")
+        return list(dict(self.ends()) if self.nodes is None else self.nodes)
 
 
 @lru_cache(1 << 16)
@@ -61,38 +56,18 @@ def name_of(word: str, path: str, where: Where) -> str:
     """The name of a node: it has a letter or a digit, and nothing that can't be seen."""
     name = composed(word)
     if name is None:
-        raise wrong_at(path, where, f"no name of a node: `{shown(word)}`")
+        raise wrong_line(path, where, f"no name of a node: `{shown(word)}`")
     return name
 
 
-def bare(name: str) -> str:
-    """The letters and digits of a name, without accents and capitals."""
-    letters = unicodedata.normalize("NFKD", name).casefold()
-    return "".join(filter(str.isalnum, letters)) or name
+def not_read(what: str, names: Collection[str]) -> list[str]:
+    """A note of what isn't read, if there is something."""
+    return [f"{what} that aren't read: {', '.join(map(shown, names))}"] if names else []
 
 
-def note_alike(found: Listed) -> None:
-    """Notes the first two names that differ in capitals, blanks, marks or accents alone."""
-    seen: dict[str, str] = {}
-    for name in found.names():
-        other = seen.setdefault(bare(name), name)
-        if other != name:
-            found.notes.append(
-                f"{shown(other)} and {shown(name)} are two nodes: are they meant to be one?"
-            )
-            return
-
-
-def nearest(name: str, known: Collection[str]) -> str:
-    """The known name that is written most alike, as a question."""
-    alike = difflib.get_close_matches(name, known, n=1, cutoff=0.7)
-    return f", is it {shown(alike[0])}?" if alike else ""
-
-
-def known_nodes(found: Listed, known: Collection[str], path: str, table: str) -> None:
-    """Refuses a node of a text that isn't a site of a table."""
-    named = [(end, where) for where, *ends in found.edges for end in ends]
-    for node, where in named if found.nodes is None else found.nodes.items():
-        if node not in known:
-            what = f"{shown(node)} isn't a site of {table}{nearest(node, known)}"
-            raise wrong_at(path, where, what)
+def check_known(name: str, known: Collection[str], path: str, where: Where, what: str) -> None:
+    """Refuses a node that isn't a site, with the site that is written most alike."""
+    if name not in known:
+        alike = difflib.get_close_matches(name, known, n=1, cutoff=0.7)
+        asked = f", is it {shown(alike[0])}?" if alike else ""
+        raise wrong_line(path, where, f"{shown(name)} {what}{asked}")

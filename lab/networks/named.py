@@ -7,7 +7,7 @@ from lab.networks.kinds import KINDS
 from lab.networks.network_text import network_of
 from lab.networks.texts import text_of
 from lab.programs import TOP
-from lab.words import bytes_at, called
+from lab.words import bytes_at, text_name
 from lab.wrong import Wrong
 
 # The name of a kind with its size, as ring7 or grid3x4.
@@ -48,7 +48,7 @@ def network_bytes(name: str) -> bytes:
         kind, sizes = found
         return text_of(KINDS[kind].make(*sizes)).encode()
     if not MADE.fullmatch(name):
-        raise Wrong(f"{called(name)}: No such file or directory")
+        raise Wrong(f"{text_name(name)}: No such file or directory")
     made = [
         kind + ("N" if len(of.sizes) == 1 else "RxC")
         for kind, of in KINDS.items()
@@ -61,7 +61,7 @@ def network_bytes(name: str) -> bytes:
 
 def network_at(name: str) -> Network:
     """The network of a name, with the name that it has in what is printed."""
-    network = network_of(network_bytes(name), called(name))
+    network = network_of(network_bytes(name), text_name(name))
     if name == "-":
         network.name = "this network"
     return network

@@ -1,12 +1,11 @@
 """`forestlab network`: makes networks, reads other forms of them, numbers their nodes anew, says what they are, and
 puts names back on a plan. Nothing of it is proved: what is claimed of a plan begins at the bytes of the network's
 text."""
-import csv
-import io
+from argparse import Namespace
 import sys
 
 from lab.networks import tables
-from lab.networks.channels import channels_asked, file_in, is_stated
+from lab.networks.channels import channels_asked
 from lab.networks.codes import code_of, tell_code
 from lab.networks.command_line import command_line
 from lab.networks.describe import facts, warnings
@@ -20,32 +19,18 @@ from lab.networks.plan_text import clashes, read_plan
 from lab.networks.reading import form_read, listed_of, made_of
 from lab.networks.stated import Unsaid, decoded
 from lab.networks.texts import text_of
-from lab.words import bytes_at, one_line, source_of, text_at, write
+from lab.words import one_line, source_of, text_at, write
 from lab.wrong import Wrong
 
-# No file of a network within the limits is longer.
-MOST_BYTES = 1 << 28
 # Kilometres: less than that no two sites are apart, and numbers of places have no such digits.
 LEAST_REACH = 1e-6
 
 
-def bytes_of_file(name):
-    """The bytes of a file that isn't longer than any network is, or of a network that is called by its name."""
-    if path_of(name) != name:
-        return network_bytes(name)
-    data = bytes_at(name, lambda stream: stream.read(MOST_BYTES + 1))
-    if len(data) > MOST_BYTES:
-        raise Wrong(
-            f"{one_line(name)}: more than {MOST_BYTES >> 20} MiB, and no network within the limits is so long"
-        )
-    return data
-
-
-def say(what):
+def say(what: str) -> None:
     print(f"network: {what}", file=sys.stderr)
 
 
-def made(given):
+def made(given: Namespace) -> str:
     """A network of a kind, with the words that make it again."""
     kind = KINDS[given.command]
     chosen = {name: getattr(given, name) for name in kind.chosen}
@@ -64,16 +49,15 @@ def made(given):
     return text_of(network, [f"Made by forestlab network {given.command} {' '.join(words)}"])
 
 
-def was_read(given):
+def was_read(given: Namespace) -> str:
     """The network of a file, of a table of sites, or of both."""
     refuse_words(given)
     path = given.file if given.file is not None else given.sites
     name = one_line(path)
-    form = None if given.file is None else form_read(given.file, given.stated)
+    found = Listed("sites") if given.file is None else file_listed(given, name)
     licence = channels_asked(given, words_of_channels(given), "network")
-    found = Listed("sites") if given.file is None else file_listed(given, name, form)
     if given.sites:
-        sites = tables.sites_of(*text_asked(given, given.sites), given.stated)
+        sites = tables.Sites(*text_asked(given, given.sites), given.stated)
         tables.with_sites(found, sites, name)
         if given.reach is not None:
             tables.join_near(found, sites, given.reach)
@@ -87,12 +71,12 @@ def was_read(given):
     return text_of(network, head)
 
 
-def words_of_channels(given):
+def words_of_channels(given: Namespace) -> list[str]:
     """The words of --channels, which are one of the shell."""
     return [] if given.channels is None else [given.channels]
 
 
-def refuse_words(given):
+def refuse_words(given: Namespace) -> None:
     """Refuses words that don't go together."""
     if given.reach is not None and not (given.sites and LEAST_REACH <= given.reach <= 20000):
         given.refuse(
@@ -106,17 +90,17 @@ def refuse_words(given):
         given.refuse("standard input is one file, not two")
 
 
-def text_asked(given, path):
+def text_asked(given: Namespace, path: str) -> tuple[str, str]:
     """The text of a table, and what it is called."""
     name = one_line(path)
-    return decoded(bytes_of_file(path), name, given.stated.encoding), name
+    return decoded(network_bytes(path), name, given.stated.encoding), name
 
 
-def file_listed(given, name, form):
+def file_listed(given: Namespace, name: str) -> Listed:
     """What FILE lists."""
-    data = bytes_of_file(given.file)
+    data = network_bytes(given.file)
     try:
-        return listed_of(data, name, form, given.stated)
+        return listed_of(data, name, form_read(given.file, given.stated), given.stated)
     except Unsaid:
         raise
     except Wrong as why:
@@ -125,7 +109,7 @@ def file_listed(given, name, form):
         raise Wrong(f"{why}; standard input is read as DIMACS, unless --as says its form") from None
 
 
-def was_told(given):
+def was_told(given: Namespace) -> str:
     """What is said of a network, or of a code if there is no file of that name."""
     words = " ".join(given.file)
     if path_of(words) is None and (found := code_of(words)):
@@ -135,8 +119,8 @@ def was_told(given):
     return network_told(words, given.payloads)
 
 
-def network_told(path, is_counted):
-    data, path = bytes_of_file(path), one_line(path)
+def network_told(path: str, is_counted: bool) -> str:
+    data, path = network_bytes(path), one_line(path)
     reading = reading_of(data.decode("utf-8", "replace"), path)
     network = reading.network()
     for what in warnings(reading):
@@ -144,19 +128,16 @@ def network_told(path, is_counted):
     return "".join(f"{name}: {what}\n" for name, what in facts(reading, network, is_counted))
 
 
-def was_numbered(given):
+def was_numbered(given: Namespace) -> str:
     network = network_at(given.file)
     return text_of(renumbered(network, given.by, source_of(given.seed), given.reverse))
 
 
-def was_named(given):
+def was_named(given: Namespace) -> str:
     if given.file == "-":
         raise Wrong("names: standard input has the plan, so the network has to be a file")
     network = network_at(given.file)
-    words = words_of_channels(given)
-    if is_stated(given) and file_in(words) is None:
-        given.refuse("--columns, --no-heading and --encoding are of a TABLE in a file")
-    table = channels_asked(given, words, "network")
+    table = channels_asked(given, words_of_channels(given), "network")
     given.stated.check_found()
     plan = read_plan(text_at("-"), "the plan", network)
     for v, w in clashes(network, plan)[:1]:
@@ -169,14 +150,10 @@ def was_named(given):
         (network.names.get(v, str(v)), table[plan[v] - 1] if table else plan[v])
         for v in network.vertices
     ]
-    if not given.csv:
-        return "".join(f"{name} {channel}\n" for name, channel in rows)
-    text = io.StringIO()
-    csv.writer(text, lineterminator="\n").writerows([("name", "channel"), *rows])
-    return text.getvalue()
+    return "".join(f"{name} {channel}\n" for name, channel in rows)
 
 
-def main(words):
+def main(words: list[str]) -> int:
     given = command_line().parse_args(words)
     if given.command in ("read", "names"):
         given.stated = stated_by(given)

@@ -19,7 +19,7 @@ MAX_CHANNEL = 2048
 MAX_BARS = 1024
 
 
-def stem(path):
+def stem(path: str) -> str:
     """A file's name without its folder and its ending, with a mark in place of what is no UTF-8."""
     return re.sub(r"\.\w+$", "", path.split("/")[-1]).encode("utf-8", "replace").decode()
 
@@ -41,13 +41,13 @@ LINES = {
 
 class Reading:
     """What the lines so far say: `nodes` is None before the `p` line, `promised` its number of edges, and `edge_lines`
-    counts the lines that name one, again and again too. The vertices begin at the `least`."""
-
-    least = 1
+    counts the lines that name one, again and again too; `name_lines` has the line of each vertex's name.
+    """
 
     def __init__(self, path=""):
         self.path, self.line, self.nodes, self.promised, self.edge_lines = path, 0, None, None, 0
         self.edges, self.places, self.names, self.identifiers, self.bars = set(), {}, {}, {}, {}
+        self.name_lines = {}
 
     def wrong(self, what, code):
         return wrong_line(self.path, self.line, f"{what} ({code})")
@@ -74,6 +74,7 @@ class Reading:
             self.places[whole(place[1])] = float(place[2]), float(place[3])
         if name:
             self.names[whole(name[1])] = name[2]
+            self.name_lines[whole(name[1])] = self.line
 
     def problem(self, fields):
         """NODES and EDGES of the `p` line."""
@@ -93,10 +94,9 @@ class Reading:
         if len(fields) < 3 or None in map(whole, fields[1:3]):
             raise self.wrong(f"no `{fields[0]} {words}`: `{shown(' '.join(fields))}`", "F4")
         for v in fields[1 : 1 + count]:
-            if not self.least <= whole(v) <= self.nodes:
+            if not 1 <= whole(v) <= self.nodes:
                 raise self.wrong(
-                    f"there is no vertex {shown(v)}: there are {self.nodes}, from {self.least} on",
-                    "F5",
+                    f"there is no vertex {shown(v)}: there are {self.nodes}, from 1 on", "F5"
                 )
         if fields[0] == "b" and not 1 <= whole(fields[2]) <= MAX_CHANNEL:
             raise self.wrong(
@@ -141,7 +141,7 @@ class Reading:
         )
 
 
-def reading_of(text, path):
+def reading_of(text: str, path: str) -> Reading:
     """What all lines of a text say, or its first fault."""
     read = Reading(path)
     for raw in text.split("\n"):
@@ -151,7 +151,7 @@ def reading_of(text, path):
     return read
 
 
-def checked(network, path):
+def checked(network: Network, path: str) -> Network:
     """A network that is within the limits, and whose identifiers differ."""
     if network.nodes > MAX_NODES:
         raise Wrong(f"{path}: {network.nodes} nodes, and a network has at most {MAX_NODES}")
@@ -164,7 +164,7 @@ def checked(network, path):
                 f"{path}: vertex {v}{name} has {len(network.neighbours[v])} neighbours, more than {MAX_DEGREE} "
                 "(N1)"
             )
-    alike = {}
+    alike: dict[int, list[int]] = {}
     for v, number in network.identifiers.items():
         alike.setdefault(number, []).append(v)
     same = min((found for found in alike.values() if len(found) > 1), default=None)
@@ -173,11 +173,11 @@ def checked(network, path):
     return network
 
 
-def read_network(text, path):
+def read_network(text: str, path: str) -> Network:
     """The network of a text, or its first fault."""
     return reading_of(text, path).network()
 
 
-def network_of(data, path="the network"):
+def network_of(data: bytes, path: str = "the network") -> Network:
     """The same of a text in bytes."""
     return read_network(data.decode("utf-8", "replace"), path)

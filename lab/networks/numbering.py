@@ -1,6 +1,8 @@
 """`forestlab network number`: the same network with other numbers. A node keeps its name, or is named by its old
 number; it keeps the identifier that a line gives it, and its barred channels."""
 import random
+from collections.abc import Mapping
+from typing import Any
 
 from lab.network import Network
 from lab.networks.network_text import checked
@@ -10,7 +12,7 @@ from lab.wrong import Wrong
 WAYS = ("random", "degree", "place")
 
 
-def order_of(network, way, seed):
+def order_of(network: Network, way: str, seed: str | int) -> list[int]:
     if way == "random":
         return shuffled(random.Random(seed), network.vertices)
     if way == "degree":
@@ -20,14 +22,12 @@ def order_of(network, way, seed):
     return sorted(network.vertices, key=lambda v: network.places[v])
 
 
-def renumbered(network, way, seed, is_reversed):
+def renumbered(network: Network, way: str, seed: str | int, is_reversed: bool) -> Network:
     """The first vertex of the order becomes 1, or the last one."""
     order = order_of(network, way, seed)
     number = {old: new for new, old in enumerate(reversed(order) if is_reversed else order, 1)}
-    said, bars, places = (
-        {number[v]: what for v, what in of.items() if v in number}
-        for of in (network.said, network.bars, network.places)
-    )
+    kept: tuple[Mapping[int, Any], ...] = (network.said, network.bars, network.places)
+    said, bars, places = ({number[v]: what for v, what in of.items() if v in number} for of in kept)
     return checked(
         Network(
             network.nodes,

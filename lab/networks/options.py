@@ -3,7 +3,7 @@ import argparse
 import csv
 import shlex
 
-from lab.networks.stated import FORMS, Stated, Unsaid
+from lab.networks.stated import ENDINGS, Stated, Unsaid
 from lab.networks.table import TITLES
 
 
@@ -19,7 +19,7 @@ def titles_of(words: str) -> list[tuple[str, str]]:
 
 def add_form(command: argparse.ArgumentParser) -> None:
     command.add_argument(
-        "--as", dest="form", choices=FORMS, help="the form, whatever the file is called"
+        "--as", dest="form", choices=ENDINGS, help="the form, whatever the file is called"
     )
 
 
@@ -54,6 +54,8 @@ def stated_by(given: argparse.Namespace) -> Stated:
 
 def commands_for(why: Unsaid, begin: list[str], words: list[str], after: str = "") -> str:
     """What isn't stated, and the commands to choose from, ready to be copied."""
+    if not why.choices:
+        return str(why)
     lines = [f"{why}; say what it is:"]
     for stated, means in why.choices:
         lines += [f"  {means}:", f"    {shlex.join(['forestlab', *begin, *stated, *words])}{after}"]

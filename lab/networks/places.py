@@ -3,9 +3,9 @@ import math
 from collections.abc import Collection, Iterator
 from itertools import product
 
-# The mean radius of the earth in kilometres, and half of its circumference.
+# The mean radius of the earth in kilometres.
 EARTH = 6371.0088
-WIDEST = math.pi * EARTH
+Place = tuple[float, float]
 Point = tuple[float, float, float]
 # The rows in each cube of space, with their points.
 Cells = dict[tuple[int, int, int], list[tuple[int, Point]]]
@@ -21,7 +21,7 @@ def on_ground(latitude: float, longitude: float) -> Point:
     )
 
 
-def on_map(places: dict[str, tuple[float, float]]) -> dict[str, tuple[float, float]]:
+def on_map(places: dict[str, Place]) -> dict[str, Place]:
     """Places of latitude and longitude on a map with true lengths at their mean latitude, north on top."""
     middle = sum(latitude for latitude, _ in places.values()) / max(1, len(places))
     degree = math.radians(1) * EARTH
@@ -31,7 +31,7 @@ def on_map(places: dict[str, tuple[float, float]]) -> dict[str, tuple[float, flo
     }
 
 
-def across_of(places: Collection[tuple[float, float]]) -> float:
+def across_of(places: Collection[Place]) -> float:
     """How far places reach from west to east, or from south to north."""
     xs, ys = [x for x, _ in places], [y for _, y in places]
     return max(max(xs) - min(xs), max(ys) - min(ys)) if places else 0.0

@@ -1,9 +1,14 @@
 """The plan of a text, beside its network."""
+from collections.abc import Iterator
+
+from lab.network import Edge, Network
 from lab.networks.fields import fields_of, shown, whole
 from lab.wrong import Wrong, wrong_line
 
 
-def rows_of(text, name, least=1, below=2**32):
+def rows_of(
+    text: str, name: str, least: int = 1, below: int = 2**32
+) -> list[tuple[int, int, int]]:
     """(line, vertex, channel) of the lines of a plan, with numbers in these bounds."""
     rows = list(fields_by_line(text))
     line, fields = rows[0] if rows else (1, [])
@@ -15,11 +20,11 @@ def rows_of(text, name, least=1, below=2**32):
         if not len(numbers) == len(fields) == 2 or numbers[1] < least:
             what = f"no vertex and its channel: `{shown(' '.join(fields))}` (C6)"
             raise wrong_line(name, line, what)
-        found.append((line, *numbers))
+        found.append((line, numbers[0], numbers[1]))
     return found
 
 
-def fields_by_line(text):
+def fields_by_line(text: str) -> Iterator[tuple[int, list[str]]]:
     """(line, fields) of the lines that aren't blank."""
     for line, raw in enumerate(text.split("\n"), 1):
         fields = [field for field in fields_of(raw) if field]
@@ -27,7 +32,7 @@ def fields_by_line(text):
             yield line, fields
 
 
-def read_plan(text, name, network):
+def read_plan(text: str, name: str, network: Network) -> dict[int, int]:
     """{vertex: channel}, or the first fault that the programs would report. Neighbours may share a channel: a picture
     shows that."""
     plan = {}
@@ -54,6 +59,6 @@ def read_plan(text, name, network):
     return plan
 
 
-def clashes(network, plan):
+def clashes(network: Network, plan: dict[int, int]) -> list[Edge]:
     """The edges whose two vertices share a channel."""
     return [(v, w) for v, w in network.edges if plan[v] == plan[w]]

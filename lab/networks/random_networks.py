@@ -1,17 +1,22 @@
 """Edges by chance that are alike: connected if that is asked for, with a greatest number of neighbours and of forests.
 So each network of them has as many rounds, and is as hard as any other. `forestlab network random` and `forestlab
 sheet` make them."""
+from collections.abc import Iterable
+from random import Random
+
+from lab.network import Edge
+
 
 # How many edges are tried in all, how many networks at most and at least, and how many pairs for each edge.
 EDGES_TRIED, MOST_TRIES, LEAST_TRIES, PAIRS = 40_000, 2000, 20, 40
 
 
-def below(source, bound):
+def below(source: Random, bound: int) -> int:
     """A number from 0 to bound - 1."""
     return int(source.random() * bound)
 
 
-def shuffled(source, things):
+def shuffled(source: Random, things: Iterable[int]) -> list[int]:
     """The things in an order by chance."""
     order = list(things)
     for at in range(len(order) - 1, 0, -1):
@@ -20,7 +25,14 @@ def shuffled(source, things):
     return order
 
 
-def alike_edges(source, nodes, edges, connected=False, neighbours=None, forests=None):
+def alike_edges(
+    source: Random,
+    nodes: int,
+    edges: int,
+    connected: bool = False,
+    neighbours: int | None = None,
+    forests: int | None = None,
+) -> set[Edge] | None:
     """`edges` different edges by a source of chance, or None if none were found in some tries. `neighbours` is the
     greatest number of neighbours of a node, and `forests` of neighbours of higher number."""
     if connected and edges < nodes - 1 or neighbours is not None and 2 * edges > nodes * neighbours:
@@ -32,7 +44,14 @@ def alike_edges(source, nodes, edges, connected=False, neighbours=None, forests=
     return None
 
 
-def grown(source, nodes, edges, connected, neighbours, forests):
+def grown(
+    source: Random,
+    nodes: int,
+    edges: int,
+    connected: bool,
+    neighbours: int | None,
+    forests: int | None,
+) -> tuple[set[Edge], int, int]:
     """Edges that are added one by one, as long as no node gets too many neighbours; the greatest number of neighbours,
     and of those of higher number. Connected ones begin with a tree: each node, in an order by chance, is joined to one
     before it that has room."""

@@ -1,14 +1,22 @@
 """`forestlab network read`: a text of another form as a network, and what of it isn't read."""
-from lab.network import Network
+from lab.network import Edge, Network
 from lab.networks import foreign, lines, tables
 from lab.networks.fields import whole
-from lab.networks.listed import Listed, note_alike, wrong_at
+from lab.networks.listed import Listed
 from lab.networks.named import path_of
-from lab.networks.network_text import MAX_EDGES, checked, network_of, read_network, stem
+from lab.networks.network_text import (
+    MAX_EDGES,
+    Reading,
+    checked,
+    network_of,
+    read_network,
+    reading_of,
+    stem,
+)
 from lab.networks.stated import Stated, decoded, form_of, letters_of
 from lab.networks.texts import text_of
 from lab.words import counted, one_line
-from lab.wrong import Wrong
+from lab.wrong import wrong_line
 
 
 def listed_of(data: bytes, name: str, form: str, stated: Stated = Stated()) -> Listed:
@@ -16,27 +24,27 @@ def listed_of(data: bytes, name: str, form: str, stated: Stated = Stated()) -> L
     if form in foreign.READERS:
         return foreign.read(data, name, form, stated)
     if form == "dimacs":
-        return listed_in(dimacs_of(data, name, stated), name)
+        # Nothing is mended, not even line ends.
+        encoding = stated.encoding
+        text = letters_of(data, name, encoding) if encoding else data.decode("utf-8", "replace")
+        return listed_in(reading_of(text, name))
     text = decoded(data, name, stated.encoding)
     if form == "pairs":
         return tables.pairs(text, name, stated)
     return {"edges": lines.edges, "adjacency": lines.adjacency}[form](text, name)
 
 
-def dimacs_of(data: bytes, name: str, stated: Stated) -> Network:
-    """The network of a text in the DIMACS format, of which nothing is mended, not even its line ends."""
-    if stated.encoding is None:
-        return network_of(data, name)
-    return read_network(letters_of(data, name, stated.encoding), name)
-
-
-def listed_in(network: Network, name: str) -> Listed:
-    """The nodes and edges of a network by their names, which differ."""
+def listed_in(reading: Reading) -> Listed:
+    """The nodes and edges of a text in the DIMACS format by their names, which differ."""
+    network, lines = reading.network(), reading.name_lines
     names = {v: network.names.get(v, str(v)) for v in network.vertices}
     vertices: dict[str, int] = {}
     for v, own in names.items():
-        if vertices.setdefault(own, v) != v:
-            raise Wrong(f"{name}: vertices {vertices[own]} and {v} are both called {own}")
+        other = vertices.setdefault(own, v)
+        if other != v:
+            line = max(lines.get(v, 0), lines.get(other, 0))
+            what = f"vertices {other} and {v} are both called {own}"
+            raise wrong_line(reading.path, line, what)
     return Listed(
         "dimacs",
         edges=[(f"vertex {v}", names[v], names[w]) for v, w in network.edges],
@@ -49,7 +57,6 @@ def listed_in(network: Network, name: str) -> Listed:
 
 def made_of(found: Listed, name: str) -> tuple[Network, list[str]]:
     """The network of what a text lists, and what is said of it: how it was read, and what of it wasn't."""
-    note_alike(found)
     names, by = numbered(found.names())
     number = {node: v for v, node in enumerate(names, 1)}
     edges, notes = edges_of(found, number, name)
@@ -66,11 +73,9 @@ def made_of(found: Listed, name: str) -> tuple[Network, list[str]]:
     return network, [summary(network, len(edges), found.form, by), *found.notes, *notes]
 
 
-def edges_of(
-    found: Listed, number: dict[str, int], path: str
-) -> tuple[set[tuple[int, int]], list[str]]:
+def edges_of(found: Listed, number: dict[str, int], path: str) -> tuple[set[Edge], list[str]]:
     """The edges by numbers, and notes of those that aren't there for themselves."""
-    edges: set[tuple[int, int]] = set()
+    edges: set[Edge] = set()
     loops, again = 0, 0
     for where, one, other in found.edges:
         v, w = sorted((number[one], number[other]))
@@ -79,7 +84,7 @@ def edges_of(
         elif (v, w) in edges:
             again += 1
         elif len(edges) == MAX_EDGES:
-            raise wrong_at(path, where, f"more than {MAX_EDGES} different edges")
+            raise wrong_line(path, where, f"more than {MAX_EDGES} different edges")
         else:
             edges.add((v, w))
     notes = []

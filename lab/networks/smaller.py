@@ -1,12 +1,12 @@
 """Networks that are a little smaller than another one, for who looks for the smallest on which something is wrong."""
 from collections.abc import Collection, Iterator, Mapping
 
-from lab.network import Network
+from lab.network import Edge, Network
 
 
 def remade(
     network: Network,
-    edges: Collection[tuple[int, int]],
+    edges: Collection[Edge],
     identifiers: dict[int, int],
     bars: Mapping[int, Collection[int]],
 ) -> Network:

@@ -5,6 +5,7 @@ Nothing of it is guessed. What isn't stated is asked for by a refusal with the w
 import codecs
 import os
 import shlex
+from collections.abc import Sequence
 from dataclasses import dataclass, field
 
 from lab.wrong import Wrong, wrong_line
@@ -22,7 +23,6 @@ ENDINGS = {
     "graph6": (".g6",),
     "sparse6": (".s6",),
 }
-FORMS = tuple(ENDINGS)
 # What states the form of a text whose ending doesn't, and what each is.
 COMMON = [
     (["--as", "pairs"], "a table (CSV) with a heading source,target"),
@@ -37,16 +37,20 @@ BY_SCIPY = (
     "import networkx as nx, scipy.io, sys; "
     "nx.write_graphml(nx.Graph(scipy.io.mmread(sys.argv[1])), sys.argv[2])"
 )
+PYTHON = ["python3", "-c"]
 OTHERS = {
     ".dot": DOT,
     ".gv": DOT,
-    ".net": ("python3-igraph", ".graphml", ["python3", "-c", BY_IGRAPH, "OLD", "NEW"]),
-    ".mtx": (
-        "python3-networkx python3-scipy",
-        ".graphml",
-        ["python3", "-c", BY_SCIPY, "OLD", "NEW"],
-    ),
+    ".net": ("python3-igraph", ".graphml", [*PYTHON, BY_IGRAPH, "OLD", "NEW"]),
+    ".mtx": ("python3-networkx python3-scipy", ".graphml", [*PYTHON, BY_SCIPY, "OLD", "NEW"]),
 }
+# What a text in an encoding may begin with.
+BY_MARK = {
+    codecs.BOM_UTF8: "utf-8-sig",
+    codecs.BOM_UTF16_LE: "utf-16",
+    codecs.BOM_UTF16_BE: "utf-16",
+}
+COMPRESSED = b"\x1f\x8b"
 
 
 @dataclass(frozen=True)
@@ -78,8 +82,14 @@ class Unsaid(Wrong):
     If a table has none of the columns that are wanted, `titles` are those that it has.
     """
 
-    def __init__(self, what, choices, wanted=(), titles=()):
-        super().__init__(what)
+    def __init__(
+        self,
+        what: object,
+        choices: Sequence[tuple[list[str], str]],
+        wanted: Sequence[str] = (),
+        titles: Sequence[str] = (),
+    ):
+        super().__init__(str(what))
         self.choices, self.wanted, self.titles = choices, wanted, titles
 
 
@@ -111,11 +121,12 @@ def form_of(path: str, name: str, stated: Stated = Stated()) -> str:
 
 def letters_of(data: bytes, name: str, stated: str | None) -> str:
     """The letters of a file: in the encoding that its mark says, or that is stated, or UTF-8."""
+    if data.startswith(COMPRESSED):
+        raise Wrong(f"{name}: it is compressed: unpack it by gunzip")
     encoding = stated or "utf-8"
-    if data.startswith(codecs.BOM_UTF8):
-        encoding = "utf-8-sig"
-    elif data.startswith((codecs.BOM_UTF16_LE, codecs.BOM_UTF16_BE)):
-        encoding = "utf-16"
+    for mark, marked in BY_MARK.items():
+        if data.startswith(mark):
+            encoding = marked
     try:
         return data.decode(encoding)
     except LookupError:
@@ -123,7 +134,7 @@ def letters_of(data: bytes, name: str, stated: str | None) -> str:
     except UnicodeError as why:
         line = data.count(b"\n", 0, getattr(why, "start", 0)) + 1
         what = wrong_line(name, line, f"it isn't in {encoding.upper()}")
-    raise what if stated else Unsaid(str(what), WINDOWS)
+    raise what if stated else Unsaid(what, WINDOWS)
 
 
 def decoded(data: bytes, name: str, stated: str | None = None) -> str:

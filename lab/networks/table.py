@@ -6,6 +6,7 @@ from collections.abc import Iterator
 from itertools import islice
 
 from lab.networks.fields import shown
+from lab.networks.listed import not_read
 from lab.networks.stated import Stated, Unsaid
 from lab.words import counted, in_words
 from lab.wrong import Wrong, wrong_line
@@ -70,22 +71,24 @@ class Table:
         wanted: tuple[str, ...],
         others: tuple[str, ...] = (),
     ):
-        self.name, self.stated = name, stated
-        self.wanted, self.named = wanted, stated.columns
-        if not stated.has_heading and not set(wanted) & self.named.keys():
+        self.name, self.wanted = name, wanted
+        self.has_heading, self.named = stated.has_heading, stated.columns
+        if not self.has_heading and not self.named.keys() & set(wanted):
             self.named = {column: str(at) for at, column in enumerate(wanted, 1)} | self.named
-        self.line, self.titles, self.mark = self.begin(text)
-        self.columns = {}
+        self.line, self.titles, mark = self.begin(text)
+        self.columns: dict[str, int] = {}
         for column in (*wanted, *others):
-            places = self.places_of(column, self.titles)
-            if len(places) > 1:
-                raise self.doubled(column, [self.titles[at] for at in places])
-            if places:
-                self.columns[column] = places[0]
-            if places and self.is_as_stated(column):
+            for at in self.places_of(column, self.titles):
+                if self.columns.setdefault(column, at) != at:
+                    raise self.doubled(column)
+        for column, at in self.columns.items():
+            title = self.titles[at]
+            if stated.columns.get(column, title).casefold() == title.casefold():
                 stated.found.add(column)
-        rows = islice(rows_of(text, name, self.mark), int(stated.has_heading), None)
-        self.rows = [self.read(row) for row in rows]
+        self.rows = [
+            self.read(*row) for row in islice(rows_of(text, name, mark), self.has_heading, None)
+        ]
+        self.decimals = "." if mark == "," else ".,"
         if not self.rows:
             raise self.wrong(self.line, "it has no row below its heading")
 
@@ -96,17 +99,18 @@ class Table:
         """The first row with the mark with which it has all wanted columns."""
         firsts = self.first_rows(text)
         fits = [first for first in firsts if self.has_wanted(first[1])]
+        if not fits:
+            raise self.unsaid(*max(firsts, key=lambda first: len(first[1]))[:2])
         if len(fits) > 1:
             what = "several marks may be between the fields: put a heading above"
             raise self.wrong(fits[0][0], what)
-        if not fits:
-            line, titles, _ = max(firsts, key=lambda first: len(first[1]))
-            raise self.unsaid(line, titles)
         return fits[0]
 
     def first_rows(self, text: str) -> list[Begin]:
         """The first row with each mark that is in the first line, and with which it is a row."""
         first_line = text.lstrip("\n ").partition("\n")[0]
+        if first_line.startswith("sep="):
+            raise self.wrong(1, f"`{shown(first_line)}` is for Excel alone: delete this line")
         found, fault = [], Wrong(f"{self.name}: it has no row")
         for mark in [mark for mark in MARKS if mark in first_line] or [","]:
             try:
@@ -123,91 +127,84 @@ class Table:
 
     def titles_of(self, line: int, first: list[str]) -> list[str]:
         """The titles of the columns; without a heading their numbers."""
-        if self.stated.has_heading:
+        if self.has_heading:
             return first
-        small = [title.casefold() for title in first]
-        if all(any(title in small for title in TITLES[column]) for column in self.wanted):
+        small = {title.casefold() for title in first}
+        if all(small & set(TITLES[column]) for column in self.wanted):
             raise self.wrong(line, "it is a heading, and --no-heading says that there is none")
         return [str(at) for at in range(1, len(first) + 1)]
 
     def places_of(self, column: str, titles: list[str]) -> list[int]:
         """Where a column may be: by the title that is stated, if it is there, or by a standard one."""
         small = [title.casefold() for title in titles]
-        named = self.named.get(column)
-        if named in titles:
-            return [at for at, title in enumerate(titles) if title == named]
-        known = (named.casefold(),) if named and named.casefold() in small else TITLES[column]
+        named = self.named.get(column, "").casefold()
+        known = (named,) if named and named in small else TITLES[column]
         return [at for at, title in enumerate(small) if title in known]
-
-    def is_as_stated(self, column: str) -> bool:
-        """Whether the column is called as it is stated, if it is."""
-        named = self.stated.columns.get(column)
-        return named is None or self.titles[self.columns[column]].casefold() == named.casefold()
 
     # What is refused.
 
-    def missing(self, line: int, column: str) -> Wrong:
-        return self.wrong(
-            line, f"there is no column {shown(self.named[column])}, which is {column}"
-        )
-
-    def doubled(self, column: str, titles: list[str]) -> Wrong:
+    def doubled(self, column: str) -> Wrong:
         """The refusal of a heading with two columns that may be meant."""
-        if len(set(titles)) < len(titles):
-            return self.wrong(self.line, f"two columns are called {shown(titles[0])}: rename one")
-        what = f"{in_words(map(shown, titles))} may each be the column {column}"
+        titles = [shown(self.titles[at]) for at in self.places_of(column, self.titles)]
+        what = f"{in_words(titles)} may each be the column {column}: rename one"
         choices = [
-            (words_of({column: title}), f"the column {column} is {shown(title)}")
+            (words_of({column: title}), f"the column {column} is {title}")
             for title in titles
+            if titles.count(title) == 1
         ]
-        return Unsaid(str(self.wrong(self.line, what)), choices)
+        return Unsaid(self.wrong(self.line, what), choices)
 
     def unsaid(self, line: int, first: list[str]) -> Wrong:
         """The refusal of a first row that doesn't have all wanted columns."""
-        columns = in_words(self.wanted)
-        for column in self.wanted:
-            if column in self.named and not self.places_of(column, first):
-                return self.missing(line, column)
-        if not self.stated.has_heading:
-            return self.wrong(line, f"--columns has to have the number of each of {columns}")
-        what = self.wrong(line, f"no heading with {columns}: `{shown(','.join(first))}`")
+        columns = in_words(self.named.get(column, column) for column in self.wanted)
+        kind = "heading" if self.has_heading else "row"
+        what = self.wrong(line, f"no {kind} with {columns}: `{shown(','.join(first))}`")
         titles = [title for title in first if title and first.count(title) == 1]
         if len(titles) < len(self.wanted) or set(self.wanted) & self.named.keys():
             return what
-        meant = dict(zip(self.wanted, titles))
-        said = in_words(f"{column} is {shown(title)}" for column, title in meant.items())
-        choices = [
-            (words_of(meant), f"it is a heading, in which {said}"),
-            (["--no-heading"], f"it is a row, and begins with {columns}"),
-        ]
-        return Unsaid(str(what), choices, self.wanted, titles)
+        return Unsaid(
+            what,
+            [
+                choice_of(self.wanted, titles),
+                (["--no-heading"], f"it is a row, and begins with {columns}"),
+            ],
+            self.wanted,
+            titles,
+        )
 
     # Rows.
 
-    def read(self, row: Row) -> tuple[int, dict[str, str]]:
-        line, fields = row
-        if fields == self.titles and self.stated.has_heading:
+    def read(self, line: int, fields: list[str]) -> tuple[int, dict[str, str]]:
+        if fields == self.titles and self.has_heading:
             raise self.wrong(line, "the heading a second time")
         if len(fields) != len(self.titles):
             count = counted(len(fields), "field")
             raise self.wrong(line, f"{count}, and the first row has {len(self.titles)}")
         return line, {column: fields[at] for column, at in self.columns.items()}
 
-    def unread(self, read: set[str] | None = None) -> list[str]:
-        """A note of the columns that aren't read."""
-        places = {at for column, at in self.columns.items() if read is None or column in read}
-        left = [
-            shown(title) if self.stated.has_heading and title else f"column {at + 1}"
-            for at, title in enumerate(self.titles)
-            if at not in places
+    def unread(self) -> list[str]:
+        """The titles of the columns that aren't read, or their numbers."""
+        return [
+            title if title and self.has_heading else f"column {at}"
+            for at, title in enumerate(self.titles, 1)
+            if at - 1 not in self.columns.values()
         ]
-        return [f"columns that aren't read: {', '.join(left)}"] if left else []
+
+    def notes(self) -> list[str]:
+        return not_read("columns", self.unread())
 
     def number(self, line: int, field: str) -> float:
         """A number with a point, or with a comma if commas don't separate the fields."""
-        if not NUMBER.fullmatch(field) or self.mark == "," in field:
+        if not NUMBER.fullmatch(field) or "," in field and "," not in self.decimals:
             raise self.wrong(line, f"no number, or one with thousands: `{shown(field)}`")
         number = float(field.replace(",", "."))
         if abs(number) >= FARTHEST:
             raise self.wrong(line, f"no place on this earth: `{shown(field)}`")
         return number
+
+
+def choice_of(columns: tuple[str, ...], titles: list[str]) -> tuple[list[str], str]:
+    """The words that state the columns to be those of these titles, and what they mean."""
+    meant = dict(zip(columns, titles))
+    said = in_words(f"{column} is {shown(title)}" for column, title in meant.items())
+    return words_of(meant), f"it is a heading, in which {said}"

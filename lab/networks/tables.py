@@ -1,14 +1,13 @@
 """Tables of pairs, of sites with places, of barred channels, and of the channels of a licence."""
 import re
-from dataclasses import dataclass
 
 from lab.networks.fields import shown, whole
-from lab.networks.listed import Listed, known_nodes, name_of, nearest
+from lab.networks.listed import Listed, Where, check_known, name_of
 from lab.networks.network_text import IDENTIFIERS, MAX_BARS, MAX_CHANNEL, MAX_EDGES
-from lab.networks.places import across_of, near, on_ground, on_map
+from lab.networks.places import Place, across_of, near, on_ground, on_map
 from lab.networks.stated import Stated, Unsaid
-from lab.networks.table import Table, words_of
-from lab.words import counted, in_words
+from lab.networks.table import Table, choice_of
+from lab.words import counted
 from lab.wrong import Wrong
 
 # How many digits a real number of a channel has at most, as a frequency in kHz.
@@ -16,17 +15,13 @@ MOST_DIGITS = 12
 # The two columns of places, of which the first pair that is there counts, and what makes kilometres of a unit.
 DEGREES = ("lat", "lon")
 UNITS = {DEGREES: 1.0, ("x_km", "y_km"): 1.0, ("x_m", "y_m"): 0.001}
-Place = tuple[float, float]
-PAIRS = ("source", "target")
-SITES = ("site", "identifier", *(column for columns in UNITS for column in columns))
-BARS = ("site", "channel")
-LICENCE = ("channel",)
+SITES = ("identifier", *(column for columns in UNITS for column in columns))
 
 
 def pairs(text: str, name: str, stated: Stated) -> Listed:
     """Both ends of an edge in each row."""
-    table = Table(text, name, stated, PAIRS)
-    found = Listed("pairs", notes=table.unread())
+    table = Table(text, name, stated, ("source", "target"))
+    found = Listed("pairs", notes=table.notes())
     for line, row in table.rows:
         ends = (name_of(row["source"], name, line), name_of(row["target"], name, line))
         found.edges.append((line, *ends))
@@ -35,8 +30,8 @@ def pairs(text: str, name: str, stated: Stated) -> Listed:
 
 def licence_of(text: str, name: str, stated: Stated) -> tuple[list[int], list[str]]:
     """The real channel numbers of a table, in its order, and what isn't read of it."""
-    table = Table(text, name, stated, LICENCE)
-    return [real_channel(table, line, row) for line, row in table.rows], table.unread()
+    table = Table(text, name, stated, ("channel",))
+    return [real_channel(table, line, row) for line, row in table.rows], table.notes()
 
 
 def real_channel(table: Table, line: int, row: dict[str, str]) -> int:
@@ -49,98 +44,84 @@ def real_channel(table: Table, line: int, row: dict[str, str]) -> int:
 # Sites.
 
 
-@dataclass
 class Sites:
-    """A table of sites: the line of each, its identifier and its place, in degrees or in kilometres, if it has them."""
+    """A table of sites: the line of each, its identifier, and its place in kilometres or in degrees, if it has them."""
 
-    table: Table
-    lines: dict[str, int]
-    identifiers: dict[str, int]
-    places: dict[str, Place]
-    is_globe: bool
-    notes: list[str]
+    def __init__(self, text: str, path: str, stated: Stated):
+        self.table = Table(text, path, stated, ("site",), SITES)
+        there = self.table.columns
+        self.columns = next((pair for pair in UNITS if there.keys() >= set(pair)), None)
+        # Places of other columns aren't read.
+        for column in SITES[1:]:
+            if column not in (self.columns or ()):
+                there.pop(column, None)
+        self.notes = self.table.notes()
+        self.lines: dict[str, Where] = {}
+        self.places: dict[str, Place] = {}
+        self.identifiers: dict[str, int] = {}
+        self.owners: dict[int, str] = {}
+        for line, row in self.table.rows:
+            self.read(name_of(row["site"], path, line), line, row)
+        if self.places:
+            across = f"{across_of(self.on_picture().values()):,.3g} km across"
+            self.notes.append(f"places are by {' and '.join(self.columns or ())}, and {across}")
 
-
-def sites_of(text: str, path: str, stated: Stated) -> Sites:
-    """The sites of a table, each once."""
-    table = Table(text, path, stated, SITES[:1], SITES[1:])
-    columns = next((pair for pair in UNITS if table.columns.keys() >= set(pair)), None)
-    notes = table.unread({"site", "identifier", *(columns or ())})
-    sites = Sites(table, {}, {}, {}, columns == DEGREES, notes)
-    for line, row in table.rows:
-        name = name_of(row["site"], path, line)
-        if name in sites.lines:
-            raise table.wrong(line, f"a second site {shown(name)}")
-        sites.lines[name] = line
-        if columns and any(row[column] for column in columns):
-            sites.places[name] = place_of(table, line, row, columns)
-    read_identifiers(table, sites)
-    if columns and sites.places:
-        across = across_of(on_picture(sites).values())
-        notes.append(f"places are by {' and '.join(columns)}, and {across:,.3g} km across")
-    return sites
-
-
-def read_identifiers(table: Table, sites: Sites) -> None:
-    """The identifiers of the sites that have one; none comes twice."""
-    numbers: set[int] = set()
-    for name, (line, row) in zip(sites.lines, table.rows):
+    def read(self, name: str, line: int, row: dict[str, str]) -> None:
+        """A site: no name and no identifier comes twice."""
+        if self.lines.setdefault(name, line) != line:
+            raise self.table.wrong(line, f"a second site {shown(name)}")
+        if self.columns and any(row[column] for column in self.columns):
+            self.places[name] = self.place_of(line, row, self.columns)
         field = row.get("identifier", "")
-        number = whole(field)
         if not field:
-            continue
+            return
+        number = whole(field)
         if number is None or number >= IDENTIFIERS:
-            raise table.wrong(line, f"no identifier below 2^128: `{shown(field)}`")
-        if number in numbers:
-            raise table.wrong(line, f"a second site of the identifier {number}")
-        numbers.add(number)
-        sites.identifiers[name] = number
+            raise self.table.wrong(line, f"no identifier below 2^128: `{shown(field)}`")
+        if self.owners.setdefault(number, name) != name:
+            raise self.table.wrong(line, f"a second site of the identifier {number}")
+        self.identifiers[name] = number
 
+    def place_of(self, line: int, row: dict[str, str], columns: tuple[str, str]) -> Place:
+        x, y = (self.table.number(line, row[column]) * UNITS[columns] for column in columns)
+        if self.is_globe and not (-90 <= x <= 90 and -180 <= y <= 360):
+            raise self.table.wrong(
+                line, "no latitude and longitude in degrees: are they exchanged?"
+            )
+        return x, y
 
-def place_of(table: Table, line: int, row: dict[str, str], columns: tuple[str, str]) -> Place:
-    x, y = (table.number(line, row[column]) * UNITS[columns] for column in columns)
-    if columns == DEGREES and not (-90 <= x <= 90 and -180 <= y <= 360):
-        raise table.wrong(line, "no latitude and longitude in degrees: are they exchanged?")
-    return x, y
+    @property
+    def is_globe(self) -> bool:
+        return self.columns == DEGREES
 
-
-def on_picture(sites: Sites) -> dict[str, Place]:
-    """The places with north on top, in kilometres."""
-    if sites.is_globe:
-        return on_map(sites.places)
-    return {name: (x, -y) for name, (x, y) in sites.places.items()}
+    def on_picture(self) -> dict[str, Place]:
+        """The places with north on top, in kilometres."""
+        if self.is_globe:
+            return on_map(self.places)
+        return {name: (x, -y) for name, (x, y) in self.places.items()}
 
 
 def with_sites(found: Listed, sites: Sites, path: str) -> None:
     """Makes the sites of a table the nodes, in its order, with their identifiers and places."""
-    known_nodes(found, sites.lines, path, sites.table.name)
-    found.nodes = dict(sites.lines)
+    table = sites.table.name
+    named = found.ends() if found.nodes is None else list(found.nodes.items())
+    for node, where in named:
+        check_known(node, sites.lines, path, where, f"isn't a site of {table}")
+    found.nodes = sites.lines
     found.identifiers |= sites.identifiers
-    found.places |= on_picture(sites)
-    begin = "" if path == sites.table.name else f"{sites.table.name}: "
+    found.places |= sites.on_picture()
+    begin = "" if path == table else f"{table}: "
     found.notes += [begin + note for note in sites.notes]
-
-
-def without_places(sites: Sites) -> Wrong:
-    """The refusal of a table whose sites have no places."""
-    table = sites.table
-    what = table.wrong(table.line, "no site has a place, so --reach joins none")
-    read = {table.columns["site"], table.columns.get("identifier")}
-    titles = [title for at, title in enumerate(table.titles) if title and at not in read]
-    if len(titles) < 2:
-        return what
-    choices = []
-    for columns in UNITS:
-        meant = dict(zip(columns, titles))
-        said = in_words(f"{column} is {shown(title)}" for column, title in meant.items())
-        choices.append((words_of(meant), said))
-    return Unsaid(str(what), choices)
 
 
 def join_near(found: Listed, sites: Sites, reach: float) -> None:
     """Joins the sites that are less than the reach apart."""
+    table = sites.table
     if not sites.places:
-        raise without_places(sites)
+        titles = [title for title in table.unread() if table.has_heading]
+        what = table.wrong(table.line, "no site has a place, so --reach joins none")
+        columns = UNITS if len(titles) > 1 else ()
+        raise Unsaid(what, [choice_of(pair, titles) for pair in columns])
     names = list(sites.places)
     points = [
         on_ground(*place) if sites.is_globe else (*place, 0.0) for place in sites.places.values()
@@ -152,7 +133,7 @@ def join_near(found: Listed, sites: Sites, reach: float) -> None:
         if frozenset(ends) not in there:
             found.edges.append((sites.lines[names[at]], *ends))
         if len(found.edges) > before + MAX_EDGES:
-            raise Wrong(f"{sites.table.name}: more than {MAX_EDGES} edges within {reach:g} km")
+            raise Wrong(f"{table.name}: more than {MAX_EDGES} edges within {reach:g} km")
     joined = counted(len(found.edges) - before, "pair")
     without = counted(len(sites.lines) - len(names), "site")
     found.notes.append(
@@ -167,23 +148,22 @@ def with_bars(
     found: Listed, text: str, name: str, stated: Stated, licence: list[int] | None
 ) -> None:
     """Bars the channels of a table; they are real numbers if a licence has channels 1, 2, .. of the plan."""
-    table = Table(text, name, stated, BARS)
+    table = Table(text, name, stated, ("site", "channel"))
     known = set(found.names())
+    numbers = range(1, MAX_CHANNEL + 1) if licence is None else licence
     outside = 0
     for line, row in table.rows:
         site = name_of(row["site"], name, line)
-        if site not in known:
-            raise table.wrong(line, f"{shown(site)} is no site{nearest(site, known)}")
+        check_known(site, known, name, line, "is no site")
         channel = real_channel(table, line, row)
-        if licence is None and not 1 <= channel <= MAX_CHANNEL:
+        if channel in numbers:
+            found.bars.setdefault(site, set()).add(numbers.index(channel) + 1)
+        elif licence is None:
             raise table.wrong(line, f"no channel from 1 to {MAX_CHANNEL}: `{channel}`")
-        if licence is not None and channel not in licence:
+        else:
             outside += 1
-            continue
-        barred = found.bars.setdefault(site, set())
-        barred.add(channel if licence is None else licence.index(channel) + 1)
-        if len(barred) > MAX_BARS:
+        if len(found.bars.get(site, ())) > MAX_BARS:
             raise table.wrong(line, f"more than {MAX_BARS} channels are barred at {shown(site)}")
-    found.notes += [f"{name}: {note}" for note in table.unread()]
+    found.notes += [f"{name}: {note}" for note in table.notes()]
     if outside:
         found.notes.append(f"{counted(outside, 'bar')} of {name} of a channel outside the licence")

@@ -1,13 +1,16 @@
 """A network as text: what `forestlab network` writes, in the DIMACS format, with places and names in comment lines."""
+from collections.abc import Iterable
+
+from lab.network import Network
 
 
-def decimal(number):
+def decimal(number: float) -> str:
     """At most three digits after the point, without zeros at the end."""
     text = f"{number:.3f}".rstrip("0").rstrip(".")
     return "0" if text == "-0" else text
 
 
-def plain_text(network):
+def plain_text(network: Network) -> str:
     """A network without comments, as the programs are given it: the `p` line, the identifiers that aren't the vertices'
     numbers, the bars, and the edges, ascending."""
     lines = [f"p edge {network.nodes} {len(network.edges)}"]
@@ -17,7 +20,7 @@ def plain_text(network):
     return "".join(line + "\n" for line in lines)
 
 
-def text_of(network, head=()):
+def text_of(network: Network, head: Iterable[str] = ()) -> str:
     """The same after the comment lines: those of `head`, places and names."""
     lines = [f"c {line}" for line in head]
     lines += [f"c at {v} {decimal(x)} {decimal(y)}" for v, (x, y) in sorted(network.places.items())]

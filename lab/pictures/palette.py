@@ -2,7 +2,7 @@
 and the number is always there too; so colour never speaks alone. The least distances under protanopia, deuteranopia and
 tritanopia (Machado's simulation) are 16 and more for any two channels, 22 and more for any two forest colours."""
 
-INK, SOFT, HAIRLINE, PAPER = "#1B1B1B", "#6B6B6B", "#D4D4D4", "#FFFFFF"
+INK, SOFT, PAPER = "#1B1B1B", "#6B6B6B", "#FFFFFF"
 # Numbers on fills: INK has too little contrast on some of them.
 BLACK = "#000000"
 BAND, BORDER, PULSE = "#F3EFE4", "#B7A98A", "#7A6A45"

@@ -5,13 +5,14 @@ import argparse
 import gc
 import re
 import sys
-from collections.abc import Callable
-from types import SimpleNamespace
-from typing import NamedTuple
+from collections.abc import Callable, Sequence
+from dataclasses import dataclass
+from inspect import signature
+from typing import Any, NamedTuple
 
 from lab import programs
 from lab.definitions.colours import plan_text as plan_by_definition
-from lab.definitions.nodes import Colouring
+from lab.definitions.nodes import Colouring, Program
 from lab.definitions.programs import add_program, program_asked, program_words
 from lab.networks.named import network_bytes
 from lab.networks.network_text import network_of, stem
@@ -36,7 +37,7 @@ from lab.pictures import (
     wrong_run,
 )
 from lab.pictures.places import unused_places
-from lab.pictures.program_rounds import ProgramRounds, is_own, least_wires, read_rounds, rounds_of
+from lab.pictures.program_rounds import ProgramRounds, is_own, least_wires, rounds_of
 from lab.pictures.transcripts import read_transcript, window_of
 from lab.pictures.watch_page import steps_of_text
 from lab.schedules.rules import (
@@ -49,12 +50,11 @@ from lab.schedules.simulate import played, text_of_run
 from lab.words import (
     add_command,
     add_commands,
-    add_options,
     add_output,
-    called,
     parser_of,
     some_of,
     text_at,
+    text_name,
     write,
 )
 from lab.wrong import Wrong, at_most
@@ -65,120 +65,106 @@ MOST_WIRES = 4_000_000
 
 
 class Text(NamedTuple):
-    """A text that is drawn: its form (plan, rounds, transcript or events), and what its faults call it; without folder
-    and ending that is the name of a run."""
+    """A text that is drawn, and what its faults call it; without folder and ending that is the name of a run."""
 
-    form: str
     name: str
     text: str
 
 
-class Asked(SimpleNamespace):
-    """What a picture is drawn of: a network, texts, and the options that the help of each kind names. `written` writes
-    a text of a form that is needed and isn't there; `progress` is told now and then how many states and events a search
-    has found."""
+@dataclass
+class Source:
+    """What a picture is drawn of: a network and what its nodes run, and the texts that are there. `written` writes a
+    text of a form (plan or transcript) that is needed and isn't there; `title` is what a run is called; `progress` is
+    told now and then how many states and events a search has found."""
 
-    network = (
-        forests
-    ) = forest = pulses = vertex = only = stopped = columns = title = written = progress = None
-    program, texts, without, wrong, in_words, as_table = Colouring, (), (), False, False, False
+    network: Any = None
+    program: Program = Colouring
+    texts: Sequence[Text] = ()
+    written: Callable[[str], str] | None = None
+    title: str | None = None
+    progress: Callable[[int, int], None] | None = None
 
-    def text(self, form, is_needed=False):
-        """The text of a form; None if there is none and none is needed."""
-        found = next((text for text in self.texts if text.form == form), None)
-        if found or not is_needed:
-            return found
+    def text(self, form):
+        if self.texts:
+            return self.texts[0]
         if not self.written:
             raise Wrong(f"there is no {form} to draw")
-        return Text(form, self.network.name, self.written(form))
+        return Text(self.network.name, self.written(form))
 
     def plan(self):
-        text = self.text("plan", True)
+        text = self.text("plan")
         return read_plan(text.text, text.name, self.network)
 
     def rounds(self):
-        """The rounds of a text, or of the definitions."""
-        text = self.text("rounds")
-        if text is None:
-            return rounds_of(self.network, self.program)
-        return read_rounds(text.text, text.name, self.network, self.program)
+        return rounds_of(self.network, self.program)
 
-    def window(self, usual=None):
+    def window(self, pulses, usual=None):
         """The pulses of a run that are drawn: those asked for, or else the `usual` first ones."""
-        return window_of(
-            self.network.name, self.program.last_pulse(self.network), self.pulses, usual
-        )
+        last = self.program.last_pulse(self.network)
+        return window_of(self.network.name, last, pulses, usual)
 
-    def run(self, until=None):
+    def run(self, until=None, is_wrong_drawn=False):
         """The run of a transcript; with `until`, as far as the pulses up to that one depend on it."""
-        given = self.text("transcript", True)
-        run = read_transcript(given.text, given.name, self.network, until, self.program, self.wrong)
-        run.name = self.title or stem(given.name)
+        text = self.text("transcript")
+        run = read_transcript(
+            text.text, text.name, self.network, until, self.program, is_wrong_drawn
+        )
+        run.name = self.title or stem(text.name)
         return run
 
-    def part(self, usual=None):
-        """A run, and the pulses of it that are drawn."""
-        shown = self.window(usual)
-        return self.run(None if self.wrong else shown[1]), shown
+
+# How each kind is drawn that isn't one call. What is named after the source are the options of its command line.
 
 
-# How each kind is drawn that isn't one call.
+def draw_rounds(of, forests, pulses):
+    rounds = of.rounds()
+    if of.program is Colouring:
+        return rounds_picture.draw(rounds, forests)
+    if forests:
+        raise Wrong(f"{of.program.name} has no forests")
+    return program_picture.draw(rounds, pulses)
 
 
-def draw_rounds(asked):
-    rounds = asked.rounds()
-    if asked.program is Colouring:
-        return rounds_picture.draw(rounds, asked.forests)
-    if asked.forests:
-        raise Wrong(f"{asked.program.name} has no forests")
-    return program_picture.draw(rounds, asked.pulses)
+def draw_why(of, vertex, in_words):
+    cone = why_picture.Cone(of.rounds(), vertex)
+    return why_picture.text(cone) if in_words else why_picture.draw(cone)
 
 
-def draw_why(asked):
-    cone = why_picture.Cone(asked.rounds(), asked.vertex)
-    return why_picture.text(cone) if asked.in_words else why_picture.draw(cone)
-
-
-def draw_run(asked):
-    run, shown = asked.part(3)
-    if run.wrong and not asked.pulses:
+def draw_run(of, pulses, only, wrong, stopped):
+    shown = of.window(pulses, 3)
+    run = of.run(None if wrong else shown[1], wrong)
+    if run.wrong and not pulses:
         shown = wrong_run.usual_pulses(run)
-    return run_picture.draw(run, shown, asked.only, asked.wrong, asked.stopped)
+    return run_picture.draw(run, shown, only, wrong, stopped)
 
 
-def draw_watch(asked):
-    texts = asked.texts or [asked.text("transcript", True)]
-    return watch_page.draw(
-        [
-            watch_page.Run(
-                text.name,
-                asked.network,
-                steps_of_text(text.name, asked.network, text.text, asked.pulses, asked.program),
-                asked.pulses,
-            )
-            for text in texts
-        ]
-    )
+def draw_overview(of, pulses):
+    shown = of.window(pulses)
+    return overview_picture.draw(of.run(shown[1]), shown)
 
 
-def space_in(kind, asked, beyond):
-    return schedules_space.space_of(
-        asked.network, kind, asked.without, beyond, asked.program, asked.progress
-    )
+def draw_watch(of, pulses):
+    network, runs = of.network, []
+    for name, text in of.texts or [of.text("transcript")]:
+        steps = steps_of_text(name, network, text, pulses, of.program)
+        runs.append(watch_page.Run(name, network, steps, pulses))
+    return watch_page.draw(runs)
 
 
-def draw_schedules(asked):
-    space, events = space_in("schedules", asked, asked.columns is not None), asked.text("events")
-    return schedules_picture.draw(asked.network, space, asked.columns, events and events.text)
+def space_in(kind, of, without, beyond):
+    return schedules_space.space_of(of.network, kind, without, beyond, of.program, of.progress)
 
 
-def draw_adversary(asked):
-    space = space_in("adversary", asked, True)
-    return (
-        adversary_page.draw_table(space)
-        if asked.as_table
-        else adversary_page.draw(asked.network, space)
-    )
+def draw_schedules(of, without, columns):
+    space = space_in("schedules", of, without, columns is not None)
+    return schedules_picture.draw(of.network, space, columns)
+
+
+def draw_adversary(of, without, as_table):
+    space = space_in("adversary", of, without, True)
+    if as_table:
+        return adversary_page.draw_table(space)
+    return adversary_page.draw(of.network, space)
 
 
 class Kind(NamedTuple):
@@ -188,7 +174,7 @@ class Kind(NamedTuple):
     does: str
     more: str
     example: str
-    draw: Callable[[Asked], str]
+    draw: Callable[..., str]
     most: tuple[int, str] | None = None
     of_programs: bool = False
 
@@ -198,14 +184,14 @@ KINDS = {
         "The network alone, without a plan: for a question sheet.",
         "Identifiers that differ from the numbers are written beside them.",
         "forestlab picture map examples/petersen.col > petersen-map.svg",
-        lambda asked: map_picture.draw(asked.network),
+        lambda of: map_picture.draw(of.network),
         (400, "a smaller network"),
     ),
     "plan": Kind(
         "The plan on the map: who has which channel.",
         "A plan that is not proper is refused; `forestplan check` says where.",
         "forestlab picture plan examples/petersen.col > petersen-plan.svg",
-        lambda asked: plan_picture.draw(asked.network, asked.plan()),
+        lambda of: plan_picture.draw(of.network, of.plan()),
         (400, "a smaller network"),
     ),
     "results": Kind(
@@ -214,7 +200,7 @@ KINDS = {
         "a filled circle is a node with a colour; of channels the number is in the circle, and beside it what it\n"
         "was before. All other results are written beside the nodes.",
         "forestlab picture results examples/petersen.col --program matching > petersen-pairs.svg",
-        lambda asked: results_picture.draw(ProgramRounds(asked.network, asked.program)),
+        lambda of: results_picture.draw(ProgramRounds(of.network, of.program)),
         (400, "simulate, whose transcript ends in the same"),
         of_programs=True,
     ),
@@ -222,7 +208,7 @@ KINDS = {
         "Each forest with its three colours, and the plan after each merge.",
         "Of more than six forests the first six, or others with --forest.",
         "forestlab picture forests examples/four_cycle.col > four_cycle-forests.svg",
-        lambda asked: forests_picture.draw(asked.rounds(), asked.forests),
+        lambda of, forests: forests_picture.draw(of.rounds(), forests),
         (400, "a smaller network"),
     ),
     "rounds": Kind(
@@ -239,7 +225,7 @@ KINDS = {
         "Without --vertex, the least one that has a parent. A vertex without a line `i V NUMBER` has its own\n"
         "number as its name, of few digits.",
         "forestlab picture bits examples/petersen.col --vertex 6 > petersen-bits.svg",
-        lambda asked: bits_picture.draw(asked.rounds(), asked.forest or 0, asked.vertex),
+        lambda of, forest, vertex: bits_picture.draw(of.rounds(), forest or 0, vertex),
     ),
     "why": Kind(
         "Which messages decided the channel of --vertex, on the rounds or in words.",
@@ -254,7 +240,7 @@ KINDS = {
     "run": Kind(
         "Space and time of a run without a clock: what each node put, took and did, above its rounds.",
         "Above 6 nodes, payloads alone unless --only says more. Without a stored text two calls differ, as the\n"
-        "runs do, but for --workers 1. With --wrong, a text that is refused, up to what is wrong.",
+        "runs do. With --wrong, a text that is refused, up to what is wrong.",
         "forestlab picture run examples/chain6.col --pulses 3..5 --transcript \\\n"
         "    examples/chain6_slow.transcript > chain6_slow-spacetime.svg",
         draw_run,
@@ -267,7 +253,7 @@ KINDS = {
         "depend on is read, and checked.",
         "forestlab picture overview examples/petersen.col > petersen-overview.svg\n"
         "  forestlab picture overview examples/queen5_5.col --pulses 100..139 > queen5_5-overview.svg",
-        lambda asked: overview_picture.draw(*asked.part()),
+        draw_overview,
         (100, "--pulses"),
         of_programs=True,
     ),
@@ -275,7 +261,7 @@ KINDS = {
         "A page with a slider and a play button: the network at each pulse (HTML).",
         "Add #pulse-P to the page's address for a link to pulse P, and #pulse-P-forest-F for one of its forests.",
         "forestlab picture player examples/petersen.col > petersen.html",
-        lambda asked: player_page.draw(asked.rounds()),
+        lambda of: player_page.draw(of.rounds()),
         (40, "rounds"),
         of_programs=True,
     ),
@@ -319,16 +305,15 @@ KINDS = {
         "forestlab picture broken --without shift > without-shift.svg\n"
         "  forestlab picture broken examples/petersen.col --without pair > petersen-without-pair.svg\n"
         "  forestlab picture broken --program independent-set --without class > set-without-class.svg",
-        lambda asked: broken_picture.draw(asked.network, asked.without, asked.program),
+        lambda of, without: broken_picture.draw(of.network, without, of.program),
         (2000, "`forestlab explore NETWORK --without RULES`, which says it in words"),
         of_programs=True,
     ),
 }
 
 
-# The kinds that draw a text of one form, which an option may name.
-OF_PLAN, OF_ROUNDS = ("plan",), ("forests", "rounds", "bits", "why", "player")
-OF_RUN = "run", "overview"
+# The kinds that draw a text of a form, which an option may name.
+OF_PLAN, OF_RUN = ("plan",), ("run", "overview")
 
 HELP = (
     "Draws plans, rounds and runs, as SVG on standard output; the last three kinds draw\n"
@@ -365,117 +350,78 @@ def numbers(text):
     return int(found[1]), int(found[2] or found[1])
 
 
-def stored(form, said):
-    """An option that names a text of a form."""
-    return {
-        "dest": "stored",
-        "action": "append",
-        "type": lambda path: (form, path),
-        "metavar": "FILE",
-        "help": said,
-    }
+def add_texts(kind, name):
+    """The texts that a kind draws, and what a run is to be of."""
+    for kinds, form in ((OF_PLAN, "plan"), (OF_RUN, "transcript")):
+        if name in kinds:
+            said = f"a stored {form} text, or - for standard input"
+            kind.add_argument(
+                f"--{form}", dest="stored", action="append", metavar="FILE", help=said
+            )
+    if name == "watch":
+        said = "a stored run, or two of them"
+        kind.add_argument("stored", nargs="*", metavar="TRANSCRIPT", help=said)
+    if name in (*OF_RUN, "watch"):
+        add_pulses(kind, "--pulses", "these pulses alone")
 
 
-PULSES = {"type": numbers, "metavar": "A..B", "help": "these pulses alone"}
-VERTEX = {"type": int, "metavar": "V", "help": "a vertex, counted from 1"}
-# The options of the kinds, besides those of programs, in the order of the help.
-OPTIONS = (
-    (
-        ("watch",),
-        "stored",
-        {
-            "metavar": "TRANSCRIPT",
-            "nargs": "*",
-            "type": lambda path: ("transcript", path),
-            "help": "a stored run, or two of them",
-        },
-    ),
-    (
-        ("schedules", "adversary"),
-        "--without",
-        {
-            "type": some_of(*OF_SCHEDULES),
-            "default": (),
-            "metavar": "RULES",
-            "help": f"some of {','.join(OF_SCHEDULES)}",
-        },
-    ),
-    (
-        ("broken",),
-        "--without",
-        {
-            "type": some_of(*OF_ANY_ROUNDS),
-            "required": True,
-            "metavar": "RULES",
-            "help": "some of "
-            + "; or ".join(f"{','.join(of)} of {name}" for name, of in RULES_OF_PROGRAMS.items()),
-        },
-    ),
-    (("schedules",), "--columns", PULSES | {"help": "the states after A to B events alone"}),
-    (
-        ("schedules",),
-        "--events",
-        stored("events", "the run drawn bold, a list of events; else the one in step"),
-    ),
-    (
-        ("adversary",),
-        "--json",
-        {"action": "store_true", "dest": "as_table", "help": "the page's table alone"},
-    ),
-    *(
-        (kinds, f"--{form}", stored(form, f"a stored {form} text, or - for standard input"))
-        for kinds, form in ((OF_PLAN, "plan"), (OF_ROUNDS, "rounds"), (OF_RUN, "transcript"))
-    ),
-    (("run", "overview"), "--workers", {"metavar": "N", "help": "the run's worker threads"}),
-    (("run", "overview"), "--capacity", {"metavar": "N", "help": "how many wires its links hold"}),
-    ((*OF_RUN, "watch"), "--pulses", PULSES),
-    (
-        ("forests", "rounds"),
-        "--forest",
-        {
-            "dest": "forests",
-            "type": numbers,
-            "metavar": "A..B",
-            "help": "these forests alone, or one, as 2, counted from 0",
-        },
-    ),
-    (("rounds",), "--pulses", PULSES | {"help": "these pulses alone, of another program"}),
-    (("bits",), "--forest", {"type": int, "metavar": "F", "help": "one forest, counted from 0"}),
-    (("bits",), "--vertex", VERTEX),
-    (("why",), "--vertex", VERTEX | {"required": True}),
-    (
-        ("why",),
-        "--text",
-        {"action": "store_true", "dest": "in_words", "help": "in words, not as a picture"},
-    ),
-    (
-        ("run",),
-        "--only",
-        {
-            "type": some_of(*run_picture.KINDS),
-            "metavar": "KINDS",
-            "help": f"some of {','.join(run_picture.KINDS)}",
-        },
-    ),
-    (
-        ("run",),
-        "--wrong",
-        {
-            "action": "store_true",
-            "help": "draw a text up to its first entry that isn't possible, and " "that one in red",
-        },
-    ),
-    (
-        ("run",),
-        "--stopped",
-        {
-            "type": int,
-            "metavar": "V",
-            "help": "with --wrong, of a run that isn't whole: mark the "
-            "vertex at which it stopped",
-        },
-    ),
-)
+def add_pulses(kind, option, said, dest=None):
+    kind.add_argument(option, type=numbers, metavar="A..B", dest=dest, help=said)
+
+
+def add_rules(kind, name):
+    """The options of the kinds that leave rules out."""
+    if name in ("schedules", "adversary"):
+        kind.add_argument(
+            "--without",
+            type=some_of(*OF_SCHEDULES),
+            default=(),
+            metavar="RULES",
+            help=f"some of {','.join(OF_SCHEDULES)}",
+        )
+    if name == "broken":
+        of = "; or ".join(f"{','.join(of)} of {name}" for name, of in RULES_OF_PROGRAMS.items())
+        kind.add_argument(
+            "--without",
+            type=some_of(*OF_ANY_ROUNDS),
+            required=True,
+            metavar="RULES",
+            help=f"some of {of}",
+        )
+    if name == "schedules":
+        add_pulses(kind, "--columns", "the states after A to B events alone")
+    if name == "adversary":
+        kind.add_argument(
+            "--json", action="store_true", dest="as_table", help="the page's table alone"
+        )
+
+
+def add_parts(kind, name):
+    """The options that say which part of the rounds or of a run is drawn."""
+    if name in ("forests", "rounds"):
+        said = "these forests alone, or one, as 2, counted from 0"
+        add_pulses(kind, "--forest", said, "forests")
+    if name == "rounds":
+        add_pulses(kind, "--pulses", "these pulses alone, of another program")
+    if name == "bits":
+        kind.add_argument("--forest", type=int, metavar="F", help="one forest, counted from 0")
+    if name in ("bits", "why"):
+        said = "a vertex, counted from 1"
+        kind.add_argument("--vertex", type=int, metavar="V", required=name == "why", help=said)
+    if name == "why":
+        said = "in words, not as a picture"
+        kind.add_argument("--text", action="store_true", dest="in_words", help=said)
+    if name == "run":
+        kind.add_argument(
+            "--only",
+            type=some_of(*run_picture.KINDS),
+            metavar="KINDS",
+            help=f"some of {','.join(run_picture.KINDS)}",
+        )
+        said = "draw a text up to its first entry that isn't possible, and that one in red"
+        kind.add_argument("--wrong", action="store_true", help=said)
+        said = "with --wrong, of a run that isn't whole: mark the vertex at which it stopped"
+        kind.add_argument("--stopped", type=int, metavar="V", help=said)
 
 
 def command_line():
@@ -501,23 +447,25 @@ def command_line():
         )
         if does.of_programs:
             add_program(kind)
-        add_options(kind, name, OPTIONS)
+        add_rules(kind, name)
+        add_texts(kind, name)
+        add_parts(kind, name)
         add_output(kind)
         kind.set_defaults(refuse=kind.error)
     return words
 
 
-def drawing(kind, asked):
-    """The picture of a kind: SVG, a page or words. A plan and a run have to be among the texts, or be written; rounds
-    of which there is no text are worked out by the definitions. No file is read, and nothing said: a fault raises
-    `Wrong`."""
-    if asked.network is not None:
-        if asked.network.nodes == 0:
-            raise Wrong(f"{asked.network.name}: no node, so nothing to draw")
+def drawing(kind, of, **options):
+    """The picture of a kind: SVG, a page or words, of a source, with those of these options that the kind has. No file
+    is read, and nothing said: a fault raises `Wrong`."""
+    if of.network is not None:
+        if of.network.nodes == 0:
+            raise Wrong(f"{of.network.name}: no node, so nothing to draw")
         if KINDS[kind].most:
             limit, instead = KINDS[kind].most
-            at_most(kind, asked.network.nodes, "nodes", limit, instead)
-    return KINDS[kind].draw(asked)
+            at_most(kind, of.network.nodes, "nodes", limit, instead)
+    _, *names = signature(KINDS[kind].draw).parameters
+    return KINDS[kind].draw(of, *(options.get(name) for name in names))
 
 
 # From the command line.
@@ -537,59 +485,47 @@ def plan_text(network, network_text):
     return plan_by_definition(network).decode()
 
 
-def run_text(given, network, network_text, program):
+def run_text(kind, network, network_text, program):
     """The transcript of a run: by threads of a proved program, by seed of one from a file."""
     wires = least_wires(network, program)
     if wires > MOST_WIRES:
         raise Wrong(
-            f"{given.kind} draws a run of at most {MOST_WIRES:,} wires, and one of {network.name} has more "
-            f"than {wires:,}"
+            f"{kind} draws a run of at most {MOST_WIRES:,} wires, and one of {network.name} has more than {wires:,}"
         )
     if is_own(program):
         return text_of_run(network.nodes, played(network, program=program), program)
-    options = [
-        f"--{name}={value}"
-        for name in ("workers", "capacity")
-        if (value := getattr(given, name, None))
-    ]
     if program is Colouring:
-        return programs.text_of("forestplan", ["transcript", *options], network_text)
-    return programs.text_of(
-        "forestplay", ["run", "--transcript", *program_words(program), *options], network_text
-    )
+        return programs.text_of("forestplan", ["transcript"], network_text)
+    words = ["run", "--transcript", *program_words(program)]
+    return programs.text_of("forestplay", words, network_text)
 
 
 def progress(states, events):
     note(f"{states:,} states, up to {events} events")
 
 
-def check_texts(given, stored):
-    """Refuses more texts than there is room for, and standard input for two of them."""
-    if given.kind == "watch" and len(stored) > 2:
-        raise Wrong("a page has room for two runs")
-    if [given.network, *(path for _, path in stored)].count("-") > 1:
-        raise Wrong("standard input has one text: name a file for each other one")
-
-
 def drawn(given):
     """The picture that the command line asks for."""
     stored = given.stored or []
-    check_texts(given, stored)
-    asked = Asked(**vars(given) | {"progress": progress if sys.stderr.isatty() else None})
+    if given.kind == "watch" and len(stored) > 2:
+        raise Wrong("a page has room for two runs")
+    if [given.network, *stored].count("-") > 1:
+        raise Wrong("standard input has one text: name a file for each other one")
+    of = Source(title=given.title, progress=progress if sys.stderr.isatty() else None)
     if given.network is None:
-        asked.program = program_asked("picture", given)
-        return drawing(given.kind, asked)
+        of.program = program_asked("picture", given)
+        return drawing(**vars(given), of=of)
     data = network_bytes(given.network)
-    asked.network = network = network_of(data, called(given.network))
+    of.network = network = network_of(data, text_name(given.network))
     network.name = given.title or ("this network" if given.network == "-" else network.name)
-    asked.program = program_asked("picture", given, network)
-    asked.texts = [Text(form, called(path), text_at(path)) for form, path in stored]
-    asked.written = lambda form: (
+    of.program = program_asked("picture", given, network)
+    of.texts = [Text(text_name(path), text_at(path)) for path in stored]
+    of.written = lambda form: (
         plan_text(network, data)
         if form == "plan"
-        else run_text(given, network, data, asked.program)
+        else run_text(given.kind, network, data, of.program)
     )
-    picture = drawing(given.kind, asked)
+    picture = drawing(**vars(given), of=of)
     if said := unused_places(network):
         note(said)
     return picture

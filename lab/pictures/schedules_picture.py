@@ -10,17 +10,15 @@ from lab.pictures.schedules_space import fault_words, left_out_words, title_of
 from lab.pictures.svg import Svg, text_width, wrapped
 from lab.pictures.transcripts import window_of
 from lab.schedules.explore import events_words, rounded
-from lab.schedules.simulate import events_of
-from lab.wrong import at_most, wrong_line
+from lab.wrong import at_most
 
 COLUMNS, MOST_COLUMNS, STEPS, MOST_STEPS = 36, 108, 6_000, 12_000
 LEFT, HIGH, WIDE, LEAST_WIDTH = 44, 560, 1150, 860
 APART = [BAND, "#CFE3F1", "#8FBBDD", "#56B4E9"]
 
 
-def draw(network, space, asked, run_text):
-    """The states after the events A to B that are `asked` for, or after the first ones; bold is the run of a list of
-    events, or one of ours."""
+def draw(network, space, asked):
+    """The states after the events A to B that are `asked` for, or after the first ones."""
     low, high = window_of(network.name, last_column(space), asked, 1 + columns_of(space), "events")
     at_most(
         "schedules", high - low, "events at a time", MOST_COLUMNS, "fewer events (--columns A..B)"
@@ -32,13 +30,8 @@ def draw(network, space, asked, run_text):
         MOST_STEPS,
         "fewer events (--columns A..B)",
     )
-    if run_text is not None:
-        bold = steps_of(space, events_given(network, space, run_text))
-    elif space.faults:
-        bold = steps_of(space, ((0, *key_of(event)) for event in space.path_to_fault()))
-    else:
-        bold = in_step(space)
-    return Lattice(network, space, low, high, bold, run_text is not None).drawn().document()
+    bold = to_fault(space) if space.faults else in_step(space)
+    return Lattice(network, space, low, high, bold).drawn().document()
 
 
 def last_column(space):
@@ -67,27 +60,12 @@ def columns_of(space):
 # The run that is bold: its steps as (state, number of the step in it).
 
 
-def key_of(event):
-    return event.kind, event.v, event.port, event.place
-
-
-def events_given(network, space, text):
-    """(line, *key) of the events of a list; puts make themselves, so those that the network has are passed over."""
-    return (
-        event
-        for event in events_of(text, "the list", "fifo" in space.without)
-        if event[1] != "put" or event[3] >= len(network.neighbours.get(event[2], ()))
-    )
-
-
-def steps_of(space, events):
+def to_fault(space):
+    """A shortest run that goes wrong."""
     s, found = 0, []
-    for line, *key in events:
-        steps = space.steps(s) if s is not None else []
-        e = next((k for k, (event, _) in enumerate(steps) if key_of(event) == tuple(key)), None)
-        if e is None:
-            words = " ".join(str(word) for word in key[:3] if word is not None)
-            raise wrong_line("the list", line, f"`{words}` isn't possible there")
+    for event in space.path_to_fault():
+        steps = space.steps(s)
+        e = next(e for e, (other, _) in enumerate(steps) if other == event)
         found.append((s, e))
         s = steps[e][1]
     return found
@@ -117,11 +95,10 @@ def node_words(v, node):
 
 
 class Lattice:
-    """`bold` are the steps of one run, which `is_given` or one of ours. A step ends at a state; one that is refused has
-    an end of its own, (s, e)."""
+    """`bold` are the steps of one run. A step ends at a state; one that is refused has an end of its own, (s, e)."""
 
-    def __init__(self, network, space, low, high, bold, is_given):
-        self.network, self.space, self.is_given = network, space, is_given
+    def __init__(self, network, space, low, high, bold):
+        self.network, self.space = network, space
         self.low, self.high, self.bold = low, high, set(bold)
         self.passed = {0, *(s for s, _ in bold), *(space.steps(s)[e][1] for s, e in bold)}
         self.columns = [[] for _ in range(low, high + 1)]
@@ -229,8 +206,6 @@ class Lattice:
         return wrapped(" ".join(said), width - 40)
 
     def bold_words(self):
-        if self.is_given:
-            return "the run that was given"
         if self.space.faults:
             return f"a shortest schedule that goes wrong: {fault_words(self.space)}"
         return "the run in which all that is sent comes before a node makes its pulse"

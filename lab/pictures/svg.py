@@ -1,14 +1,13 @@
 """One drawing as SVG text. The same calls give the same bytes on every machine: numbers come from +, -, *, / and sqrt,
 and are written with one decimal place."""
 from contextlib import contextmanager
-from itertools import groupby
 from math import sqrt
 from textwrap import wrap
 
 from lab.pictures.palette import FONT, INK, PAPER, SOFT
 
 
-def shown(number):
+def written(number):
     """A number with at most one decimal place."""
     if isinstance(number, str):
         return number
@@ -53,14 +52,6 @@ def wrapped(text, width, size=11.5):
     )
 
 
-def stretches(values):
-    """(value, first, end) of each run of equal values."""
-    end = 0
-    for value, run in groupby(values):
-        first, end = end, end + len(list(run))
-        yield value, first, end
-
-
 class Svg:
     """Elements in the order in which they are drawn; what comes later lies on top."""
 
@@ -74,7 +65,7 @@ class Svg:
         for key, value in attributes.items():
             if value is not None:
                 key = "class" if key == "mark" else key.replace("_", "-")
-                words.append(f'{key}="{quoted(shown(value))}"')
+                words.append(f'{key}="{quoted(written(value))}"')
         head = " ".join(words)
         self.parts.append(f"<{head}/>" if text is None else f"<{head}>{escaped(text)}</{name}>")
 
@@ -82,7 +73,7 @@ class Svg:
     def group(self, mark, title=None, **attributes):
         """Elements that are one mark; a browser shows the title under the mouse."""
         words = "".join(
-            f' {key.replace("_", "-")}="{quoted(shown(value))}"'
+            f' {key.replace("_", "-")}="{quoted(written(value))}"'
             for key, value in attributes.items()
         )
         self.parts.append(
@@ -94,8 +85,8 @@ class Svg:
     def clip(self, name, x, y, width, height):
         """A box out of which nothing is drawn of the groups that name it."""
         self.parts.append(
-            f'<clipPath id="{name}"><rect x="{shown(x)}" y="{shown(y)}" width="{shown(width)}" '
-            f'height="{shown(height)}"/></clipPath>'
+            f'<clipPath id="{name}"><rect x="{written(x)}" y="{written(y)}" width="{written(width)}" '
+            f'height="{written(height)}"/></clipPath>'
         )
 
     def line(self, x1, y1, x2, y2, colour=INK, width=1, dash=None, **more):
@@ -115,7 +106,7 @@ class Svg:
         """Steps are letters and numbers, as ["M", 0, 0, "L", 5, 5]."""
         self.element(
             "path",
-            d=" ".join(map(shown, steps)),
+            d=" ".join(map(written, steps)),
             stroke=colour,
             stroke_width=width,
             fill=fill,
@@ -213,7 +204,7 @@ class Svg:
         return "\n".join(self.parts)
 
     def document(self):
-        width, height = shown(self.width), shown(self.height)
+        width, height = written(self.width), written(self.height)
         return (
             f'<svg xmlns="http://www.w3.org/2000/svg" viewBox="0 0 {width} {height}" width="{width}" height="{height}" '
             f'font-family="{FONT}"><title>{escaped(self.title)}</title>\n'

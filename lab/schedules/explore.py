@@ -1,18 +1,22 @@
 """The door: `forestlab explore NETWORK [options]`. Plays every schedule of a tiny network, with rules left out if some
 are named, and writes what it found, or one line on standard error."""
+from argparse import ArgumentParser, Namespace
 import argparse
 import json
 import sys
 from collections import Counter
+from collections.abc import Collection, Iterator
 from typing import NamedTuple
 
+from lab.definitions.nodes import Program
 from lab.definitions.own_program import AGAIN, OwnNode, check_repeats, has_verdict, wrong_end
 from lab.definitions.programs import add_program, program_asked
+from lab.network import Network
 from lab.networks.named import network_at
 from lab.schedules.own_rounds import verdict_of, verdict_on_many
 from lab.schedules.ruled_rounds import looked_at
 from lab.schedules.rules import ALL, OF_SCHEDULES, program_of, table, unknown_to
-from lab.schedules.space import Space
+from lab.schedules.space import Event, Node, Space
 from lab.words import add_output, add_seed, count, counted, parser_of, write
 from lab.wrong import Wrong
 
@@ -74,7 +78,7 @@ standard error says why), 2 the command line is refused.
 """
 
 
-def rules_of(text):
+def rules_of(text: str) -> list[str]:
     words = text.split(",")
     for word in words:
         if word not in ALL:
@@ -87,13 +91,13 @@ def rules_of(text):
     return list(dict.fromkeys(words))
 
 
-def networks_of(text):
+def networks_of(text: str) -> int:
     if not text.isascii() or not text.isdigit() or not 1 <= int(text) <= MOST_NETWORKS:
         raise argparse.ArgumentTypeError(f"a number from 1 to {MOST_NETWORKS:,}")
     return int(text)
 
 
-def command_line():
+def command_line() -> ArgumentParser:
     words = parser_of("explore", "[NETWORK] [options]", HELP, MORE_HELP)
     words.add_argument(
         "network",
@@ -144,7 +148,7 @@ def command_line():
     return words
 
 
-def main(words):
+def main(words: list[str]) -> int:
     line = command_line()
     given = line.parse_args(words)
     if why := refused_together(given):
@@ -154,12 +158,12 @@ def main(words):
     return int(found.broken)
 
 
-def asks_for_rounds(given):
+def asks_for_rounds(given: Namespace) -> bool:
     """Whether rules of the rounds are left out, and not of the synchroniser."""
     return bool(given.without and program_of(given.without))
 
 
-def refused_together(given):
+def refused_together(given: Namespace) -> str:
     """Why these options don't go together, in words."""
     if given.networks:
         is_alone = not (given.network or given.without or given.list)
@@ -176,19 +180,13 @@ def refused_together(given):
     return ""
 
 
-def refused_of_rounds(given):
+def refused_of_rounds(given: Namespace) -> str:
     if why := unknown_to(given.program, given.without):
         return why
     if given.list or given.puts or given.reduce:
         rules = ",".join(OF_SCHEDULES)
         return f"the rounds have no events: --list, --puts and --reduce are for the rules {rules}"
     return ""
-
-
-def found_of(given):
-    if given.networks:
-        return networks_found(given)
-    return rounds_found(given) if asks_for_rounds(given) else schedules_found(given)
 
 
 class Found(NamedTuple):
@@ -202,10 +200,16 @@ class Found(NamedTuple):
     steps: int | None = None
 
 
+def found_of(given: Namespace) -> Found:
+    if given.networks:
+        return networks_found(given)
+    return rounds_found(given) if asks_for_rounds(given) else schedules_found(given)
+
+
 # The rounds.
 
 
-def rounds_found(given):
+def rounds_found(given: Namespace) -> Found:
     """What the rounds of the network do without the rules, or a smallest network on which they go wrong."""
     net = None if given.network is None else network_at(given.network)
     rounds, said = looked_at(net, given.without, program_asked("explore", given, net))
@@ -213,7 +217,7 @@ def rounds_found(given):
     return Found(rounds is not None, words + refused_words(given.without))
 
 
-def refused_words(without):
+def refused_words(without: Collection[str]) -> str:
     """The wrong bodies that take these rules away."""
     return "".join(
         f"wrong body of `{ALL[word].crate}`, which the prover refuses: {ALL[word].edit}\n"
@@ -221,7 +225,7 @@ def refused_words(without):
     )
 
 
-def networks_found(given):
+def networks_found(given: Namespace) -> Found:
     """Whether the rounds of a file end right on networks by chance, by its `right`."""
     program = program_asked("explore", given)
     if not has_verdict(program):
@@ -235,7 +239,7 @@ def networks_found(given):
 # The schedules.
 
 
-def schedules_found(given):
+def schedules_found(given: Namespace) -> Found:
     net = network_at(given.network)
     program = program_asked("explore", given, net)
     check_repeats(net, program)
@@ -258,7 +262,7 @@ def schedules_found(given):
     return Found(bool(space.faults), text, list(map(str, events)), space.count, len(space.target))
 
 
-def found_by_rounds(given, net, program):
+def found_by_rounds(given: Namespace, net: Network, program: Program) -> Found | None:
     """What the rounds show already of a file that says what is right: all of a network that is too large for its
     schedules, and of another one that they end wrong."""
     if given.without or given.list or not has_verdict(program):
@@ -270,7 +274,7 @@ def found_by_rounds(given, net, program):
     return Found(not is_right, words + (ROUNDS_ALONE if is_large else ""))
 
 
-def searched(given, net, program):
+def searched(given: Namespace, net: Network, program: Program) -> Space:
     """The search, with a line of progress if somebody looks on."""
     show = sys.stderr.isatty()
     if show:
@@ -308,7 +312,7 @@ def searched(given, net, program):
     return space
 
 
-def whole_text(given, name, space):
+def whole_text(given: Namespace, name: str, space: Space) -> str:
     """All went right."""
     what = (
         f"not broken without {','.join(given.without)}"
@@ -336,25 +340,25 @@ def whole_text(given, name, space):
     ) + refused_words(given.without)
 
 
-def distances_words(space):
+def distances_words(space: Space) -> str:
     apart = counted(space.farthest, "pulse")
     return f"neighbours at most {apart} apart, at most {space.most_wires} wires of a link under way"
 
 
-def has_drawn(space):
+def has_drawn(space: Space) -> bool:
     """Whether a node of a file has asked for chance."""
     programs = [own[at].program for own, at in zip(space.locals, space.states[space.ends[0]])]
     return any("random" in vars(program.me) for program in programs if hasattr(program, "me"))
 
 
-def results_words(nodes):
+def results_words(nodes: dict[int, Node]) -> str:
     """What nodes have found: `channels 2 3 1` of the colouring, and of another program each node's words."""
     if all(node.colour is not None for node in nodes.values()):
         return f"channels {' '.join(str(node.colour + 1) for node in nodes.values())}"
     return ", ".join(f"{v} {node.result}" for v, node in nodes.items())
 
 
-def rounded(number):
+def rounded(number: int) -> str:
     """Two digits of a large number, as 2.3e188."""
     text = str(number)
     if len(text) <= 6:
@@ -363,7 +367,7 @@ def rounded(number):
     return f"{two // 10}.{two % 10}e{len(text) - 1}" if two < 100 else f"1.0e{len(text)}"
 
 
-def broken_text(given, space, listed):
+def broken_text(given: Namespace, space: Space, listed: list[Event]) -> str:
     s, _ = space.first_fault()
     what = space.faults[space.first_fault()]
     if (
@@ -377,15 +381,15 @@ def broken_text(given, space, listed):
     return "".join([first, *event_lines(listed), refused_words(given.without)])
 
 
-def events_words(listed):
+def events_words(listed: list[Event]) -> str:
     """How many events a list has, puts among them: `8 events (5 takes and pulses)`."""
     rest = sum(event.kind != "put" for event in listed)
     return f"{counted(len(listed), 'event')} ({counted(rest, 'take or pulse', 'takes and pulses')})"
 
 
-def event_lines(listed):
+def event_lines(listed: list[Event]) -> Iterator[str]:
     """The events with the wires that they put or take, or the pulse that is made."""
-    made = Counter()
+    made: Counter[int] = Counter()
     for event in listed:
         if event.kind == "pulse":
             made[event.v] += 1

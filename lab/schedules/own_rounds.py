@@ -32,13 +32,13 @@ def rounds_text(net: Network, program: Program) -> str:
             ]
             found[v] = now
             if any(said):
-                lines.append(f"  {called(net, v)} {'; '.join(filter(None, said))}")
+                lines.append(f"  {node_name(net, v)} {'; '.join(filter(None, said))}")
     lines.append("the end")
-    lines += [f"  {called(net, v)} has {words}" for v, words in found.items()]
+    lines += [f"  {node_name(net, v)} has {words}" for v, words in found.items()]
     return "".join(line + "\n" for line in lines)
 
 
-def called(net: Network, v: int) -> str:
+def node_name(net: Network, v: int) -> str:
     """A node by its number, and by its identifier if that is another."""
     name = net.identifiers[v]
     return f"node {v}" if name == v else f"node {v} ({name})"

@@ -4,9 +4,19 @@ rules.OF_SCHEDULES has the rules; `fifo` is one of the links, so it is in space.
 What a pulse does with an inbox that no round has is the program's own matter. The colouring refuses a payload that
 isn't due, and a missing one that is (docs/claim/DEFINITIONS.md, refusals of the colouring), and goes on otherwise. A
 program of one's own goes on with any."""
+from collections.abc import Callable
 import copy
+from typing import Any
 
-from lab.definitions.nodes import AlphaNode, Colouring, Refused, synchronous_pulses
+from lab.definitions.nodes import (
+    AlphaNode,
+    Colouring,
+    Payload,
+    Refused,
+    Role,
+    Slot,
+    synchronous_pulses,
+)
 from lab.definitions.own_program import OwnNode
 from lab.definitions.sequel import Sequel
 from lab.definitions.values import frozen
@@ -98,7 +108,7 @@ class RuledNode(AlphaNode):
         )
 
 
-def kept(function, program):
+def kept(function: Callable, program: Any) -> Any:
     """What copies or compares a node of a program, if all that it keeps can be copied and compared."""
     try:
         return function(program)
@@ -137,11 +147,11 @@ class Rounds:
         return None
 
 
-def payload_words(payload):
+def payload_words(payload: Payload) -> str:
     return f"{payload[0].lower()} {payload[1]}"
 
 
-def program_refuses(program, pulse, inbox):
+def program_refuses(program: Any, pulse: int, inbox: list[Slot]) -> bool:
     """Whether a node's program refuses an inbox."""
     if isinstance(program, Colouring):
         return colouring_refuses(program, pulse, inbox)
@@ -153,7 +163,7 @@ def program_refuses(program, pulse, inbox):
     return not isinstance(program, OwnNode) and program.refuses(pulse, inbox)
 
 
-def colouring_refuses(program, pulse, inbox):
+def colouring_refuses(program: Colouring, pulse: int, inbox: list[Slot]) -> bool:
     """Whether the colouring refuses an inbox: what is due and missing, or not due, or a value that can't be. (A role is
     None before pulse 2, or the way and the forest.)"""
     if pulse == 1:
@@ -165,30 +175,30 @@ def colouring_refuses(program, pulse, inbox):
     bound = BOUNDS[pulse]
     if pulse >= 7 and max(program.colours, default=0) > bound:
         return True
-    return any(colour_refused(program, bound, *pair) for pair in zip(program.roles, inbox))
+    return any(colour_refused(program, bound, *pair) for pair in zip(program.ends(), inbox))
 
 
 # The greatest colour of a parent, by the pulse in which a node hears it.
 BOUNDS = {3: 2**128, 4: 255, 5: 15, 6: 7, 7: 5, 8: 5, 9: 4, 10: 4, 11: 3, 12: 3}
 
 
-def names_refused(program, inbox):
+def names_refused(program: Colouring, inbox: list[Slot]) -> bool:
     """Each neighbour sends an identifier; they and the node's own differ, and not too many are higher."""
     if any(slot is None or slot[0] != "Hello" for slot in inbox):
         return True
-    numbers = [number for _, number in inbox]
+    numbers = [slot[1] for slot in inbox if slot]
     higher = [number for number in numbers if number > program.id]
     return len({*numbers, program.id}) <= len(numbers) or len(higher) > program.forests
 
 
-def label_refused(forests, role, slot):
+def label_refused(forests: int, role: Role | None, slot: Slot) -> bool:
     """A child sends the label of a forest, and a parent nothing."""
     if role:
         return slot is not None
     return slot is None or slot[0] != "Label" or slot[1] >= forests
 
 
-def colour_refused(program, bound, role, slot):
+def colour_refused(program: Colouring, bound: int, role: Role, slot: Slot) -> bool:
     """A parent sends a colour other than the node's own, and a child nothing."""
     way, forest = role
     if way == "Down":
@@ -198,18 +208,18 @@ def colour_refused(program, bound, role, slot):
     return slot[1] > bound or slot[1] == program.colours[forest]
 
 
-def choices_refused(program, pulse, inbox):
+def choices_refused(program: Colouring, pulse: int, inbox: list[Slot]) -> bool:
     """In a merge neighbours in the forests merged so far send what they choose, but not before its first step; and a
     node whose turn it is finds a colour that is free."""
     width = program.span + 1
     forest, step = divmod(pulse - 13, 3 * width)
-    heard = [(role, slot) for role, slot in zip(program.roles, inbox) if slot]
+    heard = [(*role, *slot) for role, slot in zip(program.ends(), inbox) if slot]
     if heard and step == 0:
         return True
-    for (_, of_edge), (kind, number) in heard:
+    for _, of_edge, kind, number in heard:
         if kind != "Chosen" or number > program.span or of_edge > forest:
             return True
-    chosen = {slot[1] for _, slot in heard}
+    chosen = {number for *_, number in heard}
     old, taken = (program.merged, chosen) if step == 0 else (program.old, program.chosen | chosen)
     has_turn = (program.colours[forest], old) == divmod(step, width)
     return has_turn and set(range(width)) <= taken | program.barred

@@ -11,14 +11,15 @@ import copy
 import functools
 import itertools
 from collections import namedtuple
-from typing import NamedTuple
+from collections.abc import Callable, Collection, Iterator
+from typing import Any, NamedTuple
 
 from lab.definitions.colours import at_parent, bit, first_colours, merged, other_than, shift
 from lab.definitions.independent_set import IndependentSet
 from lab.definitions.matching import Matching
-from lab.definitions.nodes import Colouring, synchronous_run
+from lab.definitions.nodes import Colouring, Program, synchronous_run
 from lab.definitions.recolouring import Recolouring
-from lab.network import Network
+from lab.network import Edge, Network
 from lab.schedules.rules import OF_FORESTS
 
 # Rows of so many nodes are tried, or networks.
@@ -217,12 +218,14 @@ class RuledSequel:
         return f"after pulse {self.program.last_pulse(self.net)} {self.clash.words}"
 
 
-def ruled(program):
+def ruled(program: Program) -> Callable[..., Any]:
     """What makes the rounds of a program on a network without rules."""
-    return RuledRounds if program is Colouring else functools.partial(RuledSequel, program=program)
+    if program is Colouring:
+        return RuledRounds
+    return functools.partial(RuledSequel, program=program)
 
 
-def networks(nodes, without):
+def networks(nodes: int, without: Collection[str]) -> Iterator[list[Edge]]:
     """The networks of a number of nodes that are enough to try, with fewer edges first: (edges)."""
     if set(without) <= set(OF_FORESTS):
         for count in range(1, nodes):
@@ -232,10 +235,12 @@ def networks(nodes, without):
     else:
         pairs = list(itertools.combinations(range(1, nodes + 1), 2))
         for count in range(1, len(pairs) + 1):
-            yield from map(list, itertools.combinations(pairs, count))
+            yield from (list(chosen) for chosen in itertools.combinations(pairs, count))
 
 
-def smallest_wrong(without, program=Colouring):
+def smallest_wrong(
+    without: Collection[str], program: Program = Colouring
+) -> tuple[Any, int, str, int]:
     """(rounds, how many networks were tried, what these are called, of how many nodes at most) of a smallest network
     on which the rounds of a program go wrong; the rounds are None if there is none. Channel 1 is barred at node 1 if
     the bars are left out."""
@@ -252,7 +257,9 @@ def smallest_wrong(without, program=Colouring):
     return None, tried, what, most
 
 
-def looked_at(network, without, program=Colouring):
+def looked_at(
+    network: Network | None, without: Collection[str], program: Program = Colouring
+) -> tuple[Any, str]:
     """The rounds of a program on a network, or on a smallest one, if they go wrong without these rules, or None; and in
     words whether they do, and where."""
     if network is not None:

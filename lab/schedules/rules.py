@@ -3,6 +3,7 @@
 `crate` and `edit` name that body: it is the file EDIT.edit in crates/CRATE/must-fail/ or in
 crates/CRATE/wrong-bodies/."""
 from collections import namedtuple
+from collections.abc import Collection
 
 Rule = namedtuple("Rule", "says without crate edit")
 
@@ -134,12 +135,12 @@ OF_ANY_ROUNDS = {word: rule for of in OF_PROGRAMS.values() for word, rule in of.
 ALL = OF_SCHEDULES | OF_ANY_ROUNDS
 
 
-def program_of(words):
+def program_of(words: Collection[str]) -> str | None:
     """The program whose rounds have all these rules, or None."""
     return next((name for name, of in OF_PROGRAMS.items() if set(words) <= set(of)), None)
 
 
-def unknown_to(program, words):
+def unknown_to(program: str, words: Collection[str]) -> str | None:
     """Why the rounds of a program can't be played without these rules, or None if they can."""
     of = program_of(words)
     if of is None:
@@ -149,7 +150,7 @@ def unknown_to(program, words):
     )
 
 
-def table():
+def table() -> str:
     """The rules as lines of help."""
     return "".join(
         f"  {word:9} {rule.says};\n            left out: {rule.without}\n"

@@ -1,14 +1,17 @@
 """The door: `forestlab simulate NETWORK [options]`. Plays a run without a clock by a seed or by a list of events, step
 by step, on the slow definitions (lab/definitions/nodes.py), and writes its transcript, or one line on standard
 error."""
+from argparse import ArgumentParser, Namespace
 import argparse
 import re
 import sys
 from collections import deque
+from collections.abc import Collection, Iterable, Iterator
 
-from lab.definitions.nodes import Colouring, NetState, Refused, missing_words
+from lab.definitions.nodes import Colouring, NetState, Program, Refused, missing_words
 from lab.definitions.own_program import check_repeats, wrong_end
 from lab.definitions.programs import add_program, program_asked
+from lab.network import Edge, Network
 from lab.networks.fields import shown
 from lab.networks.named import network_at
 from lab.schedules.policies import POLICIES, Policy, Step
@@ -16,7 +19,7 @@ from lab.schedules.ruled_node import RuledNode
 from lab.transcripts.fields import first_line
 from lab.transcripts.reading import Entry, line_of
 from lab.transcripts.stamps import Clock, unfinished
-from lab.words import add_output, add_seed, called, parser_of, text_at, write
+from lab.words import add_output, add_seed, parser_of, text_at, text_name, write
 from lab.wrong import Wrong, wrong_line
 
 HELP = """\
@@ -98,7 +101,7 @@ class Player:
             self.state.step(kind.title(), v, port),
             None if port is None else self.state.neighbours[v][port],
         )
-        entry = Entry(None, v, kind.title(), w, what, self.clock.next(kind.title(), v, w))
+        entry = Entry(0, v, kind.title(), w, what, self.clock.next(kind.title(), v, w))
         self.made.append(entry)
         self.look_at(v)
         if kind == "put":
@@ -127,7 +130,15 @@ class Player:
             )
 
 
-def played(net, policy="random", seed="1", slow=(), lazy=(), player=None, program=Colouring):
+def played(
+    net: Network,
+    policy: str = "random",
+    seed: str = "1",
+    slow: Collection[Edge] = (),
+    lazy: Collection[int] = (),
+    player: Player | None = None,
+    program: Program = Colouring,
+) -> list[Entry]:
     """The entries of a run of a program on a network, in the order in which they were made; `player` may be on its
     way."""
     player = player or Player(net, program)
@@ -136,7 +147,9 @@ def played(net, policy="random", seed="1", slow=(), lazy=(), player=None, progra
     return player.made
 
 
-def events_of(text, name, overtakes=False):
+def events_of(
+    text: str, name: str, overtakes: bool = False
+) -> Iterator[tuple[int, str, int, int | None, int]]:
     """(line, kind, vertex, port, place) of each event of a list; a note after a colon, as `forestlab explore` writes
     it, is passed over. If links don't keep their order, a take may overtake `place` wires; else that is refused.
     """
@@ -168,7 +181,7 @@ def events_of(text, name, overtakes=False):
         )
 
 
-def text_of_run(nodes, entries, program=Colouring):
+def text_of_run(nodes: int, entries: Iterable[Entry], program: Program = Colouring) -> str:
     """The transcript with stamps of a program: its lines by stamp, and lines of one stamp by node."""
     lines = [
         f"{entry.stamp} {line_of(entry)}"
@@ -177,14 +190,14 @@ def text_of_run(nodes, entries, program=Colouring):
     return "".join(line + "\n" for line in [first_line(nodes, program.name), *lines])
 
 
-def edge(text):
+def edge(text: str) -> Edge:
     v, dash, w = text.partition("-")
     if not dash or not all(word.isascii() and word.isdigit() for word in (v, w)):
         raise argparse.ArgumentTypeError("two neighbours, as 2-3")
     return int(v), int(w)
 
 
-def command_line():
+def command_line() -> ArgumentParser:
     words = parser_of("simulate", "NETWORK [options]", HELP, MORE_HELP)
     words.add_argument(
         "network",
@@ -228,7 +241,7 @@ def command_line():
     return words
 
 
-def check_names(net, given):
+def check_names(net: Network, given: Namespace) -> None:
     """Refuses edges and nodes that the network hasn't."""
     for v, w in given.slow:
         if frozenset((v, w)) not in net.number:
@@ -238,11 +251,11 @@ def check_names(net, given):
             raise Wrong(f"{net.name} has no node {v}: its nodes are 1 to {net.nodes}")
 
 
-def run_asked(net, given, program):
+def run_asked(net: Network, given: Namespace, program: Program) -> list[Entry]:
     """The entries of the run that the command line asks for; a list that ends early is said."""
     if not given.events:
         return played(net, given.policy, given.seed, given.slow, given.lazy, program=program)
-    player, name = Player(net, program), called(given.events)
+    player, name = Player(net, program), text_name(given.events)
     player.play_events(events_of(text_at(given.events), name), name)
     if given.to_the_end:
         return played(net, given.policy, given.seed, given.slow, given.lazy, player)
@@ -254,7 +267,7 @@ def run_asked(net, given, program):
     return player.made
 
 
-def main(words):
+def main(words: list[str]) -> int:
     line = command_line()
     given = line.parse_args(words)
     if given.to_the_end and not given.events:

@@ -8,7 +8,7 @@ from lab.networks.plan_text import read_plan
 from lab.pictures import broken_picture, player_page, why_picture
 from lab.definitions.rounds import Rounds
 from lab.pictures.pages import net_of
-from lab.pictures.picture import OF_PLAN, OF_RUN, Asked, Text, drawing
+from lab.pictures.picture import OF_PLAN, OF_RUN, Source, Text, drawing
 from lab.pictures.program_rounds import ProgramRounds
 from lab.schedules.ruled_rounds import ruled, smallest_wrong
 from lab.schedules.rules import OF_PROGRAMS
@@ -126,19 +126,14 @@ def picture(asked, _tell):
     if kind not in KINDS:
         raise Wrong(f"there is no picture {kind}")
     if kind in OF_PLAN:
-        texts = [Text("plan", "the plan", plan_of(network, asked["network"]))]
+        texts = [Text("the plan", plan_of(network, asked["network"]))]
     if kind in OF_RUN:
-        texts = [Text("transcript", "the run", str(asked["transcript"]))]
+        texts = [Text("the run", str(asked["transcript"]))]
     pulses = tuple(int(pulse) for pulse in asked.get("pulses") or ()) or None
     return drawing(
         kind,
-        Asked(
-            network=network,
-            texts=texts,
-            program=program_asked(asked),
-            forest=asked.get("forest"),
-            vertex=asked.get("vertex"),
-            pulses=pulses,
-            title=network.name,
-        ),
+        Source(network, program_asked(asked), texts, title=network.name),
+        forest=asked.get("forest"),
+        vertex=asked.get("vertex"),
+        pulses=pulses,
     )

@@ -17,7 +17,7 @@ from lab.studio.building import are_built
 from lab.studio.links import judge
 from lab.studio.networks import shown
 from lab.studio.serving import Server
-from lab.words import Parser, called, text_at
+from lab.words import Parser, text_at, text_name
 from lab.wrong import Wrong
 
 PORT, NEXT_PORTS = 8321, 20
@@ -129,7 +129,7 @@ def opened(path):
     """The network that the command line names, and what is said of it."""
     try:
         form = form_read(path, Stated())
-        return read_any(network_bytes(path), called(path), form, Stated())
+        return read_any(network_bytes(path), text_name(path), form, Stated())
     except Unsaid as why:
         raise Wrong(
             commands_for(why, ["network", "read"], [path], " | forestlab studio -")

@@ -5,9 +5,10 @@ between nodes. This program looks for an order of all entries that is a run, and
 of edition 2 or 3 has an order, and stamps."""
 from collections import deque
 
-from lab.definitions.nodes import Colouring, NetState, Refused, make
+from lab.definitions.nodes import Colouring, NetState, Program, Refused, make
+from lab.network import Network
 from lab.transcripts.fields import fields_of
-from lab.transcripts.reading import Wrong, read_to_fault
+from lab.transcripts.reading import Entry, Wrong, read_to_fault
 from lab.transcripts.stamps import Clock, check_whole, refusal, unfinished
 
 
@@ -72,7 +73,7 @@ class Found:
         return not self.refusals and not any(unfinished(self.state))
 
 
-def find_order(net, entries, program=Colouring):
+def find_order(net: Network, entries: list[Entry], program: Program = Colouring) -> Found:
     """Makes the entries in their order, if they have stamps, and else the next one of any node as long as one is
     possible.
 
@@ -105,7 +106,7 @@ def find_order(net, entries, program=Colouring):
     return found
 
 
-def whole_run(net, text, program=Colouring):
+def whole_run(net: Network, text: bytes, program: Program = Colouring) -> tuple[list[int], str]:
     """The lines of the entries in an order that is a run, and the verdict on a transcript of a program on a network; or
     `Wrong`."""
     head, entries, fault = read_to_fault(text, program.name)
@@ -120,14 +121,16 @@ def whole_run(net, text, program=Colouring):
     return [entry.line for entry in found.made], verdict(net, entries)
 
 
-def verdict(net, entries):
+def verdict(net: Network, entries: list[Entry]) -> str:
     """Of a whole run: each wire is put once."""
-    puts = [entry.what for entry in entries if entry.kind == "Put"]
+    puts = [
+        entry.what for entry in entries if isinstance(entry.what, tuple) and entry.kind == "Put"
+    ]
     payloads = sum(wire[0] == "Payload" for wire in puts)
     return f"whole run of {net.nodes} nodes, {len(entries)} entries, {payloads} payloads, {len(puts)} wires"
 
 
-def in_order(made, text):
+def in_order(made: list[int], text: bytes) -> bytes:
     """The transcript with the entries of these lines in this order, as bytes."""
     lines = text.split(b"\n")
     head = next(line for line in lines if fields_of(line))

@@ -1,12 +1,16 @@
 """A transcript with stamps, edition 2 or 3, in the forms of other tools."""
 import json
 from collections import deque
+from collections.abc import Iterator
+from typing import Any
 
 from lab.definitions.nodes import wire_words
-from lab.transcripts.reading import Wrong, read
+from lab.transcripts.reading import Entry, Head, Wrong, read
+
+Made = list[tuple[Entry, Entry | None]]
 
 
-def entries_of(text):
+def entries_of(text: bytes) -> tuple[Head, Made]:
     """The first line; and (entry, the entry of its put if it is a take), in the order of the text."""
     head, entries = read(text, None)
     if not head.is_stamped:
@@ -16,7 +20,8 @@ def entries_of(text):
             "edition 1 has no order of all entries: only editions 2 and 3 are written in "
             "other forms",
         )
-    links, found = {}, []
+    links: dict[tuple, deque[Entry]] = {}
+    found = []
     for entry in entries:
         put = None
         if entry.kind == "Put":
@@ -34,17 +39,17 @@ def entries_of(text):
     return head, found
 
 
-def as_json(head, entries):
+def as_json(head: Head, entries: Made) -> Iterator[str]:
     named = {"program": head.program} if head.program else {}
     yield json.dumps({"edition": head.edition, "nodes": head.nodes} | named)
     for entry, put in entries:
-        row = {
+        row: dict[str, Any] = {
             "line": entry.line,
             "stamp": entry.stamp,
             "node": entry.vertex,
             "kind": entry.kind.lower(),
         }
-        if entry.kind == "Pulse":
+        if isinstance(entry.what, int):
             row["pulse"] = entry.what
         else:
             kind, *more = entry.what
@@ -56,9 +61,10 @@ def as_json(head, entries):
         yield json.dumps(row)
 
 
-def as_shiviz(_, entries):
+def as_shiviz(_: Head, entries: Made) -> Iterator[str]:
     """Two lines an entry: the node with its vector clock, and what it did."""
-    clocks, carried = {}, {}
+    clocks: dict[int, dict[int, int]] = {}
+    carried: dict[int | None, dict[int, int]] = {}
     for entry, put in entries:
         own = clocks.setdefault(entry.vertex, {})
         own[entry.vertex] = own.get(entry.vertex, 0) + 1
@@ -70,7 +76,7 @@ def as_shiviz(_, entries):
         yield f"node{entry.vertex} " + json.dumps(
             {f"node{v}": count for v, count in sorted(own.items())}
         )
-        if entry.kind == "Pulse":
+        if isinstance(entry.what, int):
             yield f"pulse {entry.what}"
         else:
             way = "to" if entry.kind == "Put" else "from"

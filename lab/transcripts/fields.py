@@ -1,6 +1,8 @@
 """The fields of a transcript: the words of payloads, and numbers within their bounds. What is none raises `NoEntry`."""
 import functools
 
+from lab.definitions.nodes import Wire
+
 # The words of the payloads of each proved program, and the bound of each one's number; those that go on after the
 # colouring have its words, too. Another program's payloads have any word of small letters.
 OF_COLOURING = {b"hello": 2**128, b"label": 2**16, b"colour": 2**128, b"chosen": 2**16}
@@ -20,12 +22,12 @@ class NoEntry(ValueError):
     """Why a line isn't an entry, in words."""
 
 
-def fields_of(line):
+def fields_of(line: bytes) -> list[bytes]:
     """The fields of a line: blanks and tabs part them, and a carriage return at the end is dropped."""
     return [field for field in line.removesuffix(b"\r").replace(b"\t", b" ").split(b" ") if field]
 
 
-def name_in_texts(program):
+def name_in_texts(program: str) -> str:
     """The name of a program as the first line of a transcript has it: one field, whatever its file is called."""
     return "".join(
         letter if letter.isascii() and (letter.isalnum() or letter in "-_") else "_"
@@ -33,7 +35,7 @@ def name_in_texts(program):
     )
 
 
-def first_line(nodes, program=COLOURING):
+def first_line(nodes: int, program: str = COLOURING) -> str:
     """The first line of a transcript with stamps: of edition 2, or of edition 3 if it isn't the colouring's."""
     return (
         f"transcript 2 {nodes}"
@@ -42,7 +44,7 @@ def first_line(nodes, program=COLOURING):
     )
 
 
-def bound_of(program, word):
+def bound_of(program: str, word: bytes) -> int:
     """The bound of a payload's number."""
     words = PAYLOADS.get(program, {})
     is_word = word.isalpha() and word.islower() and word.isascii()
@@ -51,21 +53,21 @@ def bound_of(program, word):
     others = " or ".join(name for name, has in PAYLOADS.items() if word in has)
     has = f", which has {b', '.join(words).decode()}" if words else ""
     asked = f"; is it a run of {others}? See --program" if others else ""
-    raise NoEntry(f"{shown(word)} is no payload of {program}{has}{asked}")
+    raise NoEntry(f"{field_words(word)} is no payload of {program}{has}{asked}")
 
 
 @functools.lru_cache(maxsize=2**16)
-def number(field, what, bound=2**32):
+def number(field: bytes, what: str, bound: int = 2**32) -> int:
     digits = field.lstrip(b"0") or field[-1:]
     if not digits.isdigit() or len(digits) > len(str(bound)) or int(digits) >= bound:
         raise NoEntry(
-            f"{shown(field)} is no number of a {what}, which is below 2^{bound.bit_length() - 1}"
+            f"{field_words(field)} is no number of a {what}, which is below 2^{bound.bit_length() - 1}"
         )
     return int(digits)
 
 
 @functools.lru_cache(maxsize=2**16)
-def wire_of(program, *fields):
+def wire_of(program: str, *fields) -> Wire:
     """A wire as lab/definitions/nodes.py has it, with a payload of the program."""
     match fields:
         case [b"payload", pulse, word, of_word]:
@@ -77,10 +79,10 @@ def wire_of(program, *fields):
             return kind.decode().title(), number(pulse, "pulse")
         case [b"close"]:
             return ("Close",)
-    raise NoEntry(f"{shown(b' '.join(fields))} is no wire, which are {WIRES}")
+    raise NoEntry(f"{field_words(b' '.join(fields))} is no wire, which are {WIRES}")
 
 
-def shown(field):
+def field_words(field: bytes) -> str:
     text = field[:40].decode("utf-8", "replace")
     letters = "".join(letter if letter.isprintable() else "?" for letter in text)
     more = ".." if len(field) > 40 else ""

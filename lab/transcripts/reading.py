@@ -11,7 +11,7 @@ from lab.transcripts.fields import (
     fields_of,
     name_in_texts,
     number,
-    shown,
+    field_words,
     wire_of,
 )
 
@@ -24,7 +24,7 @@ class Entry:
     """`kind` is Pulse, Put or Take; `what` is the number of the pulse, or the wire, as lab/definitions/nodes.py has it.
     A pulse has no neighbour. Edition 1 has no `stamp`, until an order is found."""
 
-    line: int | None
+    line: int
     vertex: int
     kind: str
     neighbour: int | None
@@ -58,7 +58,7 @@ class Wrong(wrong.Wrong):
         return f"{where}{self.code}: {self.what}"
 
 
-def entry_of(line, fields, program, is_stamped=False):
+def entry_of(line: int, fields: list[bytes], program: str, is_stamped: bool = False) -> Entry:
     """The entry of a line's fields, of which the first is its stamp if the text is stamped."""
     stamp, own = (number(fields[0], "stamp", 2**64), fields[1:]) if is_stamped else (None, fields)
     match own:
@@ -69,11 +69,11 @@ def entry_of(line, fields, program, is_stamped=False):
             return Entry(line, v, kind.decode().title(), w, wire_of(program, *of_wire), stamp)
     after = " after its stamp" if is_stamped else ""
     raise NoEntry(
-        f"{shown(b' '.join(own))}{after} is neither `V pulse P`, `V put W WIRE` nor `V take W WIRE`"
+        f"{field_words(b' '.join(own))}{after} is neither `V pulse P`, `V put W WIRE` nor `V take W WIRE`"
     )
 
 
-def read(text, program=COLOURING):
+def read(text: bytes, program: str | None = COLOURING) -> tuple[Head, list[Entry]]:
     """The first line, and the entries in the order of the text, with the payloads of the program of this name; without
     one, of the program that the text names, or of the colouring."""
     head, entries, fault = read_to_fault(text, program)
@@ -82,10 +82,13 @@ def read(text, program=COLOURING):
     return head, entries
 
 
-def read_to_fault(text, program=COLOURING, stop=None):
+def read_to_fault(
+    text: bytes, program: str | None = COLOURING, stop: int | None = None
+) -> tuple[Head, list[Entry], Wrong | None]:
     """The first line, the entries before the first line that isn't one, and that line's fault, or None. With `stop`, of
     each node only what it did before it begins that pulse."""
-    lines, entries, stopped = text.split(b"\n"), [], set()
+    stopped: set[bytes] = set()
+    lines, entries = text.split(b"\n"), []
     head = head_of(lines, program)
     program = program or head.program or COLOURING
     for line, raw in enumerate(lines[head.line :], head.line + 1):
@@ -106,7 +109,7 @@ def read_to_fault(text, program=COLOURING, stop=None):
     return head, entries, None
 
 
-def head_of(lines, program):
+def head_of(lines: list[bytes], program: str | None) -> Head:
     """The first line that has a field; that it names another program than the one asked for is its first fault."""
     line, fields = first_with_fields(lines)
     named = ""
@@ -129,7 +132,7 @@ def head_of(lines, program):
     raise Wrong(line, "X1", what)
 
 
-def first_with_fields(lines):
+def first_with_fields(lines: list[bytes]) -> tuple[int, list[bytes]]:
     """The first line that has a field, by its number, and its fields; line 1 if there is none."""
     for line, fields in enumerate(map(fields_of, lines), 1):
         if fields:
@@ -137,7 +140,7 @@ def first_with_fields(lines):
     return 1, [b""]
 
 
-def advice(field):
+def advice(field: bytes) -> str:
     """What to do about a text whose first field this is."""
     if field in NETWORK:
         return "; this is a network: it is a file of its own, named before the transcript"
@@ -146,16 +149,16 @@ def advice(field):
     return ""
 
 
-def line_of(entry):
+def line_of(entry: Entry) -> str:
     """An entry as a transcript has it, without its stamp."""
-    if entry.kind == "Pulse":
+    if isinstance(entry.what, int):
         return f"{entry.vertex} pulse {entry.what}"
     return f"{entry.vertex} {entry.kind.lower()} {entry.neighbour} {wire_words(entry.what)}"
 
 
-def words(entry):
+def words(entry: Entry) -> str:
     """An entry in words."""
-    if entry.kind == "Pulse":
+    if isinstance(entry.what, int):
         return f"node {entry.vertex} makes pulse {entry.what}"
     way = "for" if entry.kind == "Put" else "from"
     return f"node {entry.vertex} {entry.kind.lower()}s {wire_words(entry.what)} {way} {entry.neighbour}"

@@ -1,8 +1,9 @@
 """Lamport's clock; and in words why an entry isn't possible, or a run not whole."""
 from collections import deque
+from collections.abc import Iterator
 
-from lab.definitions.nodes import event_of, lacks_of, wire_words
-from lab.transcripts.reading import Wrong, words
+from lab.definitions.nodes import NetState, Wire, event_of, lacks_of, wire_words
+from lab.transcripts.reading import Entry, Head, Wrong, words
 from lab.transcripts.rules import Standing, rule_of, stuck_words
 
 
@@ -24,7 +25,7 @@ class Clock:
         return stamp + 1
 
 
-def check_whole(state, last):
+def check_whole(state: NetState, last: Entry | Head) -> None:
     """Refuses a run that ends too early: what isn't done yet, or who owes what if nothing is on its way. `last` is its
     last entry, or the first line."""
     if undone := next(unfinished(state), None):
@@ -37,7 +38,7 @@ def check_whole(state, last):
         raise Wrong(last.line, "NotWhole", f"after the last entry {what}")
 
 
-def standing(state, v):
+def standing(state: NetState, v: int) -> Standing:
     """Where a node is, for the words on its next entry."""
     node = state.nodes[v]
     puts = {
@@ -55,7 +56,7 @@ LACKED = {
 }
 
 
-def refusal(state, entry, code, entries, clock):
+def refusal(state: NetState, entry: Entry, code: str, entries: list[Entry], clock: Clock) -> Wrong:
     """Of an entry that isn't possible: what it lacks or what is due there, and the rule that a pulse or a put
     breaks."""
     said = words(entry) + LACKED.get(code, "")
@@ -81,12 +82,12 @@ def refusal(state, entry, code, entries, clock):
     return Wrong(entry.line, code, said)
 
 
-def what_words(what):
+def what_words(what: int | Wire) -> str:
     """What an event carries: a pulse, or a wire."""
     return str(what) if isinstance(what, int) else wire_words(what)
 
 
-def why_link_empty(entry, entries):
+def why_link_empty(entry: Entry, entries: list[Entry]) -> str:
     """Of a wire that isn't there: where it is put, or that it never is."""
     link = entry.neighbour, entry.vertex
     taken = sum(
@@ -100,7 +101,7 @@ def why_link_empty(entry, entries):
     return f", and {entry.neighbour} never puts it (is the text cut?)"
 
 
-def unfinished(state):
+def unfinished(state: NetState) -> Iterator[tuple[int, str]]:
     """What a state lacks for a whole run: a node, and what it hasn't done."""
     for v, node in state.nodes.items():
         if node.pulse_number != node.last:

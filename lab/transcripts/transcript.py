@@ -1,17 +1,20 @@
 """`forestlab transcript`: checks, replays and converts transcripts, whoever wrote them."""
+from argparse import ArgumentParser, Namespace
 import gc
 import json
 import sys
 
 from lab import programs
+from lab.definitions.nodes import Program
 from lab.definitions.own_program import OwnNode, wrong_end
 from lab.definitions.programs import add_program, program_asked, program_words
+from lab.network import Network
 from lab.networks.named import network_bytes
 from lab.networks.network_text import network_of
 from lab.transcripts.check import in_order, whole_run
 from lab.transcripts.convert import FORMS, entries_of
 from lab.transcripts.reading import Wrong as WrongEntry
-from lab.words import add_command, add_commands, add_output, bytes_at, called, parser_of, write
+from lab.words import add_command, add_commands, add_output, bytes_at, parser_of, text_name, write
 from lab.wrong import Wrong
 
 HELP = """\
@@ -102,7 +105,7 @@ In ShiViz, give this as the parser of the log:
 }
 
 
-def command_line():
+def command_line() -> ArgumentParser:
     words = parser_of("transcript", "COMMAND WORDS.. [options]", HELP, None)
     commands = add_commands(words)
     for name, does in COMMANDS.items():
@@ -137,18 +140,18 @@ def command_line():
     return words
 
 
-def texts_of(given):
+def texts_of(given: Namespace) -> tuple[Network, bytes, bytes, Program]:
     """The network, the texts of both, and the program of a command line."""
     if given.network == given.transcript == "-":
         raise Wrong(
             "standard input has one text: name a file for the network or for the transcript"
         )
     data = network_bytes(given.network)
-    net = network_of(data, called(given.network))
+    net = network_of(data, text_name(given.network))
     return net, data, bytes_at(given.transcript), program_asked("transcript", given, net)
 
 
-def checked(given):
+def checked(given: Namespace) -> str | bytes:
     """The verdict on a transcript that is right, or its entries in order."""
     net, _, text, program = texts_of(given)
     made, said = whole_run(net, text, program)
@@ -159,7 +162,7 @@ def checked(given):
     return (json.dumps({"right": True, "words": said}) if given.json else said) + "\n"
 
 
-def replayed(given):
+def replayed(given: Namespace) -> str:
     """What the proved machine prints of a transcript in the order found."""
     net, network, text, program = texts_of(given)
     if issubclass(program, OwnNode):
@@ -171,11 +174,11 @@ def replayed(given):
     )
 
 
-def converted(given):
+def converted(given: Namespace) -> str:
     return "".join(row + "\n" for row in FORMS[given.form](*entries_of(bytes_at(given.transcript))))
 
 
-def main(words):
+def main(words: list[str]) -> int:
     given = command_line().parse_args(words)
     # Nothing that is made here goes round in a circle that would have to be collected before the end.
     gc.disable()

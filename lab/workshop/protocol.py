@@ -46,7 +46,7 @@ def own_data(
 ) -> list[str]:
     """The lines before `end`; some are of the right rounds, which an own algorithm hasn't."""
     barred = network.bars.get(v, [])
-    numbers = {
+    numbers: dict[str, int | None] = {
         "identifier": network.identifiers[v],
         "degree": len(network.neighbours[v]),
         "nodes": network.nodes,

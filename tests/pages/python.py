@@ -6,7 +6,9 @@ nothing, and no place is above the limits that the linter doesn't have.
   handler and further operand of `and` and `or`. A condition has at most four parts.
 - No conditional expression is inside another one or inside an f-string, no comprehension has three
   loops, no text is multiplied by a truth, and nothing is changed inside a comprehension.
-- A word is imported from the module that defines it."""
+- A word is imported from the module that defines it.
+- In the packages that are read as definitions, and those that read texts, each function that another
+  module may call, and each method of a dataclass, has a hint for each parameter and its result."""
 
 import ast
 import pathlib
@@ -17,6 +19,7 @@ from tests.cases import Case
 from tests.tools import need
 
 FOLDERS = ("lab", "build", "tests", "bench", "examples")
+HINTED = ("network.py", "definitions/", "transcripts/", "networks/", "schedules/")
 MOST_WAYS, MOST_PARTS, MOST_LOOPS = 12, 4, 2
 
 FUNCTIONS = (ast.FunctionDef, ast.AsyncFunctionDef)
@@ -132,6 +135,27 @@ def imports_of(tree):
                 yield node.module, alias.name
 
 
+def hinted_of(tree):
+    """The functions of a module that have to have hints."""
+    for node in tree.body:
+        if isinstance(node, FUNCTIONS):
+            yield node
+        elif isinstance(node, ast.ClassDef) and "dataclass" in map(called, node.decorator_list):
+            yield from (inner for inner in node.body if isinstance(inner, FUNCTIONS))
+
+
+def called(decorator):
+    return getattr(getattr(decorator, "func", decorator), "id", "")
+
+
+def without_hint(function):
+    """The parameters without a hint, and `return` if it has none for its result."""
+    given = function.args
+    parameters = [*given.posonlyargs, *given.args, *given.kwonlyargs]
+    lacks = [one.arg for one in parameters if not one.annotation and one.arg not in ("self", "cls")]
+    return lacks + ([] if function.returns else ["return"])
+
+
 class Python(Case):
     needs_programs = False
 
@@ -148,6 +172,14 @@ class Python(Case):
 
     def test_hints(self):
         self.run_clean("mypy", "--no-incremental")
+
+    def test_hinted(self):
+        for file in files():
+            if file.removeprefix("lab/").startswith(HINTED):
+                functions = hinted_of(ast.parse(pathlib.Path(TOP, file).read_text()))
+                lacks = {one.name: without_hint(one) for one in functions}
+                found = {name: what for name, what in lacks.items() if what}
+                self.same(f"{file}: functions that lack hints", found, {})
 
     def test_limits(self):
         for file in files():

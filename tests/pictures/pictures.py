@@ -136,13 +136,6 @@ REFUSED = [
     ("schedules two --columns 3..2", b"", 1, "0 to 104"),
     ("schedules star4 --columns 0..109", b"", 1, "at most 108 events"),
     ("schedules star4 --columns 0..108", b"", 1, "use fewer events"),
-    (
-        "schedules two --events -",
-        b"c a run\nput 1 0\ntake 2 0\ntake 2 0\n",
-        1,
-        "line 4: `take 2 0` isn't possible",
-    ),
-    ("schedules two --events -", b"put 9 0\n", 1, "line 1: `put 9 0` isn't possible there"),
     *((f"{kind} {{one}}", b"", 1, "has no edge") for kind in ("forests", "rounds", "bits")),
     ("why {one} --vertex 1", b"", 1, "no message decided"),
     ("why triangle --vertex 4", b"", 1, "has no vertex 4"),

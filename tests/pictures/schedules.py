@@ -3,7 +3,6 @@ tests/programs/schedules.py compares with the definitions and with `forestplay e
 and the SVG alone."""
 import functools
 import json
-import random
 import re
 from collections import Counter
 from itertools import islice, pairwise
@@ -14,7 +13,7 @@ from lab.networks.network_text import network_of
 from lab.schedules.space import Space
 from lab.words import in_words
 from tests.cases import example
-from tests.pictures.base import SEED, PictureCase
+from tests.pictures.base import PictureCase
 from tests.pictures.marks import SVG, centre, data_of, ends, marks, parsed, texts, title, titles
 
 NETWORKS = {name: example(name) for name in ("two", "path", "triangle")}
@@ -299,20 +298,3 @@ class Schedules(PictureCase):
         row("a shortest run is bold", (len(bold), bold[-1][1][0]), (last, columns[-1]))
         row("its words", found and found.groups(), (str(listed), str(last)))
         row("what goes wrong", plain(said) in plain(shown), True)
-
-    def test_given_run(self):
-        """The run of a list of events, as the page writes it, is the bold one."""
-        source, space, s, events = random.Random(SEED), space_of("two"), 0, []
-        while space.steps(s):
-            event, s = source.choice(space.steps(s))
-            events.append(event)
-        path = self.file("run.events", "".join(f"{event}\n" for event in space.with_puts(events)))
-        root = parsed(
-            self.drawn("schedules", NETWORKS["two"], "--columns", "0..40", "--events", path)
-        )
-        bold = sorted(
-            (ends(group)[0][0], title(group).split(":")[0]) for group in marks(root, "bold")
-        )
-        self.same(
-            "the run that is given is bold", [words for _, words in bold], [*map(str, events[:40])]
-        )

@@ -186,9 +186,8 @@ class InPython(Case):
 
     def test_refused(self):
         plan = {"Ulm": 1, "Aue": 1, "Hof": 2, "Bonn": 3}
-        part, star = {node: channel for node, channel in plan.items() if node != "Hof"}, {
-            0: range(1, 1025)
-        }
+        part = {node: channel for node, channel in plan.items() if node != "Hof"}
+        star = {0: range(1, 1025)} | {leaf: () for leaf in range(1, 1025)}
         for code, nodes, call in (
             ("C4", ["Ulm", "Aue"], lambda: forestplan.check(SQUARE, plan)),
             ("C1", ["Hof"], lambda: forestplan.check(SQUARE, part)),

@@ -310,7 +310,7 @@ class Install(Case):
         )
         self.note("pip install", got[0] == 0, got)
         code = (
-            "import forestplan; plan = forestplan.plan({1: [2, 3], 2: [3]}); "
+            "import forestplan; plan = forestplan.plan({1: [2, 3], 2: [3], 3: []}); "
             "print(forestplan.home(), dict(plan), '<svg' in plan._repr_svg_())"
         )
         got = run([python, "-c", code], cwd=self.elsewhere)

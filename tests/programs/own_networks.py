@@ -387,13 +387,8 @@ class OwnNetworks(Case):
             "read", "-", "--as", "pairs", data=b'source,target\nUlm,"Aue, west"\n"Aue, west",Jena\n'
         )
         path, plan = self.file("sites.col", network), b"plan\n1 1\n2 2\n3 1\n"
-        for words, wanted in (
-            ([], b"Ulm 1\nAue, west 2\nJena 1\n"),
-            (["--csv"], b'name,channel\nUlm,1\n"Aue, west",2\nJena,1\n'),
-        ):
-            self.same(
-                f"names on a plan {words}", call("names", path, *words, data=plan), (0, wanted, b"")
-            )
+        named = call("names", path, data=plan)
+        self.same("names on a plan", named, (0, b"Ulm 1\nAue, west 2\nJena 1\n", b""))
         self.refusal("names on no plan", call("names", path), 1, b"no line `plan` (C6)")
 
     def told_of(self, data, *words):

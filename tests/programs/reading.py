@@ -24,7 +24,7 @@ PAIR = "source,target\n"
 REFUSED = (
     ("dimacs", "Ulm,Aue\n", "line 1: `Ulm,Aue` begins no line of a network (F8)"),
     ("dimacs", "\ufeffp edge 1 0\n", "(F8)"),
-    ("dimacs", "c name 2 1\np edge 2 0\n", "vertices 1 and 2 are both called 1"),
+    ("dimacs", "c name 2 1\np edge 2 0\n", "line 1: vertices 1 and 2 are both called 1"),
     ("pairs", "Ulm,Aue\nAue,Hof\n", "line 1: no heading with source and target: `Ulm,Aue`"),
     ("pairs", "\n\nUlm,Aue\n", "line 3: no heading"),
     (
@@ -32,7 +32,9 @@ REFUSED = (
         "source,target,from\na,b,c\n",
         "line 1: source and from may each be the column source",
     ),
-    ("pairs", "source,target,target\na,b,c\n", "line 1: two columns are called target"),
+    ("pairs", "source,target,target\na,b,c\n", "target and target may each be the column target"),
+    ("pairs", "sep=;\nsource;target\na;b\n", "line 1: `sep=;` is for Excel alone: delete this"),
+    ("pairs", b"\x1f\x8b\x08\0", "it is compressed: unpack it by gunzip"),
     ("pairs", "", "it has no row"),
     ("pairs", PAIR, "line 1: it has no row below its heading"),
     ("pairs", PAIR + "a,b\nsource,target\nb,c\n", "line 3: the heading a second time"),
@@ -205,22 +207,19 @@ class Reading(Case):
             self.same(f"the form of {path}", form_of(path, path), form)
 
     def test_said(self):
-        """What isn't read is said, with its values."""
+        """What isn't read is said."""
         text = (
             '{"nodes": [{"id": 1}, {"id": 2}], "links": [{"source": 1, "target": 2, "weight": 0}, '
             '{"source": 2, "target": 1, "on": false}]}'
         )
         said = read(text, "json")[2] if self.has_networkx else []
-        self.note(
-            "keys", not said or said[2] == "2 keys of edges not read: on (False); weight (0)", said
-        )
+        self.note("keys", not said or said[2] == "keys of edges that aren't read: on, weight", said)
         said = read(PAIR.replace("\n", ",km\n") + "a,a,1\na,b,2\nb,a,3\nA,b,1\n", "pairs")[2]
         self.same(
             "pairs",
             said[1:],
             [
                 "columns that aren't read: km",
-                "a and A are two nodes: are they meant to be one?",
                 "1 edge from a node to itself left out",
                 "1 edge there before, in one direction or the other",
             ],

@@ -35,7 +35,11 @@ TABLES = (
     (SITES, "site,channel\nHof,0\n", "line 2: no channel from 1 to 2048"),
     (SITES, "site,channel\nHof,2049\n", "line 2: no channel from 1 to 2048"),
     (SITES, "site,channel\nHof,6.0\n", "line 2: no channel: `6.0`"),
-    (SITES, "site,channel,channel\nHof,1,2\n", "line 1: two columns are called channel"),
+    (
+        SITES,
+        "site,channel,channel\nHof,1,2\n",
+        "channel and channel may each be the column channel",
+    ),
 )
 
 
