@@ -6,7 +6,7 @@ import os
 import re
 import stat
 import sys
-from collections.abc import Callable
+from collections.abc import Callable, Iterable
 
 from lab.wrong import Wrong
 
@@ -38,6 +38,11 @@ def one_line(words: str) -> str:
         letter if letter.isprintable() else letter.encode("unicode_escape").decode()
         for letter in words
     )
+
+
+def as_text(lines: Iterable) -> str:
+    """Lines as a text, each with a line feed."""
+    return "".join(f"{line}\n" for line in lines)
 
 
 def in_words(things) -> str:
@@ -95,13 +100,13 @@ def add_command(
     )
 
 
-def bytes_at(path: str, read=lambda stream: stream.read()) -> bytes:
-    """All that a file has, or standard input for `-`; or what is read of it."""
+def bytes_at(path: str) -> bytes:
+    """All that a file has, or standard input for `-`."""
     try:
         if path == "-":
-            return read(sys.stdin.buffer)
+            return sys.stdin.buffer.read()
         with open(path, "rb") as file:
-            return read(file)
+            return file.read()
     except OSError as why:
         raise Wrong(f"{text_name(path)}: {why.strerror}") from None
 

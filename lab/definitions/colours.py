@@ -7,13 +7,14 @@ once."""
 from typing import Iterable
 
 from lab.network import Network
+from lab.words import as_text
 
 Colours = dict[int, int]
 
 
 def text_of(lines: Iterable[str]) -> bytes:
     """The lines as a text, each with a line feed."""
-    return "".join(line + "\n" for line in lines).encode()
+    return as_text(lines).encode()
 
 
 def forests_text(net: Network) -> bytes:

@@ -62,7 +62,7 @@ READERS = {
 }
 
 
-def read(data: bytes, name: str, form: str, stated: Stated = Stated()) -> Listed:
+def read(data: bytes, name: str, form: str, stated: Stated) -> Listed:
     """What networkx reads, if it has all nodes and edges that the text declares."""
     nx = networkx()
     if nx is None:

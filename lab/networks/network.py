@@ -19,7 +19,7 @@ from lab.networks.plan_text import clashes, read_plan
 from lab.networks.reading import form_read, listed_of, made_of
 from lab.networks.stated import Unsaid, decoded
 from lab.networks.texts import text_of
-from lab.words import one_line, source_of, text_at, write
+from lab.words import as_text, one_line, source_of, text_at, write
 from lab.wrong import Wrong
 
 # Kilometres: less than that no two sites are apart, and numbers of places have no such digits.
@@ -113,7 +113,7 @@ def was_told(given: Namespace) -> str:
     """What is said of a network, or of a code if there is no file of that name."""
     words = " ".join(given.file)
     if path_of(words) is None and (found := code_of(words)):
-        return "".join(line + "\n" for line in tell_code(found))
+        return as_text(tell_code(found))
     if len(given.file) > 1:
         given.refuse("one FILE, or a code and where it is, as `C8 vertex 1`")
     return network_told(words, given.payloads)
@@ -125,7 +125,7 @@ def network_told(path: str, is_counted: bool) -> str:
     network = reading.network()
     for what in warnings(reading):
         say(f"{path}: {what}")
-    return "".join(f"{name}: {what}\n" for name, what in facts(reading, network, is_counted))
+    return as_text(f"{name}: {what}" for name, what in facts(reading, network, is_counted))
 
 
 def was_numbered(given: Namespace) -> str:
@@ -150,7 +150,7 @@ def was_named(given: Namespace) -> str:
         (network.names.get(v, str(v)), table[plan[v] - 1] if table else plan[v])
         for v in network.vertices
     ]
-    return "".join(f"{name} {channel}\n" for name, channel in rows)
+    return as_text(f"{name} {channel}" for name, channel in rows)
 
 
 def main(words: list[str]) -> int:

@@ -19,7 +19,7 @@ from lab.words import counted, one_line
 from lab.wrong import wrong_line
 
 
-def listed_of(data: bytes, name: str, form: str, stated: Stated = Stated()) -> Listed:
+def listed_of(data: bytes, name: str, form: str, stated: Stated) -> Listed:
     """What a text of a form lists."""
     if form in foreign.READERS:
         return foreign.read(data, name, form, stated)

@@ -137,7 +137,7 @@ def letters_of(data: bytes, name: str, stated: str | None) -> str:
     raise what if stated else Unsaid(what, WINDOWS)
 
 
-def decoded(data: bytes, name: str, stated: str | None = None) -> str:
+def decoded(data: bytes, name: str, stated: str | None) -> str:
     """The text of a file, whose lines end with line feeds."""
     text = letters_of(data, name, stated).replace("\r\n", "\n").replace("\r", "\n")
     before, zero, _ = text.partition("\0")

@@ -2,6 +2,7 @@
 from collections.abc import Iterable
 
 from lab.network import Network
+from lab.words import as_text
 
 
 def decimal(number: float) -> str:
@@ -17,7 +18,7 @@ def plain_text(network: Network) -> str:
     lines += [f"i {v} {number}" for v, number in sorted(network.said.items()) if number != v]
     lines += [f"b {v} {channel}" for v, channels in network.bars.items() for channel in channels]
     lines += [f"e {v} {w}" for v, w in network.edges]
-    return "".join(line + "\n" for line in lines)
+    return as_text(lines)
 
 
 def text_of(network: Network, head: Iterable[str] = ()) -> str:
@@ -25,4 +26,4 @@ def text_of(network: Network, head: Iterable[str] = ()) -> str:
     lines = [f"c {line}" for line in head]
     lines += [f"c at {v} {decimal(x)} {decimal(y)}" for v, (x, y) in sorted(network.places.items())]
     lines += [f"c name {v} {name}" for v, name in sorted(network.names.items())]
-    return "".join(line + "\n" for line in lines) + plain_text(network)
+    return as_text(lines) + plain_text(network)

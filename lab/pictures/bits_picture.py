@@ -1,7 +1,7 @@
 """The bit lens: one node above its parent, digit by digit, over the four bit steps."""
 from lab.definitions.nodes import bit_step
 from lab.pictures.marks import colour_square
-from lab.pictures.palette import INK, PAPER, SOFT, digits
+from lab.pictures.palette import INK, PAPER, digits
 from lab.pictures.svg import Svg
 from lab.words import counted
 from lab.wrong import Wrong
@@ -71,7 +71,7 @@ def draw_pair(svg, top, pulse, child, parent, most, cell):
     svg.text(20, top + 13, f"pulse {pulse}", 12, INK, bold=True)
     for row, (words, (node, number)) in enumerate((("node", child), ("parent", parent))):
         y = top + row * 26
-        svg.text(LEFT - 8, y + 13, f"{words} {node}", 10.5, SOFT, "end")
+        svg.note(LEFT - 8, y + 13, f"{words} {node}", 10.5, "end")
         for at in range(length):
             x = LEFT + (most - 1 - at) * cell
             digit_box(svg, x, y, cell, number >> at & 1, at == place)
@@ -82,15 +82,7 @@ def draw_pair(svg, top, pulse, child, parent, most, cell):
         svg.text(x + 30, top + 13, "colours of 0 to 5 are left", 13, INK, bold=True)
         return
     digit = own >> place & 1
-    svg.text(
-        LEFT + (most - 1 - place) * cell + cell / 2,
-        top + 58,
-        f"i = {place}",
-        10,
-        RING,
-        "middle",
-        bold=True,
-    )
+    svg.label(LEFT + (most - 1 - place) * cell + cell / 2, top + 58, f"i = {place}", 10, RING)
     svg.text(
         x,
         top + 13,
@@ -100,7 +92,7 @@ def draw_pair(svg, top, pulse, child, parent, most, cell):
         bold=True,
         mark="next",
     )
-    svg.text(x, top + 39, f"{counted(length, 'digit')} → at most {2 * (length - 1) + 1}", 11, SOFT)
+    svg.note(x, top + 39, f"{counted(length, 'digit')} → at most {2 * (length - 1) + 1}", 11)
 
 
 def digit_box(svg, x, y, cell, digit, is_ringed):

@@ -58,7 +58,7 @@ def draw(network, without, program=Colouring):
             svg.text(x + 20, y + 16, words, 12.5, hue, bold=True)
             picture.draw(svg, x, y + OVER, number)
     for number, line in enumerate(legend, 1):
-        svg.text(20, bottom + 16 * number, line, 11.5, SOFT)
+        svg.note(20, bottom + 16 * number, line)
     return svg.document()
 
 

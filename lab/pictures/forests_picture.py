@@ -1,7 +1,7 @@
 """The forest sheet: one column a forest; above, its edges and three colours; below, the channels once it is merged."""
 from lab.definitions.rounds import LAST_COLOUR
 from lab.pictures.marks import LARGE, Map, alone_chip, by_size, channel_circle, colour_square
-from lab.pictures.palette import INK, PAPER, SOFT, WRONG
+from lab.pictures.palette import INK, PAPER, WRONG
 from lab.pictures.places import OF_SQUARES, box_height, places_of
 from lab.pictures.rounds_picture import left_out_of
 from lab.pictures.svg import Svg, text_width
@@ -127,10 +127,10 @@ def legend(svg, y):
         (436, 22, "merged before"),
         (564, 22, "other edges"),
     ):
-        svg.text(x, y + down + 4, words, 11.5, SOFT)
+        svg.note(x, y + down + 4, words)
 
 
 def title(svg, left, top, text, under=None):
-    svg.text(left + PANEL / 2, top - 26, text, 13, INK, "middle", bold=True)
+    svg.label(left + PANEL / 2, top - 26, text, 13)
     if under:
-        svg.text(left + PANEL / 2, top - 11, under, 10.5, SOFT, "middle")
+        svg.note(left + PANEL / 2, top - 11, under, 10.5, "middle")

@@ -57,15 +57,7 @@ class Vertex:
                     1.6,
                     mark="blank" if self.fill == PAPER else "filled",
                 )
-                svg.text(
-                    x,
-                    y + 0.36 * radius,
-                    self.v,
-                    round(0.95 * radius, 1),
-                    text_on(self.fill),
-                    "middle",
-                    bold=True,
-                )
+                svg.label(x, y + 0.36 * radius, self.v, round(0.95 * radius, 1), text_on(self.fill))
         left, width = spot[0] - self.room() / 2, text_width(self.words, self.size)
         if self.words:
             svg.text(

@@ -6,7 +6,6 @@ from lab.pictures.palette import (
     FOREST_COLOURS,
     INK,
     PAPER,
-    SOFT,
     WIRES,
     WRONG,
     channel_hue,
@@ -42,7 +41,7 @@ def channel_circle(svg, x, y, radius, channel, mark="channel"):
         svg.circle(x, y, radius, hue, PAPER, 1, mark=mark)
     fill = INK if is_ring(channel) else text_on(hue)
     size = radius * (1.12 if channel < 10 else 0.92) * (0.85 if is_ring(channel) else 1)
-    svg.text(x, y + size * 0.36, channel, round(size, 1), fill, "middle", bold=True)
+    svg.label(x, y + size * 0.36, channel, round(size, 1), fill)
 
 
 # The most barred channels of a vertex that are drawn; an ellipsis stands for more.
@@ -64,7 +63,7 @@ def bar_row(svg, x, y, channels, radius):
         middle_x = x + radius + at * (2 * radius + 2)
         svg.circle(middle_x, y, radius, PAPER, channel_hue(channel), 1, mark="bar")
         size = round(radius * (1.2, 1.0, 0.8, 0.62)[len(str(channel)) - 1], 1)
-        svg.text(middle_x, y + size * 0.36, channel, size, INK, "middle", bold=True)
+        svg.label(middle_x, y + size * 0.36, channel, size)
         svg.line(
             middle_x - 0.9 * radius,
             y + 0.9 * radius,
@@ -75,12 +74,11 @@ def bar_row(svg, x, y, channels, radius):
             opacity="0.9",
         )
     if len(channels) > MOST_BARS:
-        svg.text(
+        svg.note(
             x + MOST_BARS * (2 * radius + 2),
             y + 0.4 * radius,
             "…",
             1.5 * radius,
-            SOFT,
             halo=2,
             mark="more",
         )
@@ -105,14 +103,12 @@ def colour_square(svg, x, y, half, colour, mark="colour", is_name=False, opacity
         mark=mark,
         fill_opacity=opacity,
     )
-    svg.text(
+    svg.label(
         x,
         y + half * 0.37,
         text,
         round(half * (1.1 if len(text) < 3 else 0.8), 1),
         INK if opacity else ink,
-        "middle",
-        bold=True,
     )
 
 
@@ -167,7 +163,7 @@ class Map:
     def numbers(self, svg, size, down):
         """The vertices' numbers at their places, whose middle is so far above the ground line."""
         for v, (x, y) in self.labels.items():
-            svg.text(x, y + down, v, size, SOFT, "middle", halo=2.5, mark="number")
+            svg.note(x, y + down, v, size, "middle", halo=2.5, mark="number")
 
 
 def wire_arrow(svg, x1, y1, x2, y2, kind):
@@ -181,12 +177,12 @@ def wire_arrow(svg, x1, y1, x2, y2, kind):
 LONGEST_NAME = 12
 
 
-def short_name(network, v, longest=LONGEST_NAME):
+def short_name(network, v):
     """The name that the network's text gives a vertex, as there is room for it; `` if it gives none."""
     name = "".join(
         letter if letter.isprintable() else "\ufffd" for letter in network.names.get(v, "")
     )
-    return name if len(name) <= longest else name[: longest - 1].rstrip() + "…"
+    return name if len(name) <= LONGEST_NAME else name[: LONGEST_NAME - 1].rstrip() + "…"
 
 
 def label_of(network, v):

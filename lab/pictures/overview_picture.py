@@ -1,5 +1,4 @@
 """The whole run, or some pulses of it: bands and ticks alone. Neighbours are never more than one pulse apart."""
-from lab.pictures.palette import SOFT
 from lab.pictures.run_picture import Window, draw_bands, draw_lines, draw_ticks, time_words
 from lab.pictures.svg import Svg
 from lab.pictures.transcripts import MOST_READABLE
@@ -23,7 +22,7 @@ def draw(run, shown):
     )
     if shown != (0, run.last):
         words += " Draw others with --pulses A..B."
-    svg.text(20, window.bottom + 36, words, 11.5, SOFT)
+    svg.note(20, window.bottom + 36, words)
     return svg.document()
 
 

@@ -56,7 +56,7 @@ def fit(places, width, height, margin):
     }
 
 
-def spaced(places, width, height, margin, radius, least, apart=OF_CIRCLES):
+def spaced(places, width, height, margin, radius, least, apart):
     """The places fitted into a box, and the radius that they leave: at most `radius`. Vertices too near for `least` are
     pushed apart, as far as the box allows; no two of the radius overlap in any case."""
     places = fit(places, width, height, margin)

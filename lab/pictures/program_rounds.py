@@ -53,7 +53,7 @@ def rounds_of(network, program):
     return Rounds(network) if program is Colouring else ProgramRounds(network, program)
 
 
-def least_wires(network, program=Colouring):
+def least_wires(network, program):
     """The wires of a whole run without the two for each payload: a safe for each pulse but the last, each edge and each
     end, and a close for each edge and each end."""
     return 2 * len(network.edges) * (program.last_pulse(network) + 1)

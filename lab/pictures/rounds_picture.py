@@ -87,25 +87,23 @@ def bars_room(network):
 def legend(svg, y, has_bars):
     for colour in range(6):
         colour_square(svg, 28 + 17 * colour, y, 7.5, colour, mark="legend")
-    svg.text(130, y + 4, "square: colour in the forest; 3, 4, 5 are dropped", 11.5, SOFT)
+    svg.note(130, y + 4, "square: colour in the forest; 3, 4, 5 are dropped")
     svg.rect(452, y - 7.5, 15, 15, "#D6D6D6", round_by=2)
-    svg.text(474, y + 4, "still a name", 11.5, SOFT)
+    svg.note(474, y + 4, "still a name")
     alone_chip(svg, 574, y, COLUMN / 2 - 6, 1)
-    svg.text(588, y + 4, "no edge in this forest: its colour there", 11.5, SOFT)
+    svg.note(588, y + 4, "no edge in this forest: its colour there")
     if has_bars:
         bar_row(svg, 830, y, [1], BAR)
-        svg.text(852, y + 4, "barred at the node", 11.5, SOFT)
+        svg.note(852, y + 4, "barred at the node")
     y += 22
     channel_circle(svg, 28, y, 8, 1, mark="legend")
-    svg.text(42, y + 4, "circle: the node chooses this channel", 11.5, SOFT)
+    svg.note(42, y + 4, "circle: the node chooses this channel")
     svg.line(276, y, 300, y, channel_hue(1), 3, opacity="0.35")
-    svg.text(308, y + 4, "its channel meanwhile", 11.5, SOFT)
-    svg.text(
+    svg.note(308, y + 4, "its channel meanwhile")
+    svg.note(
         452,
         y + 4,
         "K and J say whose turn it is: colour in the forest, colour so far (channel J + 1).",
-        11.5,
-        SOFT,
     )
 
 
@@ -119,7 +117,7 @@ def draw_heads(svg, left, y, column, last):
             svg.text((x1 + x2) / 2, y, words, size, INK, "middle", mark="group")
             svg.line(x1, y + 5, x2, y + 5, "#9A9A9A", 1)
     for pulse in range(2, last + 1):
-        svg.text(left + (pulse - 1.5) * column, y + 18, pulse, 9, SOFT, "middle")
+        svg.note(left + (pulse - 1.5) * column, y + 18, pulse, 9, "middle")
 
 
 def place_of(left, top, row, pulse):
@@ -131,11 +129,11 @@ def draw_rows(svg, left, top, parents, last, square):
     """The heads of the pulses 2 to `last`, and a row for each vertex of `parents`: its number, its parent, and what
     `square` draws of it, given the vertex, the pulse and a place."""
     draw_heads(svg, left + LEFT, top, COLUMN, last)
-    svg.text(left + LEFT - 4, top + 18, "pulse", 9, SOFT, "end")
+    svg.note(left + LEFT - 4, top + 18, "pulse", 9, "end")
     for row, (v, parent) in enumerate(parents.items()):
         y = place_of(left, top, row, 2)[1] + 4.5
         svg.text(left + 46, y, v, 12, INK, "end", bold=True, mark="node")
-        svg.text(left + 54, y, f"→ {parent}" if parent else "root", 10, SOFT)
+        svg.note(left + 54, y, f"→ {parent}" if parent else "root", 10)
         for pulse in range(2, last + 1):
             square(v, pulse, *place_of(left, top, row, pulse))
 
@@ -191,18 +189,17 @@ class Strip:
         words = f"merge of forest {self.forest}"
         svg.text(MERGES, top + 20, words, 13.5, INK, bold=True)
         if not is_full:
-            svg.text(
+            svg.note(
                 MERGES + text_width(words, 13.5) + 22,
                 top + 20,
                 "(steps at which some node chooses)",
                 10,
-                SOFT,
             )
         self.step_heads()
         end = MERGES + len(self.steps) * self.column
-        svg.text(end + 24, top + 63, "after", 9, SOFT, "middle")
+        svg.note(end + 24, top + 63, "after", 9, "middle")
         if self.rounds.network.bars:
-            svg.text(end + 44, top + 63, "barred", 9, SOFT)
+            svg.note(end + 44, top + 63, "barred", 9)
         before = self.rounds.merged[self.forest] if self.forest else {}
         with svg.group("choices", f"forest {self.forest}"):
             for v in self.rounds.network.vertices:
@@ -211,8 +208,8 @@ class Strip:
     def step_heads(self):
         """Pulse numbers, and the pair (colour in this forest, colour so far) whose turn it is."""
         svg, before = self.svg, None
-        svg.text(MERGES - 6, self.top + 36, "K", 9.5, SOFT, "end")
-        svg.text(MERGES - 6, self.top + 50, "J", 9.5, SOFT, "end")
+        svg.note(MERGES - 6, self.top + 36, "K", 9.5, "end")
+        svg.note(MERGES - 6, self.top + 50, "J", 9.5, "end")
         for index, pulse in enumerate(self.steps):
             x, (_, colour, old) = MERGES + index * self.column, pulse.step
             if colour != before:
@@ -226,24 +223,14 @@ class Strip:
                     FOREST_COLOURS[colour],
                     round_by=2,
                 )
-                svg.text(
-                    x + self.column / 2,
-                    self.top + 36.5,
-                    colour,
-                    9.5,
-                    "#FFFFFF",
-                    "middle",
-                    bold=True,
-                    mark="turn",
-                )
+                svg.label(x + self.column / 2, self.top + 36.5, colour, 9.5, "#FFFFFF", mark="turn")
             before = colour
             svg.text(x + self.column / 2, self.top + 50, old, 9, INK, "middle", mark="old")
-            svg.text(
+            svg.note(
                 x + self.column / 2,
                 self.top + 63,
                 pulse.number,
                 8 if pulse.number < 100 else 7,
-                SOFT,
                 "middle",
             )
 

@@ -7,7 +7,7 @@ A pale bar goes from where a payload is taken to the tick at which it is read, a
 import math
 
 from lab.pictures.marks import dash_of, short_name, wire_arrow
-from lab.pictures.palette import BAND, BORDER, INK, PAPER, PULSE, SOFT, WIRES, WRONG
+from lab.pictures.palette import BAND, BORDER, INK, PAPER, PULSE, WIRES, WRONG
 from lab.pictures.svg import Svg, text_width, wrapped
 from lab.pictures.wrong_run import draw_wrong, said_of
 from lab.words import counted
@@ -131,7 +131,7 @@ def draw(run, shown, kinds=None, is_wrong_drawn=False, stopped=None):
         if is_wrong_drawn:
             draw_wrong(svg, window, kinds, stopped)
     words_y = window.bottom + window.over + 20
-    svg.text(20, words_y, early_words(window), 11.5, SOFT)
+    svg.note(20, words_y, early_words(window))
     for number, line in enumerate(wrong, 1):
         svg.text(20, words_y + 17 * number, line, 12.5, WRONG, bold=True)
     svg.text(
@@ -147,7 +147,7 @@ def draw(run, shown, kinds=None, is_wrong_drawn=False, stopped=None):
         draw_lines(svg, lower)
         draw_wires(svg, lower, ("payload",))
         draw_ticks(svg, lower)
-    svg.text(20, lower.bottom + 42, rounds_words(run, last, len(lower.run.wires)), 11.5, SOFT)
+    svg.note(20, lower.bottom + 42, rounds_words(run, last, len(lower.run.wires)))
     return svg.document()
 
 
@@ -173,7 +173,7 @@ def draw_lines(svg, window):
         svg.text(window.left - 14, y + 0.36 * size, v, size, INK, "end", bold=True)
         if name := short_name(window.network, v):
             x = window.left - 18 - text_width(window.network.nodes, size) * BOLD
-            svg.text(x, y + 3.6, name, min(10, size), SOFT, "end", mark="vertex-name")
+            svg.note(x, y + 3.6, name, min(10, size), "end", mark="vertex-name")
 
 
 def legend(svg, kinds):

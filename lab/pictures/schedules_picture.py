@@ -5,7 +5,7 @@ from bisect import bisect_right
 from itertools import accumulate, chain
 from statistics import mean
 
-from lab.pictures.palette import BAND, BORDER, INK, PAPER, PULSE, SOFT, WIRES, WRONG
+from lab.pictures.palette import BAND, BORDER, INK, PAPER, PULSE, WIRES, WRONG
 from lab.pictures.schedules_space import fault_words, left_out_words, title_of
 from lab.pictures.svg import Svg, text_width, wrapped
 from lab.pictures.transcripts import window_of
@@ -162,13 +162,11 @@ class Lattice:
         svg.heading(self.fact(), *lines)
         every = next(step for most, step in NUMBERED if len(self.columns) <= most)
         for k in range(0, len(self.columns), every):
-            svg.text(LEFT + k * self.step, bottom, self.low + k, 9, SOFT, "middle")
-        svg.text(
+            svg.note(LEFT + k * self.step, bottom, self.low + k, 9, "middle")
+        svg.note(
             20,
             bottom + 16,
             "takes and pulses so far; a put is made as soon as it can be, and has no column",
-            11.5,
-            SOFT,
         )
         self.draw_steps(svg)
         for column in self.columns:
@@ -250,15 +248,7 @@ class Lattice:
         if isinstance(s, tuple):
             with svg.group("state wrong", fault_words(self.space, s)):
                 svg.circle(x, y, self.radius, WRONG, INK, 1)
-                svg.text(
-                    x,
-                    y + self.radius * 0.42,
-                    "×",
-                    round(1.5 * self.radius, 1),
-                    PAPER,
-                    "middle",
-                    bold=True,
-                )
+                svg.label(x, y + self.radius * 0.42, "×", round(1.5 * self.radius, 1), PAPER)
             return
         is_wrong, is_bold = self.is_wrong(s), s in self.passed
         words = [node_words(v, node) for v, node in self.space.nodes(s).items()]
@@ -279,14 +269,14 @@ class Lattice:
                 )
 
     def legend(self, svg, y):
-        svg.text(20, y, "takes of", 11.5, SOFT)
+        svg.note(20, y, "takes of")
         x = 80
         for name, hue in [*WIRES.items(), ("pulse", PULSE)]:
             svg.line(x, y - 4, x + 22, y - 4, hue, 2)
-            svg.text(x + 27, y, name, 11.5, SOFT)
+            svg.note(x + 27, y, name)
             x += 27 + text_width(name, 11.5) + 14
         meant = ["all at one pulse", "neighbours a pulse apart", "two", "more"]
         for fill, words in list(zip(APART, meant))[: max(2, self.most_apart + 1)]:
             svg.circle(x + 6, y - 4, 6, fill, BORDER, 0.8)
-            svg.text(x + 18, y, words, 11.5, SOFT)
+            svg.note(x + 18, y, words)
             x += 24 + text_width(words, 11.5) * 0.95

@@ -156,6 +156,14 @@ class Svg:
             **more,
         )
 
+    def note(self, x, y, text, size=11.5, anchor=None, **more):
+        """A text that helps to read the picture."""
+        self.text(x, y, text, size, SOFT, anchor, **more)
+
+    def label(self, x, y, text, size, fill=INK, **more):
+        """A text in the middle of a mark, or above what it names."""
+        self.text(x, y, text, size, fill, "middle", bold=True, **more)
+
     def head(self, x, y, dx, dy, size, colour, hollow=False):
         """An arrow's head with its tip at x, y, pointing along dx, dy."""
         length = sqrt(dx * dx + dy * dy) or 1
@@ -191,7 +199,7 @@ class Svg:
         as wide as they are."""
         self.text(20, 28, title, 17, INK, bold=True)
         for number, line in enumerate(lines):
-            self.text(20, 48 + 16 * number, line, 11.5, SOFT)
+            self.note(20, 48 + 16 * number, line)
         self.width = max(
             [
                 self.width,

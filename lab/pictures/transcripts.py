@@ -5,7 +5,7 @@ from collections import deque
 from copy import copy
 from typing import NamedTuple
 
-from lab.definitions.nodes import Colouring, wire_words
+from lab.definitions.nodes import wire_words
 from lab.transcripts.check import find_order
 from lab.transcripts.reading import Wrong as WrongEntry, read_to_fault
 from lab.wrong import Wrong, wrong_line
@@ -103,7 +103,7 @@ def wires_of(made):
     ]
 
 
-def read_transcript(text, name, network, until=None, program=Colouring, is_wrong_drawn=False):
+def read_transcript(text, name, network, until, program, is_wrong_drawn):
     """The run of a program that a transcript records, or what is wrong with it, unless that is drawn. Of a long text,
     with `until`, only what the pulses up to that one depend on is read."""
     if until is not None and text.count("\n") > LONG_TEXT:

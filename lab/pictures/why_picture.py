@@ -8,7 +8,7 @@ from lab.definitions.nodes import DROPPED
 from lab.definitions.rounds import LAST_COLOUR, SEED
 from lab.pictures.layout import distances
 from lab.pictures.rounds_picture import MOST_ROWS, draw_strips
-from lab.words import counted, in_words
+from lab.words import as_text, counted, in_words
 from lab.wrong import Wrong, at_most
 
 
@@ -146,7 +146,7 @@ def text(cone):
     if names := cone.identifiers():
         lines.append(f"the identifiers that decided it: {in_words(names)}")
     lines.append(NOT_FOLLOWED)
-    return "".join(line + "\n" for line in lines)
+    return as_text(lines)
 
 
 def message_words(cone, pulse, v, w, said):

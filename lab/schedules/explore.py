@@ -17,7 +17,7 @@ from lab.schedules.own_rounds import verdict_of, verdict_on_many
 from lab.schedules.ruled_rounds import looked_at
 from lab.schedules.rules import ALL, OF_SCHEDULES, program_of, table, unknown_to
 from lab.schedules.space import Event, Node, Space
-from lab.words import add_output, add_seed, count, counted, parser_of, write
+from lab.words import add_output, add_seed, as_text, count, counted, parser_of, write
 from lab.wrong import Wrong
 
 MOST_NODES, LIMIT, BYTES_A_STATE = 4, 1_000_000, 420
@@ -254,7 +254,7 @@ def schedules_found(given: Namespace) -> Found:
     space = searched(given, net, program)
     events = space.with_puts(space.path_to_fault() if space.faults else space.path(space.ends[0]))
     if given.list:
-        text = "".join(f"{event}\n" for event in events)
+        text = as_text(events)
     elif space.faults:
         text = broken_text(given, space, events)
     else:
@@ -327,9 +327,8 @@ def whole_text(given: Namespace, name: str, space: Space) -> str:
     kinds = f"{rest // 2:,} puts, {rest // 2:,} takes" if space.puts else f"{rest:,} takes"
     found = [results_words(space.nodes(s)) for s in space.ends]
     ends = "one end" if len(found) == 1 else f"{len(found)} ends"
-    return "".join(
-        f"{line}\n"
-        for line in [
+    return as_text(
+        [
             f"{what}: {space.count:,} states, {len(space.target):,} steps{schedules}",
             f"each has {rest + pulses:,} events: {kinds} and {pulses:,} pulses",
             "each pulse had the round's inbox, and something was possible until all was done",

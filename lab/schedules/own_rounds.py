@@ -11,7 +11,7 @@ from lab.definitions.own_program import check_repeats, results_of, wrong_end
 from lab.network import Network
 from lab.networks.smaller import smaller
 from lab.networks.texts import plain_text
-from lab.words import counted, in_words
+from lab.words import as_text, counted, in_words
 
 # The most nodes of a network by chance, and how many smaller networks are tried in place of one that is wrong.
 MOST_NODES, MOST_TRIED = 12, 2000
@@ -35,7 +35,7 @@ def rounds_text(net: Network, program: Program) -> str:
                 lines.append(f"  {node_name(net, v)} {'; '.join(filter(None, said))}")
     lines.append("the end")
     lines += [f"  {node_name(net, v)} has {words}" for v, words in found.items()]
-    return "".join(line + "\n" for line in lines)
+    return as_text(lines)
 
 
 def node_name(net: Network, v: int) -> str:

@@ -19,7 +19,7 @@ from lab.schedules.ruled_node import RuledNode
 from lab.transcripts.fields import first_line
 from lab.transcripts.reading import Entry, line_of
 from lab.transcripts.stamps import Clock, unfinished
-from lab.words import add_output, add_seed, parser_of, text_at, text_name, write
+from lab.words import add_output, add_seed, as_text, parser_of, text_at, text_name, write
 from lab.wrong import Wrong, wrong_line
 
 HELP = """\
@@ -187,7 +187,7 @@ def text_of_run(nodes: int, entries: Iterable[Entry], program: Program = Colouri
         f"{entry.stamp} {line_of(entry)}"
         for entry in sorted(entries, key=lambda one: (one.stamp, one.vertex))
     ]
-    return "".join(line + "\n" for line in [first_line(nodes, program.name), *lines])
+    return as_text([first_line(nodes, program.name), *lines])
 
 
 def edge(text: str) -> Edge:

@@ -14,7 +14,16 @@ from lab.networks.network_text import network_of
 from lab.transcripts.check import in_order, whole_run
 from lab.transcripts.convert import FORMS, entries_of
 from lab.transcripts.reading import Wrong as WrongEntry
-from lab.words import add_command, add_commands, add_output, bytes_at, parser_of, text_name, write
+from lab.words import (
+    add_command,
+    add_commands,
+    add_output,
+    as_text,
+    bytes_at,
+    parser_of,
+    text_name,
+    write,
+)
 from lab.wrong import Wrong
 
 HELP = """\
@@ -175,7 +184,7 @@ def replayed(given: Namespace) -> str:
 
 
 def converted(given: Namespace) -> str:
-    return "".join(row + "\n" for row in FORMS[given.form](*entries_of(bytes_at(given.transcript))))
+    return as_text(FORMS[given.form](*entries_of(bytes_at(given.transcript))))
 
 
 def main(words: list[str]) -> int:
