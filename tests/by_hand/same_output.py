@@ -14,11 +14,10 @@ from concurrent.futures import ThreadPoolExecutor
 from itertools import product
 
 NETWORKS = "triangle path petersen drops barred chain6 four_cycle star queen5_5 two".split()
-PICTURES = (
-    "map plan results forests rounds bits why overview player schedules adversary run".split()
-)
-# What a kind is given besides the network: two runs of several threads differ.
-OPTIONS = {"why": "--vertex 2", "overview": "--workers 1", "run": "--workers 1"}
+PICTURES = "map plan results forests rounds bits why player schedules adversary".split()
+# Kinds that draw a run, of one thread: two runs of several threads differ.
+OF_RUN = ("overview", "run")
+OPTIONS = {"why": "--vertex 2"}
 PROGRAMS = "leader layers matching independent-set recolouring".split()
 POLICIES = "random slow-link slow-node fast-node bursts newest oldest".split()
 RULES = "safes acks early fifo digit shift root children parent pair earlier".split()
@@ -54,9 +53,12 @@ def of_networks():
         for kind in PICTURES:
             yield f"forestlab picture {kind} {file} {OPTIONS.get(kind, '')}".strip()
         yield f"forestlab simulate {file} --seed 5 | forestlab picture watch {file} -"
+        made = f"forestplan transcript --workers 1 < {file}"
+        for kind in OF_RUN:
+            yield f"{made} | forestlab picture {kind} {file} --transcript -"
         yield f"forestlab network tell {file}"
         yield f"forestlab explore {file}"
-        yield f"forestplan transcript --workers 1 < {file} | forestlab transcript check {file} -"
+        yield f"{made} | forestlab transcript check {file} -"
         yield f"forestlab simulate {file} --seed 5 | forestlab transcript check {file} -"
         yield f"forestplan plain < {file} | forestlab channels 1 6 11 36"
     for name, policy, seed in product(NETWORKS, POLICIES, (1, 2, 3)):
@@ -64,10 +66,12 @@ def of_networks():
 
 
 def others():
-    for program, kind in product(PROGRAMS, ("results", "rounds", "player", "overview")):
-        for name in ("petersen", "path", "star", "drops"):
-            words = f"{kind} examples/{name}.col --program {program}"
-            yield f"forestlab picture {words} {OPTIONS.get(kind, '')}".strip()
+    for program, name in product(PROGRAMS, ("petersen", "path", "star", "drops")):
+        words = f"examples/{name}.col --program {program}"
+        for kind in ("results", "rounds", "player"):
+            yield f"forestlab picture {kind} {words}"
+        made = f"forestplay run --transcript --workers 1 --program {program} < examples/{name}.col"
+        yield f"{made} | forestlab picture overview {words} --transcript -"
     for rule in RULES:
         for name in ("triangle", "path", "two"):
             yield f"forestlab explore examples/{name}.col --without {rule}"
