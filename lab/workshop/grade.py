@@ -129,12 +129,7 @@ def write_reports(submissions: dict[str, list[Part]], folder: str) -> None:
 def remove(room: str) -> None:
     """Removes the room, whatever is in it: folders that are too deep for Python, or shut."""
     for words in (["chmod", "-R", "u+rwX"], ["rm", "-rf"]):
-        subprocess.run(
-            [*words, room],
-            stdin=subprocess.DEVNULL,
-            stdout=subprocess.DEVNULL,
-            stderr=subprocess.DEVNULL,
-        )
+        subprocess.run([*words, room], stdin=subprocess.DEVNULL, capture_output=True)
 
 
 def command_line() -> argparse.ArgumentParser:

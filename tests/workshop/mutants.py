@@ -21,18 +21,11 @@ from tests.cases import Case
 from tests.workshop.base import EXAMPLES, MISTAKES, network, options_of
 
 FILES = ("colouring", "programs", "rounds_node", "alpha_node")
-TURNED = {
-    ast.Eq: ast.NotEq,
-    ast.NotEq: ast.Eq,
-    ast.Lt: ast.GtE,
-    ast.GtE: ast.Lt,
-    ast.Gt: ast.LtE,
-    ast.LtE: ast.Gt,
-    ast.Is: ast.IsNot,
-    ast.IsNot: ast.Is,
-    ast.In: ast.NotIn,
-    ast.NotIn: ast.In,
-}
+PAIRS = (
+    *((ast.Eq, ast.NotEq), (ast.Lt, ast.GtE), (ast.Gt, ast.LtE)),
+    *((ast.Is, ast.IsNot), (ast.In, ast.NotIn)),
+)
+TURNED = {one: other for pair in PAIRS for one, other in (pair, pair[::-1])}
 # By program, the file that has it, its classes there, and the networks on which WORKSHOP has it tried.
 COLOURED = ("two", "triangle", "star4", "most4")
 PROGRAMS = {
