@@ -1,27 +1,23 @@
-"""All tests of the studio's page in Chromium or Chrome: those of ./test (tests/pages/studio_page.py), and with a
-finger, keys, files, lessons, pages of another origin, and a phone's width. The last line is 'N passed, M failed'.
+"""More tests of the studio's page in Chromium or Chrome than those of ./test (tests/pages/studio_page.py): with a
+finger, keys, files, lessons, pages of another origin, a phone's width; and of the page of picture adversary. The last
+line is 'N passed, M failed'.
 
-  python3 -m tests.by_hand.studio_in_browser [--shots FOLDER]
-      --shots FOLDER     keeps a screenshot of each tab, of a desk, a phone and in the dark
+  python3 -m tests.running by_hand.studio_in_browser
 
-It takes minutes, and so it is no part of ./test. Debian: `apt-get install chromium`."""
-import argparse
+If the variable SHOTS names a folder, it keeps a screenshot of each tab there, of a desk, a phone and in the dark. It
+takes minutes, and so it is no part of ./test. Debian: `apt-get install chromium`."""
 import contextlib
 import http.server
 import json
 import os
-import subprocess
-import sys
-import tempfile
 import threading
 import time
-import unittest
+from itertools import product
 
-from tests import FORESTLAB, TOP
-from tests.cases import called
+from tests import TOP
+from tests.cases import called, forestlab, said_by
 from tests.pages import studio_page
 from tests.programs.studio import processes_of
-from tests.running import Counting
 from tests.settings import PLAY
 
 SHOWN = {
@@ -43,6 +39,7 @@ SHOWN = {
     "lesson": "lesson=3",
     "hundred": "example=disk100&tab=rounds&at=14",
 }
+SHOTS = os.environ.get("SHOTS")
 EVIL = """<!doctype html><script>
 (async () => {
   const said = [], at = "ADDRESS", call = {method: "POST", body: "{}"}, tries = {
@@ -63,23 +60,9 @@ TWO, ALL_OF_FOUR = "p edge 2 1\ne 1 2\n", "p edge 4 6\ne 1 2\ne 1 3\ne 1 4\ne 2 
 ADVERSARIES = {
     "two": (TWO, ()),
     "triangle": ("p edge 3 3\ne 1 2\ne 1 3\ne 2 3\n", ()),
-    "row": ("p edge 4 3\ne 1 2\ne 2 3\ne 3 4\n", ()),
     "star": ("p edge 4 3\ne 1 4\ne 2 4\ne 3 4\n", ()),
-    "ring": ("p edge 4 4\ne 1 2\ne 2 3\ne 3 4\ne 1 4\n", ()),
-    "two without safes": (TWO, ("--without", "safes")),
     "two without early": (TWO, ("--without", "early")),
     "four without safes": (ALL_OF_FOUR, ("--without", "safes")),
-}
-# What the page does for a place of the slider; and from frame to frame while it plays.
-FRAMES = {
-    "a place of the slider": """(() => { const s = document.getElementById('slider'), took = [];
-      for (let k = 0; k <= 200; k++) { s.value = s.max * k / 200; const b = performance.now(); s.oninput();
-        took.push(performance.now() - b); }
-      return took; })()""",
-    "a frame while it plays": """(async () => { const took = [], {time} = studio; time.set(13); time.toggle();
-      for (let before = 0; took.length < 300; ) { const now = await new Promise(requestAnimationFrame);
-        if (before) took.push(now - before); before = now; }
-      time.stop(); return took; })()""",
 }
 EVENTS, WIRE = "run.length - 1", "#net [data-step]"
 READY = "T.nodes.map((_, a) => a + 1).filter(v => possible().some(one => !one.take && one.v === v))"
@@ -102,16 +85,8 @@ BROKEN = """(() => { const from = {0: null}, queue = [0];
   } })()"""
 
 
-def lab(*words):
-    """What a command writes."""
-    return subprocess.run(
-        [sys.executable, "-S", os.path.join(TOP, "lab"), *words], capture_output=True, check=True
-    ).stdout
-
-
 class More(studio_page.Page):
     words = "--own", os.path.join(TOP, "examples", "algorithms", "independent_set.py")
-    shots = None
 
     def test_touch_and_keys(self):
         self.page.size(360, 780, True)
@@ -173,29 +148,13 @@ class More(studio_page.Page):
                 self.note(
                     f"{name}, {kind}: and no higher", kind == "phone" or shown[1] <= high, shown
                 )
-                if self.shots:
-                    self.page.shot(os.path.join(self.shots, f"{name}-{kind}.png"))
+                if SHOTS:
+                    self.page.shot(os.path.join(SHOTS, f"{name}-{kind}.png"))
             self.page.size(1280, 800)
             self.page.dark(False)
             self.note(
                 f"{name}: nothing is wrong", not self.page.text("wrong"), self.page.text("wrong")
             )
-
-    def test_frames(self):
-        """A hundred nodes stay under 50 ms a frame on a free machine. Alone by
-        `python3 -m unittest tests.by_hand.studio_in_browser.More.test_frames`."""
-        self.go_to("example=disk100&tab=rounds&at=14")
-        self.sees(
-            "a hundred nodes",
-            "studio.rounds.film && document.querySelectorAll('#net .node').length === 100",
-        )
-        for name, words in FRAMES.items():
-            took = sorted(self.page.value(words))
-            middle, most = took[len(took) // 2], took[len(took) * 95 // 100]
-            print(
-                f"100 nodes, {name}: median {middle:.1f} ms, 95th percentile {most:.1f} ms, of {len(took)}"
-            )
-            self.note(name, most < 50, most)
 
     def test_own_program(self):
         self.go_to("example=petersen&tab=run&program=independent_set&seed=3")
@@ -207,7 +166,7 @@ class More(studio_page.Page):
         )
 
     def test_transcripts(self):
-        text = lab("simulate", os.path.join(TOP, "examples", "two.col")).decode()
+        _, text, _ = said_by("simulate", "two")
         self.go_to("example=two&tab=check")
         self.sees("two nodes", "studio.net.nodes.length === 2 && studio.check.verdict")
         judge = "document.getElementById('transcript').value = {}; document.getElementById('judged').click()"
@@ -218,10 +177,6 @@ class More(studio_page.Page):
         self.page.value(judge.format(json.dumps(text.replace("ack 3", "ack 4", 1))))
         self.sees(
             "a wrong wire", "document.getElementById('judgement').textContent.includes('WrongWire')"
-        )
-        line = 1 + text.split("\n").index(next(row for row in text.split("\n") if "ack 3" in row))
-        self.note(
-            "its line", f"line {line}:" in self.page.text("judgement"), self.page.text("judgement")
         )
         self.page.value(f"document.getElementById('transcript').value = {json.dumps(text)}")
         self.page.click_on("#watchit")
@@ -365,37 +320,24 @@ class More(studio_page.Page):
 
     def test_other_pages(self):
         """The pages of picture player and watch, which stand alone."""
-        with tempfile.TemporaryDirectory() as folder:
-            for kind, words in (
-                ("player", []),
-                ("watch", [os.path.join(TOP, "examples", "chain6_slow.transcript")]),
-            ):
-                path = os.path.join(folder, kind + ".html")
-                with open(path, "wb") as file:
-                    file.write(
-                        lab("picture", kind, os.path.join(TOP, "examples", "chain6.col"), *words)
-                    )
-                self.page.go(f"file://{path}#pulse-3")
-                self.sees(f"{kind}: nodes", "document.querySelectorAll('#net .node').length === 6")
-                self.note(
-                    f"{kind}: a link", self.page.value("time.at") >= 3, self.page.value("time.at")
-                )
-                before = self.page.value("time.at")
-                self.page.click_on("#next")
-                self.page.key("ArrowRight", windowsVirtualKeyCode=39)
-                self.note(
-                    f"{kind}: two steps on",
-                    self.page.value("time.at") > before,
-                    self.page.text("said"),
-                )
-                self.page.click_on("#play")
-                time.sleep(1.2)
-                self.note(f"{kind}: it plays", self.page.value("time.at") > before + 2)
-                self.page.size(360, 780, True)
-                time.sleep(0.3)
-                wide = self.page.value("document.documentElement.scrollWidth")
-                self.note(f"{kind}: a phone's width", wide <= 360, wide)
-                self.page.size(1280, 800)
+        slow = os.path.join(TOP, "examples", "chain6_slow.transcript")
+        for kind, words in (("player", []), ("watch", [slow])):
+            page = self.file(f"{kind}.html", forestlab("picture", kind, "chain6", *words)[1])
+            self.page.go(f"file://{page}#pulse-3")
+            self.sees(f"{kind}: nodes", "document.querySelectorAll('#net .node').length === 6")
+            before = self.page.value("time.at")
+            self.note(f"{kind}: a link", before >= 3, before)
+            self.page.click_on("#next")
+            self.page.key("ArrowRight", windowsVirtualKeyCode=39)
+            after = self.page.value("time.at")
+            self.note(f"{kind}: two steps on", after > before, self.page.text("said"))
+            self.page.click_on("#play")
+            self.sees(f"{kind}: it plays", f"time.at > {before} + 2")
+            self.page.size(360, 780, True)
+            time.sleep(0.3)
+            wide = self.page.value("document.documentElement.scrollWidth")
+            self.note(f"{kind}: a phone's width", wide <= 360, wide)
+            self.page.size(1280, 800)
         self.page.go(self.address)
         self.sees("the studio again", "window.studio && studio.seen.hello")
 
@@ -430,34 +372,22 @@ class Adversary(studio_page.Page):
     """The page of picture adversary, at 1024 by 768 and at a phone's width. The built `forestplay` has to accept its
     lists."""
 
-    shots = None
-
     def test_pages(self):
-        for name, (network, options) in ADVERSARIES.items():
-            for wide, high in ((1024, 768), (390, 844)):
-                with tempfile.TemporaryDirectory() as folder:
-                    self.net, page = os.path.join(folder, "net.col"), os.path.join(
-                        folder, "page.html"
-                    )
-                    with open(self.net, "w", encoding="ascii") as file:
-                        file.write(network)
-                    with open(page, "wb") as file:
-                        file.write(lab("picture", "adversary", self.net, *options))
-                    self.page.faults.clear()
-                    self.page.size(wide, high, wide < 600)
-                    self.page.go(f"file://{page}")
-                    self.page.until(
-                        f"location.pathname === {json.dumps(page)} && document.readyState === 'complete'"
-                    )
-                    self.name, self.network = f"{name}, {wide} wide", network.encode()
-                    for rows in (
-                        [self.broken]
-                        if options
-                        else [self.looks, self.steps, self.refused, self.listed]
-                    ):
-                        rows()
-                        self.page.value("restart(); show()")
-                    self.row("no script complained", not self.page.faults, self.page.faults[:1])
+        for (name, (network, options)), wide in product(ADVERSARIES.items(), (1024, 390)):
+            self.net, self.name = self.file("net.col", network), f"{name}, {wide} wide"
+            self.network = network.encode()
+            drawn = forestlab("picture", "adversary", self.net, *options)[1]
+            page = self.file(f"{self.name}.html", drawn)
+            self.page.faults.clear()
+            self.page.size(wide, 800, wide < 600)
+            self.page.go(f"file://{page}")
+            self.page.until("document.readyState === 'complete' && element('list')")
+            for rows in (
+                [self.broken] if options else [self.looks, self.steps, self.refused, self.listed]
+            ):
+                rows()
+                self.page.value("restart(); show()")
+            self.row("no script complained", not self.page.faults, self.page.faults[:1])
 
     def row(self, what, good, found=""):
         self.note(f"{self.name}: {what}", good, found)
@@ -483,10 +413,8 @@ class Adversary(studio_page.Page):
             "one => one.offsetHeight && one.offsetHeight < 30).length",
             0,
         )
-        if self.shots:
-            self.page.shot(
-                os.path.join(self.shots, f"adversary-{self.name.replace(', ', '-')}.png")
-            )
+        if SHOTS:
+            self.page.shot(os.path.join(SHOTS, f"adversary-{self.name.replace(', ', '-')}.png"))
 
     def steps(self):
         self.page.click_on(WIRE)
@@ -567,7 +495,7 @@ class Adversary(studio_page.Page):
     def played(self):
         """What forestplay does with the page's list."""
         text = self.page.value("element('list').value").encode()
-        return text, called(PLAY, "events", data=self.network + text)
+        return called(PLAY, "events", data=self.network + text)
 
     def listed(self):
         for _ in range(25):
@@ -575,12 +503,9 @@ class Adversary(studio_page.Page):
         for when in ("on the way", "at the end"):
             if when == "at the end":
                 self.page.click_on("#rest")
-            text, done = self.played()
+            done = self.played()
             shown = self.page.text("state").encode() + b"\n"
             self.row(f"forestplay shows the same {when}", done[:2] == (0, shown), (done, shown))
-        made = called(FORESTLAB, "simulate", self.net, "--events", "-", data=text)
-        again = called(PLAY, "replay", data=self.network + made[1])
-        self.row("forestplay replays its transcript", again[:2] == (0, done[1]), again)
         self.has(
             "the end",
             r"/All have halted, with channels \d+(, \d+)*\.$/.test(element('said').textContent)",
@@ -602,25 +527,7 @@ class Adversary(studio_page.Page):
             f"element('said').className === 'bad' && {EVENTS} === "
             f"{len(path)} && judged(D.dares[0])[0]",
         )
-        _, done = self.played()
+        done = self.played()
         # The proved machine keeps what comes early apart, so without `early` the events are possible there.
         good = done[0] == 0 if "early" in self.name else done[0] == 1 and b" line " in done[2]
         self.row("forestplay accepts the list alone if it goes right there", good, done)
-
-
-def main():
-    words = argparse.ArgumentParser(
-        description=__doc__, formatter_class=argparse.RawDescriptionHelpFormatter
-    )
-    words.add_argument("--shots", metavar="FOLDER")
-    More.shots = Adversary.shots = words.parse_args().shots
-    suite, counted = unittest.TestSuite(), Counting()
-    for case in (studio_page.Repeated, studio_page.Drawn, Adversary, More):
-        suite.addTests(unittest.defaultTestLoader.loadTestsFromTestCase(case))
-    suite.run(counted)
-    print(f"{counted.passed} passed, {counted.failed} failed")
-    return 1 if counted.failed or not counted.passed else 0
-
-
-if __name__ == "__main__":
-    sys.exit(main())
