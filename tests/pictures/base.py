@@ -20,8 +20,8 @@ BARRED = (
         for channel in bars
     )
 )
-# The form of the text that a kind draws, if it isn't that of rounds.
-FORM = dict.fromkeys(("plan",), "plan") | dict.fromkeys(("run", "overview"), "transcript")
+# The form of the text that a kind draws.
+FORM = {"plan": "plan", "run": "transcript", "overview": "transcript"}
 
 
 def painter(*words, data=b""):
@@ -44,7 +44,7 @@ class PictureCase(Case):
         if text is None and FORM.get(kind) == "plan":
             text = plan_text(network_of(network))
         if text is not None:
-            words += [f"--{FORM.get(kind, 'rounds')}", self.file("text", text)]
+            words += [f"--{FORM[kind]}", self.file("text", text)]
         return painter(kind, *words, *options)
 
     def drawn(self, kind, *given, **more):
@@ -57,8 +57,3 @@ class PictureCase(Case):
     def rows_of(self, name):
         """What makes the rows of a picture: `row(what, shown, wanted)`."""
         return lambda what, shown, wanted: self.same(f"{name}: {what}", shown, wanted)
-
-    def facts(self, name, found):
-        """Rows of what a picture shows and of what it has to, by their names."""
-        for what, (shown, wanted) in found.items():
-            self.same(f"{name}: {what}", shown, wanted)

@@ -45,27 +45,18 @@ class Counted:
             if (w, kind, p) not in self.taken and (kind != "ack" or (w, p) in self.asked)
         ]
 
-    def stage(self):
-        if self.pulse == self.last:
-            return "last"
-        kinds = {kind for kind, _ in self.waits()}
-        if "ack" in kinds:
-            return "asks"
-        return "safe" if kinds else "ready"
-
-    def level(self, w):
-        """How far a neighbour is known to be: (safes, whether the next pulse's payload is here) above its own pulse."""
-        safes = sum((w, "safe", p) in self.taken for p in (self.pulse, self.pulse + 1))
-        return safes, safes < 2 and (w, "payload", self.pulse + safes) in self.taken
+    def early(self):
+        """What came a pulse early: payloads of the next pulse, and safes of it."""
+        after = self.pulse + 1
+        safes = [["safe", w] for w in self.near if (w, "safe", after) in self.taken]
+        return self.payloads(after) + safes
 
 
 def played(network, text):
-    """Of each entry of a run its node after it, its kind and further words, and the node's stage and its ports' levels
-    before and after it."""
+    """The node of each entry of a run, after it."""
     net, lines = network_of(network), fields_of(text)
     nodes = {v: Counted(v, ws, last_pulse(net), lines) for v, ws in net.neighbours.items()}
-    for _, v, kind, *more in lines:
+    for _, v, *step in lines:
         node = nodes[int(v)]
-        before = [node.stage(), *map(node.level, node.near)]
-        node.step(kind, *more)
-        yield node, kind, more, before, [node.stage(), *map(node.level, node.near)]
+        node.step(*step)
+        yield node

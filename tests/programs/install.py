@@ -23,6 +23,8 @@ from tests.tools import need
 # Seconds; a busy machine takes long for the many calls of help that the manual pages are made of.
 LIMIT = 600
 NAMES = [*PROGRAMS, "forestlab"]
+# Stored pictures that version 0.5 drew, of kinds that there are no more.
+OF_NO_KIND = {"petersen-automaton.svg", "petersen-tally.svg"}
 BUILD = [sys.executable, os.path.join(TOP, "build")]
 ENVIRONMENT = dict(os.environ, COLUMNS="80")
 
@@ -135,6 +137,8 @@ class Install(Case):
         drawn = re.findall(
             r"-o docs/pictures/(\S+)$", contents(os.path.join(folder, "draw.sh")).decode(), re.M
         )
+        pictures = {name for name in os.listdir(folder) if re.search(r"\.(svg|html)$", name)}
+        self.same("stored pictures without a command", pictures - {*drawn}, OF_NO_KIND)
         for name in drawn:
             os.remove(os.path.join(folder, name))
         done = self.line("sh docs/pictures/draw.sh")
