@@ -111,6 +111,8 @@ class Sandbox(Guard):
             raise Wrong(
                 f"what is submitted is graded in bubblewrap, which isn't here: `apt install bubblewrap`, or {INSTEAD}"
             ) from None
+        except subprocess.SubprocessError:
+            raise Wrong(f"calls can't be refused here, as grading needs it: {INSTEAD}") from None
         if done.returncode:
             raise Wrong(
                 f"bubblewrap (0.8 or later) can't start here ({done.stderr.strip()}): {INSTEAD}"

@@ -8,6 +8,7 @@ import socket
 import subprocess
 from unittest import mock
 
+from lab.workshop import sandbox
 from lab.workshop.compiling import compiled, unpack
 from lab.workshop.findings import Fault
 from lab.workshop.guard import Guard, Limits
@@ -344,6 +345,9 @@ class Sandboxed(Case):
     def test_where_it_cant_be(self):
         """One sentence, which says what to do. Where it isn't installed: grade.py."""
         guard, _ = self.guards()
+        refused = mock.patch.object(sandbox, "SECCOMP", 0)
+        with refused, self.assertRaisesRegex(Wrong, "can't be refused here.*docker run"):
+            guard.try_out()
         guard.container.append("--no-such-word")
         with self.assertRaises(Wrong) as why:
             guard.try_out()
