@@ -18,13 +18,12 @@ import signal
 import subprocess
 import sys
 import tempfile
-import textwrap
 from collections import defaultdict
 from concurrent.futures import ThreadPoolExecutor
 
 from build import program
 from tests import TOP
-from tests.settings import PATHS, SETTINGS, built, variable
+from tests.settings import MORE_HELP, PATHS, built
 from tests.tools import not_run
 
 # The modules that take longest, which begin first.
@@ -37,23 +36,11 @@ LONGEST = (
 
 
 def options():
-    more = "Status: 0 all passed, 1 a row failed, 2 the command line is refused.\n\nSettings are variables:\n"
-    for name, (default, what) in SETTINGS.items():
-        shown = os.path.relpath(default, TOP) if default.startswith(TOP) else default
-        more += (
-            textwrap.fill(
-                f"{what} (default: {shown or 'none'})",
-                100,
-                initial_indent=f"  {variable(name):18} ",
-                subsequent_indent=" " * 21,
-            )
-            + "\n"
-        )
     words = argparse.ArgumentParser(
         prog="tests",
         usage="python3 -m tests [NAME ..] [options]",
         description=__doc__,
-        epilog=more,
+        epilog=MORE_HELP,
         formatter_class=argparse.RawDescriptionHelpFormatter,
     )
     words.add_argument("names", metavar="NAME", nargs="*")
@@ -73,19 +60,11 @@ def options():
 
 def is_named(name, test):
     """Whether a name of the command line means a test, which is named MODULE.CLASS.test_x."""
-    name = (
-        name.removeprefix("tests/")
-        .removeprefix("tests.")
-        .removesuffix(".py")
-        .rstrip("/")
-        .replace("/", ".")
-    )
-    return (
-        test.startswith(name + ".")
-        or test == name
-        or name in test.split(".")
-        or name in test.split(".")[-1]
-    )
+    for begin in ("tests/", "tests."):
+        name = name.removeprefix(begin)
+    name = name.removesuffix(".py").rstrip("/").replace("/", ".")
+    *folders, last = test.split(".")
+    return f"{test}.".startswith(f"{name}.") or name in folders or name in last
 
 
 def chosen_tests(names, words):

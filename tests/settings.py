@@ -1,57 +1,46 @@
-"""What the tests run with: settings with a name and a default, which an environment variable `TESTS_NAME` changes."""
+"""What the tests run with: settings with a default, which an environment variable `TESTS_NAME` changes."""
 import os
 
 from tests import TOP
+
+MORE_HELP = """\
+Status: 0 all passed, 1 a row failed, 2 the command line is refused.
+
+Settings are variables, here with their defaults:
+  TESTS_PLAN         the program forestplan: crates/forestplan/out/forestplan
+  TESTS_PLAY         the program forestplay: crates/forestplay/out/forestplay
+  TESTS_SECOND_PLAN, TESTS_SECOND_PLAY
+                     both as the second compiler builds them: the same with .by-rattle
+  TESTS_CRATE_TESTS  the tests of crates/checks: crates/checks/out/checks_tests
+  TESTS_LIMIT        1200: how many seconds a test may take; one that takes longer is
+                     ended, and has failed
+  TESTS_TEXTS        10000: how many random texts programs.hostile makes
+  TESTS_SEED         2026: the seed of these random texts
+  TESTS_RUNS         40: how many runs of threads programs.transcripts checks
+  TESTS_SEQUELS      12: how many networks by chance programs.sequel_runs plays
+  TESTS_SPOILED      1000: how many spoiled transcripts programs.transcripts makes
+"""
+DEFAULTS = {
+    "limit": "1200",
+    "texts": "10000",
+    "seed": "2026",
+    "runs": "40",
+    "sequels": "12",
+    "spoiled": "1000",
+}
 
 
 def built(name):
     return os.path.join(TOP, "crates", name, "out", name)
 
 
-# The default, and what it is.
-SETTINGS = {
-    "plan": (built("forestplan"), "the program forestplan"),
-    "play": (built("forestplay"), "the program forestplay"),
-    "second-plan": (
-        built("forestplan") + ".by-rattle",
-        "forestplan as the second compiler builds it",
-    ),
-    "second-play": (
-        built("forestplay") + ".by-rattle",
-        "forestplay as the second compiler builds it",
-    ),
-    "crate-tests": (
-        os.path.join(TOP, "crates", "checks", "out", "checks_tests"),
-        "the tests of crates/checks",
-    ),
-    "limit": (
-        "1200",
-        "how many seconds a test may take; one that takes longer is ended, and has failed",
-    ),
-    "texts": ("10000", "how many random texts programs.hostile makes, over all commands"),
-    "seed": ("2026", "the seed of these random texts"),
-    "runs": (
-        "90",
-        "how many whole runs of threads programs.transcripts checks; 1000 take some minutes",
-    ),
-    "sequels": (
-        "12",
-        "how many networks by chance programs.sequel_runs plays; 1000 take some minutes",
-    ),
-    "spoiled": ("2000", "how many spoiled transcripts programs.transcripts makes"),
-}
+def setting(name, default=None):
+    return os.environ.get(f"TESTS_{name.upper()}", default or DEFAULTS[name])
 
 
-def variable(name):
-    return "TESTS_" + name.upper().replace("-", "_")
-
-
-def setting(name):
-    return os.environ.get(variable(name), SETTINGS[name][0])
-
-
-PLAN, PLAY, SECOND_PLAN, SECOND_PLAY, CRATE_TESTS = (
-    os.path.abspath(setting(name))
-    for name in ("plan", "play", "second-plan", "second-play", "crate-tests")
-)
+PLAN = os.path.abspath(setting("plan", built("forestplan")))
+PLAY = os.path.abspath(setting("play", built("forestplay")))
+SECOND_PLAN = os.path.abspath(setting("second_plan", built("forestplan") + ".by-rattle"))
+SECOND_PLAY = os.path.abspath(setting("second_play", built("forestplay") + ".by-rattle"))
+CRATE_TESTS = setting("crate_tests", f"{TOP}/crates/checks/out/checks_tests")
 PATHS = {"forestplan": PLAN, "forestplay": PLAY}

@@ -22,21 +22,10 @@ def refusal(fault):
 # (name, input, output), in which '|' is a line feed
 WORKED = [
     ("no node", "p edge 0 0|", ""),
-    ("a node alone", "p edge 1 0|", "node 1 pulse 0|"),
-    (
-        "a node alone at its last pulse",
-        "p edge 1 0|" + 12 * "pulse 1|",
-        "node 1 pulse 12 channel 1|",
-    ),
     (
         "a node alone with a bar at its last pulse",
         "p edge 1 0|b 1 1|b 1 3|" + 12 * "pulse 1|",
         "node 1 pulse 12 channel 2|",
-    ),
-    (
-        "the start of an edge",
-        EDGE,
-        "node 1 pulse 0|link 1 2 taken 0|node 2 pulse 0|link 2 1 taken 0|",
     ),
     (
         "no line feed at the end",
@@ -58,14 +47,10 @@ WORKED = [
 # (input, fault): faults of the text, of the network, of the reading of events, of an event, in this order. What else a
 # text may be, and random lists of events, are for hostile.py.
 REFUSED = [
-    ("put 1 0|", "F1"),
     ("p edge 2 1|e 1 1|put 1 0|x|", "F6 line 2"),
-    (EDGE + "events|put 1 0|", "F8 line 3"),
     ("p edge 2 1|put 1 0|e 1 2|", "NoEvent line 3"),
     (EDGE + "pulse 1|put 1|", "NoEvent line 4"),
-    (EDGE + "pulse 3|", "NoSuch line 3"),
     (EDGE + "put 1 18446744073709551616|", "NoSuch line 3"),
-    (EDGE + "pulse 1|", "NotReady line 3: ack 0 of 2; safe 0 of 2"),
     (EDGE + "c|put 1 0||take 2 0|take 2 0|take 2 0|", "LinkEmpty line 7: link from 1 to 2"),
     (
         EDGE + "put 1 0|take 2 0|put 2 0|put 2 0|take 1 0|take 1 0|pulse 1|",
@@ -101,11 +86,9 @@ REPLAYED = [
 # stamps.
 GREETING = "1 put 2 payload 0 hello 1|"
 NOT_REPLAYED = [
-    ("transcript 1 2|", "F1"),
     (EDGE, "X1 line 1"),
     ("p edge 2 1|e 1 1|transcript 1 2|x|", "F6 line 2"),
     (EDGE + "transcript 1 2|1 take 2 close|1 pulse|", "X1 line 5"),
-    (EDGE + "transcript 1 2|1 put 3 close|", "NoSuch line 4"),
     (EDGE + "transcript 1 2|1 take 2 close|", "LinkEmpty line 4: link from 2 to 1"),
     (
         EDGE + "transcript 1 2||" + GREETING + "|1 put 2 ack 0|",
@@ -153,12 +136,14 @@ def answer_of(net, events):
     return 0, state_text(net, state, taken), b""
 
 
-def random_events(source, net, count):
-    """Events that are possible in their place; now and then any event."""
+def random_events(source, net, count, odd=0.002):
+    """Events that are possible in their place, until none is; now and then any event."""
     state, events = NetState(net), []
     for _ in range(count):
         possible = list(state.possible())
-        if not possible or source.random() < 0.002:
+        if not possible and not odd:
+            break
+        if not possible or source.random() < odd:
             kind = source.choice(["Pulse", "Put", "Take"])
             event = (
                 kind,
@@ -201,18 +186,9 @@ class Events(Case):
         """Events to the end, by the program as each of two compilers builds it (the gate leaves that of Rattle's own
         beside the other): every node has halted, nothing waits, and the channels are the colours plus one.
         """
-        source = random.Random(SEED)
-        for network in (
-            TRIANGLE,
-            TRIANGLE + "b 3 1|",
-            "p edge 5 5|e 1 2|e 1 3|e 1 4|e 1 5|e 2 3|",
-            "p edge 3 1|e 1 3|",
-        ):
+        for network in (TRIANGLE + "b 3 1|", "p edge 5 5|e 1 2|e 1 3|e 1 4|e 1 5|e 2 3|"):
             net = network_of(text(network))
-            state, events = NetState(net), []
-            while possible := list(state.possible()):
-                events.append(source.choice(possible))
-                state.step(*events[-1])
+            events = random_events(random.Random(SEED), net, 10_000, 0)
             data = text(network) + "".join(words_of(event) + "\n" for event in events).encode()
             wanted = answer_of(net, [(None, *event) for event in events])
             for program in (PLAY, SECOND_PLAY):

@@ -1,6 +1,7 @@
 """Tests of the module `forestplan` of lab/python, and of the notebook examples/forestplan.ipynb that shows it."""
 import ast
 import contextlib
+import functools
 import io
 import json
 import os
@@ -22,6 +23,46 @@ import forestplan  # noqa: E402
 NOTEBOOK = os.path.join(TOP, "examples", "forestplan.ipynb")
 # Four nodes in a ring, one with an edge to itself and one in both directions.
 SQUARE = {"Ulm": ["Aue", "Bonn"], "Aue": ["Ulm", "Hof"], "Hof": [], "Bonn": ["Hof", "Bonn"]}
+
+
+# By the call and what it raises: words of a refusal, and what is given. A plan is asked of a graph, bars and a licence;
+# and a graph, a plan, bars and a licence are checked.
+REFUSED = {
+    (forestplan.plan, TypeError): (
+        ("a list is no graph", [("Ulm", "Aue")]),
+        ("a dict_items is no graph", SQUARE.items()),
+        ("the neighbours of 'Ulm' are 'Aue'", {"Ulm": "Aue"}),
+        ("the neighbours of 'Ulm' are None", {"Ulm": None}),
+        ("the neighbours of 'a' are {'b': 0}", {"a": {"b": 0}, "b": {}}),
+        ("a bar of 'Ulm' is False", SQUARE, {"Ulm": [False, True]}),
+        ("a bar of 'Ulm' is '6'", SQUARE, {"Ulm": ["6"]}, [6, 1, 11]),
+        ("the bars of 'Ulm' are '16'", SQUARE, {"Ulm": "16"}),
+        ("the bars of 'Ulm' are 6", SQUARE, {"Ulm": 6}),
+        ("the licence is '1-3'", SQUARE, None, "1-3"),
+        ("the licence is {1}", SQUARE, None, {1}),
+        ("a channel of the licence is 36.5", SQUARE, None, [36.5, 40]),
+    ),
+    (forestplan.plan, ValueError): (
+        ("a neighbour of 0 comes twice", {0: [0, 1, 0], 1: [1, 0, 1], 2: [0, 1, 0]}),
+        ("is 'a', which has no entry", {"source": ["a"], "target": ["b"]}),
+        ("is ('b', 5), which has no entry", {"a": [("b", 5)], "b": []}),
+        ("a bar of 'Ulm' is 0", SQUARE, {"Ulm": [0]}),
+        ("a bar of 'Ulm' is 2049", SQUARE, {"Ulm": [2049]}),
+        ("a channel of the licence is -1", SQUARE, None, [0, -1]),
+        ("the licence has 1", SQUARE, None, [36]),
+        ("names a channel twice", SQUARE, None, [36, 36]),
+        ("'Prag' is no node", SQUARE, {"Prag": {1}}),
+    ),
+    (forestplan.check, TypeError): (
+        ("the channel of 'Ulm' is 2.0", SQUARE, {"Ulm": 2.0}),
+        ("a list is no plan", SQUARE, [1, 2]),
+    ),
+    (forestplan.check, ValueError): (
+        ("the channel of 'Ulm' is 0", SQUARE, {"Ulm": 0}),
+        ("the plan has 'Prag'", SQUARE, {"Prag": 1}),
+        ("isn't in the licence", SQUARE, {"Ulm": 1}, None, [7, 8, 9]),
+    ),
+}
 
 
 class Graph:
@@ -67,11 +108,8 @@ class InPython(Case):
             edges = {
                 frozenset((order[v - 1], order[w - 1])) for v, w in network_of(text.encode()).edges
             }
-            self.note(
-                f"edges {count}",
-                edges == {frozenset(pair) for pair in pairs if pair[0] != pair[1]},
-                edges,
-            )
+            meant = {frozenset(pair) for pair in pairs if pair[0] != pair[1]}
+            self.same(f"edges {count}", edges, meant)
             self.note(f"check {count}", forestplan.check(graph, got, bars=bars) == max(channels))
 
     def test_licence(self):
@@ -79,110 +117,16 @@ class InPython(Case):
         self.note("a triangle, by hand", triangle == {"Ulm": 2, "Aue": 3, "Hof": 1}, triangle)
         got = forestplan.plan(SQUARE, bars={"Ulm": {36, 99}}, licence=[36, 40, 44, 48])
         self.note("real channels", set(got.values()) <= {36, 40, 44, 48} and got["Ulm"] != 36, got)
-        self.note(
-            "they are judged", forestplan.check(SQUARE, got, {"Ulm": {36}}, [36, 40, 44, 48]) <= 4
-        )
+        most = forestplan.check(SQUARE, got, {"Ulm": {36}}, [36, 40, 44, 48])
+        self.note("they are judged", most <= 4, most)
 
     def test_kinds(self):
         """What is no graph, no list and no whole number is refused, and says where it is; it isn't taken letter by
         letter."""
-
-        class Table:
-            def __iter__(self):
-                return iter(("Ulm", "Aue"))
-
-            def __getitem__(self, name):
-                return [0, 1]
-
-        for kind, words, call in (
-            (TypeError, "a Table is no graph", lambda: forestplan.plan(Table())),
-            (TypeError, "a list is no graph", lambda: forestplan.plan([("Ulm", "Aue")])),
-            (
-                TypeError,
-                "the neighbours of 'Ulm' are 'Aue'",
-                lambda: forestplan.plan({"Ulm": "Aue"}),
-            ),
-            (TypeError, "the neighbours of 'Ulm' are None", lambda: forestplan.plan({"Ulm": None})),
-            (
-                ValueError,
-                "a neighbour of 0 comes twice",
-                lambda: forestplan.plan({0: [0, 1, 0], 1: [1, 0, 1], 2: [0, 1, 0]}),
-            ),
-            (
-                TypeError,
-                "the neighbours of 'a' are {'b': 0}",
-                lambda: forestplan.plan({"a": {"b": 0}, "b": {}}),
-            ),
-            (
-                ValueError,
-                "a neighbour of 'source' is 'a', which has no entry",
-                lambda: forestplan.plan({"source": ["a"], "target": ["b"]}),
-            ),
-            (
-                ValueError,
-                "is ('b', 5), which has no entry",
-                lambda: forestplan.plan({"a": [("b", 5)], "b": []}),
-            ),
-            (
-                TypeError,
-                "a bar of 'Ulm' is False",
-                lambda: forestplan.plan(SQUARE, {"Ulm": [False, True]}),
-            ),
-            (
-                TypeError,
-                "a bar of 'Ulm' is '6'",
-                lambda: forestplan.plan(SQUARE, {"Ulm": ["6"]}, [6, 1, 11]),
-            ),
-            (
-                TypeError,
-                "the bars of 'Ulm' are '16'",
-                lambda: forestplan.plan(SQUARE, {"Ulm": "16"}),
-            ),
-            (TypeError, "the bars of 'Ulm' are 6", lambda: forestplan.plan(SQUARE, {"Ulm": 6})),
-            (ValueError, "a bar of 'Ulm' is 0", lambda: forestplan.plan(SQUARE, {"Ulm": [0]})),
-            (
-                ValueError,
-                "a bar of 'Ulm' is 2049",
-                lambda: forestplan.plan(SQUARE, {"Ulm": [2049]}),
-            ),
-            (TypeError, "the licence is '1-3'", lambda: forestplan.plan(SQUARE, licence="1-3")),
-            (TypeError, "the licence is {1}", lambda: forestplan.plan(SQUARE, licence={1})),
-            (
-                TypeError,
-                "a channel of the licence is 36.5",
-                lambda: forestplan.plan(SQUARE, licence=[36.5, 40]),
-            ),
-            (
-                ValueError,
-                "a channel of the licence is -1",
-                lambda: forestplan.plan(SQUARE, licence=[0, -1]),
-            ),
-            (
-                TypeError,
-                "the channel of 'Ulm' is 2.0",
-                lambda: forestplan.check(SQUARE, {"Ulm": 2.0}),
-            ),
-            (ValueError, "the channel of 'Ulm' is 0", lambda: forestplan.check(SQUARE, {"Ulm": 0})),
-            (ValueError, "the licence has 1", lambda: forestplan.plan(SQUARE, licence=[36])),
-            (
-                ValueError,
-                "names a channel twice",
-                lambda: forestplan.plan(SQUARE, licence=[36, 36]),
-            ),
-            (ValueError, "'Prag' is no node", lambda: forestplan.plan(SQUARE, bars={"Prag": {1}})),
-            (ValueError, "the plan has 'Prag'", lambda: forestplan.check(SQUARE, {"Prag": 1})),
-            (
-                ValueError,
-                "isn't in the licence",
-                lambda: forestplan.check(SQUARE, {"Ulm": 1}, licence=[7, 8, 9]),
-            ),
-            (TypeError, "a list is no plan", lambda: forestplan.check(SQUARE, [1, 2])),
-            (TypeError, "a dict_items is no graph", lambda: forestplan.plan(SQUARE.items())),
-        ):
-            with self.subTest(words):
-                why = self.refused(kind, call)
-                self.assertIn(words, str(why))
-                self.assertNotIsInstance(why, forestplan.Refused)
+        for (call, kind), rows in REFUSED.items():
+            for words, *given in rows:
+                why = self.refused(kind, functools.partial(call, *given))
+                self.note(words, words in str(why) and type(why) is kind, why)
 
     def test_refused(self):
         plan = {"Ulm": 1, "Aue": 1, "Hof": 2, "Bonn": 3}
@@ -201,39 +145,33 @@ class InPython(Case):
         )
 
     def test_rounds(self):
+        """Its pulses, states and messages, put together again node by node, are the rounds by the definition."""
         text, order = forestplan.text_of(SQUARE)
-        wanted = rounds_text(network_of(text.encode())).decode().split("\n")
-        got = forestplan.rounds(SQUARE)
-        lines = [
-            f"{order.index(one.sender) + 1} put {order.index(one.receiver) + 1} payload {pulse.number} {one.word} "
-            f"{one.value}"
-            for pulse in got
-            for one in pulse.messages
-        ]
-        self.note(
-            "the messages of the rounds",
-            lines == [line for line in wanted if " put " in line],
-            lines,
-        )
-        self.note("its pulses", [pulse.number for pulse in got] == list(range(len(got))))
-        count = sum(line.split()[1:2] in (["colour"], ["chose"]) for line in wanted)
-        self.note("its states", sum(len(pulse.states) for pulse in got) == count, count)
+        lines, number = [], {node: v for v, node in enumerate(order, 1)}
+        for pulse in forestplan.rounds(SQUARE):
+            of_nodes = [(number[node], words) for node, words in pulse.states]
+            of_nodes += [
+                (
+                    number[it.sender],
+                    f"put {number[it.receiver]} payload {pulse.number} {it.word} {it.value}",
+                )
+                for it in pulse.messages
+            ]
+            lines.append(f"pulse {pulse.number} {pulse.phase}")
+            lines += [f"{v} {words}" for v, words in sorted(of_nodes, key=lambda it: it[0])]
+        wanted = rounds_text(network_of(text.encode())).decode().splitlines()[1:]
+        self.same("the rounds", lines, wanted)
 
     def test_transcript(self):
+        """Its entries, put together again, are the lines of the run."""
         got = forestplan.transcript(SQUARE, workers=1)
-        puts = [(entry.node, entry.other, entry.wire) for entry in got if entry.kind == "put"]
-        takes = [(entry.other, entry.node, entry.wire) for entry in got if entry.kind == "take"]
-        self.note(
-            "what is put is taken", sorted(puts) == sorted(takes) and len(puts) > 100, len(puts)
-        )
-        self.note(
-            "by stamps", [entry.stamp for entry in got] == sorted(entry.stamp for entry in got)
-        )
-        self.note(
-            "payloads of the rounds",
-            sum("payload" in wire for _, _, wire in puts)
-            == sum(len(pulse.messages) for pulse in forestplan.rounds(SQUARE)),
-        )
+        number = {node: v for v, node in enumerate(forestplan.text_of(SQUARE)[1], 1)}
+        lines = [
+            f"{it.stamp} {number[it.node]} {it.kind} {number.get(it.other, it.other)} {it.wire}".strip()
+            for it in got
+        ]
+        self.same("the entries", lines, got.text.splitlines()[1:])
+        self.note("all of a run", len(lines) > 100, len(lines))
 
     def test_pictures(self):
         for one in (
@@ -248,24 +186,13 @@ class InPython(Case):
             )
 
     def test_networkx(self):
-        """A graph of networkx, if that is installed: its own plan is judged, and a plan of ours is proper to it."""
+        """A graph of networkx, if that is installed, with loops and edges in both directions; the notebook has more."""
         need(self, "networkx")
         import networkx
 
-        for graph in (
-            networkx.karate_club_graph(),
-            networkx.MultiDiGraph([(1, 2), (2, 1), (2, 2), (2, 3)]),
-        ):
-            got = forestplan.plan(graph)
-            self.note(
-                "proper",
-                all(got[a] != got[b] for a, b in graph.edges() if a != b)
-                and set(got) == set(graph),
-            )
-            simple = networkx.Graph(graph)
-            simple.remove_edges_from(list(networkx.selfloop_edges(simple)))
-            greedy = {node: colour + 1 for node, colour in networkx.greedy_color(simple).items()}
-            self.note("greedy", forestplan.check(graph, greedy) == max(greedy.values()))
+        graph = networkx.MultiDiGraph([(1, 2), (2, 1), (2, 2), (2, 3)])
+        got = forestplan.plan(graph)
+        self.note("proper", got[1] != got[2] != got[3] and set(got) == {1, 2, 3}, got)
 
     def test_notebook(self):
         """Each cell of the notebook writes what is stored below it; those with networkx only if that is installed."""

@@ -14,10 +14,9 @@ from tests.settings import PLAY
 
 ROW, ALONE, NONE = "p edge 3 2|e 1 2|e 2 3|", "p edge 1 0|", "p edge 0 0|"
 # Node 1 has the identifier 9 and no neighbour, and nobody the identifier 1; a path of five with the identifier 1 at
-# vertex 2, and vertex 6 alone; a triangle with a tail, which has the identifier 1; a square whose root is vertex 4.
+# vertex 2, and vertex 6 alone; a square whose root is vertex 4.
 APART, BARRED = "p edge 3 1|i 1 9|e 2 3|", EDGE + "b 1 1|"
 LONG = "p edge 6 4|i 1 9|i 2 1|i 3 20|i 4 5|i 5 8|e 1 2|e 2 3|e 3 4|e 4 5|"
-TAIL = "p edge 4 4|i 1 3|i 2 6|i 3 8|i 4 1|e 1 2|e 1 3|e 2 3|e 3 4|"
 SQUARE = "p edge 4 4|i 1 8|i 2 6|i 4 1|e 1 2|e 1 3|e 2 4|e 3 4|"
 # The port is a number of the network, and not of an order of identifiers: vertex 3 is between 5 and 1.
 BETWEEN = "p edge 5 2|i 1 4|i 2 3|i 3 2|i 4 9|i 5 1|e 3 5|e 1 3|"
@@ -27,25 +26,21 @@ ENDS = [
     ("leader", ROW, 3, "leader 3|leader 3|leader 3 elected"),
     ("leader", APART, 3, "leader 9 elected|leader 3|leader 3 elected"),
     ("leader", NONE, 0, ""),
-    ("layers", ROW, 2, "layer 0|layer 1 by 0 to 1|layer 2 by 0 to 2"),
     ("layers", APART, 2, "layer none|layer none|layer none"),
     ("layers", NONE, 0, ""),
     # A node alone has no pulse to make before it knows its layer.
     ("layers", ALONE, 0, "layer 0"),
     # Two ways lead from vertex 1 to the root, and the one by the lesser port is taken.
     ("layers", SQUARE, 3, "layer 2 by 0 to 2|layer 1 by 1 to 4|layer 1 by 1 to 4|layer 0"),
-    ("layers --root 1", SQUARE, 3, "layer 0|layer 1 by 0 to 1|layer 1 by 0 to 1|layer 2 by 0 to 2"),
     ("layers --root 3", ROW, 2, "layer 2 by 0 to 2|layer 1 by 1 to 3|layer 0"),
     # The vertex has the identifier already.
     ("layers --root 1", ROW, 2, "layer 0|layer 1 by 0 to 1|layer 2 by 0 to 2"),
-    ("layers --root 3", APART, 2, "layer none|layer 1 by 0 to 3|layer 0"),
     (
         "layers --root 4",
         LONG,
         5,
         "layer 3 by 0 to 2|layer 2 by 1 to 3|layer 1 by 1 to 4|layer 0|layer 1 by 0 to 4|layer none",
     ),
-    ("layers --root 2", TAIL, 3, "layer 1 by 0 to 2|layer 0|layer 1 by 1 to 2|layer 2 by 0 to 3"),
     (
         "layers --root 5",
         BETWEEN,
@@ -64,7 +59,6 @@ ENDS = [
     ("independent-set", ROW, 24, "in|out|in"),
     ("recolouring --passes 2", ROW, 27, "channel 1|channel 2|channel 1"),
     # The plan is 2 1, since channel 1 is barred at node 1: it can't take another one, and node 2 has the least.
-    ("recolouring --passes 1", BARRED, 24, "channel 2|channel 1"),
     ("recolouring --passes 3", BARRED, 30, "channel 2|channel 1"),
     ("recolouring --passes 2", ALONE, 14, "channel 1"),
     ("recolouring --passes 3", NONE, 15, ""),
@@ -173,13 +167,10 @@ EVENTS = [
 NO_HEADS = (
     "3 leader x",
     "3 leader",
-    "3 2",
     "3 leader 2 2",
     "2 leader 2",
     "4 leader 2",
     "3 -set 2",
-    "3 set- 2",
-    "3 - 2",
     "3 independent_set 2",
     "3 Leader 2",
     "3 lead\x1ber 2",
@@ -187,50 +178,23 @@ NO_HEADS = (
 # Payloads, of programs and of none, within the bounds of numbers and above.
 PAYLOADS = [
     *product(
-        (
-            "hello",
-            "label",
-            "colour",
-            "chosen",
-            "leader",
-            "hops",
-            "hop",
-            "free",
-            "take",
-            "joined",
-            "anew",
-        ),
-        ("", 0, 1, 2**16 - 1, 2**16, 2**32 - 1, 2**32, 2**128 - 1, 2**128),
+        "hello label colour chosen leader hops hop free take joined anew".split(),
+        ("", 2**16 - 1, 2**16, 2**32 - 1, 2**32, 2**128 - 1, 2**128),
     )
 ]
 NAMED = "transcript 3 leader 2||1 1 put 2 payload 0 "
+# A node alone makes 14 pulses in two passes.
+PULSES_OF_TWO = "".join(f"1 pulse {p}|" for p in range(1, 15))
 # A command, its program, its input and the fault. The text comes first, then the root, then what is wrong in later
 # lines, and the network last.
 REFUSED = [
     ("replay", "leader", EDGE + NAMED + "leader 1|", "NotWhole line 5"),
     ("replay", "leader", EDGE + NAMED + "hops 0|", "X1 line 5"),
     ("replay", "layers", EDGE + NAMED + "hops 0|", "WrongProgram line 3: leader"),
-    ("replay", "colouring", EDGE + NAMED + "x|", "WrongProgram line 3: leader"),
     ("replay", "colouring", EDGE + "transcript 3 colouring 2|", "NotWhole line 3"),
-    ("replay", "layers", EDGE + "transcript 3 leader x|", "WrongProgram line 3: leader"),
-    (
-        "replay",
-        "leader",
-        EDGE + "transcript 3 independent-set 2|",
-        "WrongProgram line 3: independent-set",
-    ),
-    ("replay", "independent-set", EDGE + "transcript 3 independent-set 2|", "NotWhole line 3"),
-    (
-        "replay",
-        "independent-set",
-        EDGE + "transcript 3 independentset 2|",
-        "WrongProgram line 3: independentset",
-    ),
     ("run", "layers --root 4", ROW, "NoRoot vertex 4"),
-    ("rounds", "layers --root 20000", ROW, "NoRoot vertex 20000"),
     ("run", "layers --root 1", NONE, "NoRoot vertex 1"),
     ("rounds", "layers --root 9", "p edge 2 1|e 1 1|", "F6 line 2"),
-    ("rounds", "layers --root 3", "p edge 2 0|i 1 5|i 2 5|", "NoRoot vertex 3"),
     ("run", "layers --root 1", "p edge 2 0|i 1 5|i 2 5|", "N2 vertices 1 2"),
     # Two vertices of identifier 1 stay two of one identifier, whichever is the root.
     ("rounds", "layers --root 2", "p edge 3 0|i 1 1|i 2 1|", "N2 vertices 1 2"),
@@ -243,23 +207,31 @@ REFUSED = [
         "LinkEmpty line 5: link from 2 to 1",
     ),
     ("replay", "layers --root 3", EDGE + "transcript 3 leader 2|", "NoRoot vertex 3"),
+    # A transcript of a run with another root, and of one with another number of passes.
     (
         "replay",
         "layers --root 2",
         EDGE + "transcript 1 2|1 put 2 payload 0 hops 0|",
         "WrongWire line 4: expected safe 0",
     ),
+    (
+        "replay",
+        "recolouring --passes 1",
+        f"{ALONE}transcript 1 1|{PULSES_OF_TWO}",
+        "NotReady line 16: pulse 13 is the last",
+    ),
 ]
 # Words of any command that takes a program, and a part of what is said of them. A root is looked at before the passes.
 WRONG = [
     ("--program recolouring --passes 1 --passes 1", "'--passes <N>' cannot be used multiple times"),
     (
-        "--program recolouring --passes 2 --root 1",
-        "'--root <V>' cannot be used with '--program recolouring'",
-    ),
-    (
         "--program layers --passes 2 --root 1",
-        "'--passes <N>' cannot be used with '--program layers'",
+        "error: the argument '--passes <N>' cannot be used with '--program layers'\n"
+        "  [only with: --program recolouring]\n\nFor more information, try '--help'.\n",
+    ),
+    *(
+        (f"--program {name} --root 1", f"'--root <V>' cannot be used with '--program {name}'")
+        for name in ("colouring", "leader", "matching", "independent-set", "recolouring")
     ),
     ("--passes 2", "'--passes <N>' cannot be used with '--program colouring'"),
     *(
@@ -268,7 +240,7 @@ WRONG = [
             f"error: invalid value '{word}' for '--program <NAME>'\n  [possible values: colouring, "
             "leader, layers, matching, independent-set, recolouring]\n",
         )
-        for word in ("colour", "", "Leader", "layers2", "independent_set")
+        for word in ("", "Leader", "layers2")
     ),
 ]
 # Programs of their own, and those that go on after the colouring.
@@ -291,15 +263,6 @@ def program_of(asked):
     """The definition of a program as it is asked for."""
     name, *option = asked.replace("--", "").split()
     return program_at(name, **({option[0]: int(option[1])} if option else {}))
-
-
-def code_of(own, other, net):
-    """Why a transcript of a run with one option isn't one with the other."""
-    if other == own:
-        return ""
-    if net == EDGE:
-        return "WrongWire"
-    return "NotReady" if own > other else "NotWhole"
 
 
 class Programs(Case):
@@ -348,51 +311,25 @@ class Programs(Case):
             )
 
     def test_transcripts(self):
-        """The transcript of a run is one run, which its own program replays and the others refuse: by the name in the
-        first line, and without it by the first payload; of a program that begins with the colouring's payloads where
-        its own first word is, or where the colouring ends."""
-        for program, payload in zip(
-            (*PLAIN, *SEQUELS), ("hello 1", "leader 1", "hops 0", *["hello 1"] * 3)
+        """The transcript of a run is one run, which its own program replays and another one refuses: by the name in the
+        first line, and without it by the first payload; of programs that begin with the colouring's payloads, by the
+        first word of their own."""
+        for (program, payload), other in zip(
+            zip((*PLAIN, *SEQUELS), ("hello 1", "leader 1", "hops 0", *["hello 1"] * 3)),
+            ("leader", "layers", "colouring", "independent-set", "recolouring", "matching"),
         ):
             head = "2 2" if program == "colouring" else f"3 {program} 2"
             _, run, _ = play("run", program, "--transcript", "--workers", 1, data=EDGE)
             begins = text(f"transcript {head}|1 1 put 2 payload 0 {payload}|")
             self.note(f"transcript of {program}", run.startswith(begins), run)
+            replayed = play("replay", program, data=text(EDGE) + run)
+            self.same(f"{program} replayed", replayed[::2], (0, b""))
+            fault = b"X1 line 4" if program == "colouring" else b"WrongProgram line 3: "
+            self.refusal(f"as {other}", play("replay", other, data=text(EDGE) + run), 1, fault)
             unnamed = b"transcript 2 2\n" + run.split(b"\n", 1)[1]
-            for other in PLAIN if program in PLAIN else ("colouring", "leader", *SEQUELS):
-                fault = "X1 line 4" if program == "colouring" else f"WrongProgram line 3: {program}"
-                for how, data, said in (
-                    ("", run, fault),
-                    (" without its name", unnamed, "X1 line 4"),
-                ):
-                    status, _, errors = play("replay", other, data=text(EDGE) + data)
-                    wanted = text(f"forestplay: {said}|") if other != program else b""
-                    self.note(
-                        f"{program}{how} replayed as {other}",
-                        status == (other != program)
-                        and (errors == wanted or how and program in SEQUELS),
-                        (status, errors),
-                    )
-
-    def test_transcripts_with_options(self):
-        """A transcript is replayed with the root or the passes that its run had; with others it is refused at a wire
-        that differs, or without wires at a pulse more, or at the end."""
-        for asked, most, net in (
-            ("layers --root", 2, EDGE),
-            ("recolouring --passes", 3, EDGE),
-            ("recolouring --passes", 3, ALONE),
-        ):
-            for own, other in product(range(1, most + 1), repeat=2):
-                _, run, _ = play("run", f"{asked} {own}", "--transcript", "--workers", 1, data=net)
-                status, _, fault = play("replay", f"{asked} {other}", data=text(net) + run)
-                code = code_of(own, other, net)
-                self.note(
-                    f"transcript of {asked} {own} with {other} on {net}",
-                    status == bool(code)
-                    and fault.startswith(f"forestplay: {code} line ".encode() if code else b"")
-                    and bool(fault) == bool(code),
-                    (run[:80], fault),
-                )
+            done = play("replay", other, data=text(EDGE) + unnamed)
+            fault = b"X1 line " + b"4\n" * (program in PLAIN)
+            self.refusal(f"{program} without its name as {other}", done, 1, fault)
 
     def test_refused(self):
         for command, asked, data, fault in (
@@ -418,21 +355,9 @@ class Programs(Case):
     def test_words(self):
         """Only one program takes each option, given once."""
         for command in ("events", "replay", "rounds", "run"):
-            for option, value, own in (("root", "V", "layers"), ("passes", "N", "recolouring")):
-                for other in (program for program in (*PLAIN, *SEQUELS) if program != own):
-                    wanted = (
-                        f"error: the argument '--{option} <{value}>' cannot be used with '--program {other}'|"
-                        f"  [only with: --program {own}]||For more information, try '--help'.|"
-                    )
-                    self.same(
-                        f"{command} {other} --{option}",
-                        play(command, other, f"--{option}=1", data=EDGE),
-                        (2, b"", text(wanted)),
-                    )
             for words, said in WRONG:
-                self.refusal(
-                    f"{command} {words}", called(PLAY, command, *words.split()), 2, said.encode()
-                )
+                done = called(PLAY, command, *words.split())
+                self.refusal(f"{command} {words}", done, 2, said.encode())
         self.same(
             "no turns",
             play("run", "leader", "--turns", 0, data=EDGE),

@@ -26,7 +26,6 @@ REFUSED = (
     ("dimacs", "\ufeffp edge 1 0\n", "(F8)"),
     ("dimacs", "c name 2 1\np edge 2 0\n", "line 1: vertices 1 and 2 are both called 1"),
     ("pairs", "Ulm,Aue\nAue,Hof\n", "line 1: no heading with source and target: `Ulm,Aue`"),
-    ("pairs", "\n\nUlm,Aue\n", "line 3: no heading"),
     (
         "pairs",
         "source,target,from\na,b,c\n",
@@ -39,21 +38,17 @@ REFUSED = (
     ("pairs", PAIR, "line 1: it has no row below its heading"),
     ("pairs", PAIR + "a,b\nsource,target\nb,c\n", "line 3: the heading a second time"),
     ("pairs", PAIR + "a,\n", "line 2: no name of a node: ``"),
-    ("pairs", "a,b;c\n", "line 1: no heading"),
     ("pairs", PAIR + "a,b\na,b,c\n", "line 3: 3 fields, and the first row has 2"),
     ("pairs", PAIR + "a;b\n", "line 2: 1 field, and the first row has 2"),
     ("pairs", PAIR + 'a,"b\nc,d\n', "line 2: no row of a table"),
     ("pairs", PAIR + '"a\nb",c\nd,"e" f\n', "line 4: no row of a table"),
     ("pairs", PAIR + 'c,"a\nb"\n', "line 2: no name of a node: `a\\nb`"),
     ("pairs", PAIR + "a,#N/A\n", "line 2: no name of a node"),
-    ("pairs", PAIR + "a,----\n", "line 2: no name of a node"),
     ("pairs", PAIR + "a,b\u00adc\n", "line 2: no name of a node"),
     ("pairs", PAIR.encode() + b"a,b\nK\xf6ln,a\n", "line 3: it isn't in UTF-8"),
     ("pairs", PAIR.encode("utf-16-le"), "line 1: a letter of value zero"),
     ("edges", "a\n", "line 1: no two nodes"),
     ("edges", "", "it has no row"),
-    ("edges", "# a b\n", "it has no row"),
-    ("edges", "Upper Hill Mill\n", "line 1: no two nodes"),
     ("edges", "2 3\nUlm Site 1\n", "line 2: not as many words as in the rows before"),
     ("edges", "1 : 2\n", "line 1: no name of a node: `:`"),
     ("edges", "source target\na b\n", "line 1: it is a heading"),
@@ -79,7 +74,6 @@ REFUSED = (
     ),
     ("json", '{"nodes": [{"id": "a"}], "links": [], "more": [{"source": "a"}]}', "and no other"),
     ("json", '{"nodes": [{"id": "a"}], "links": [], "edges": []}', "and no other"),
-    ("json", '{"nodes": [{"name": "a"}], "links": []}', "nodes[0]: its `id` is no text"),
     ("json", '{"nodes": [{"id": true}], "links": []}', "nodes[0]: its `id` is no text"),
     (
         "json",
@@ -99,7 +93,6 @@ REFUSED = (
         '<graphml><graph><node id="a">\n<graph><node id="b"/></graph></node></graph></graphml>',
         "line 2: a second graph",
     ),
-    ("graphml", "<graphml><graph/>\n<graph/></graphml>", "line 2: a second graph"),
     (
         "graphml",
         '<graphml><graph><node id="a"/>\n<node id="a "/></graph></graphml>',
@@ -111,7 +104,6 @@ REFUSED = (
         "line 1: `link` joins nodes and isn't an edge",
     ),
     ("graphml", "<?xml version='1.0' encoding='utf-x8'?><graphml/>", "no XML: unknown encoding"),
-    ("graphml", "<?xml version='1.0' encoding='gbk'?><graphml/>", "no XML"),
     ("graphml", "<graphml>\n<graph>\n</graphml>", "line 3: no XML"),
     ("gml", "graph [ node [ id 1 ]\nnode [ id 1 ] ]", "line 2: a second node of the id 1"),
     ("gml", "graph [ node [ id 1 ]\nlink [ source 1 target 1 ] ]", "line 2: `link` joins nodes"),
@@ -123,7 +115,6 @@ REFUSED = (
         'graph [ node [ id 1 ]\nnode [ id 2 label "a" label "b" ] ]',
         "line 2: a second name of one node",
     ),
-    ("gml", "graph [ node [ id 1 ]", "can't read it as gml"),
     ("gml", "graph [ " + "a [ " * 5000 + "]" * 5001, "can't read it as gml"),
     ("gml", "node [ id 1 ]", "networkx can't read it as gml"),
     ("gexf", "<gexf><graph/></gexf>", "can't read it"),
@@ -179,10 +170,12 @@ class Reading(Case):
     def setUp(self):
         self.has_networkx = foreign.networkx() is not None
 
+    def readable(self, rows):
+        """The rows whose form can be read here."""
+        return [row for row in rows if self.has_networkx or row[0] not in foreign.READERS]
+
     def test_refused(self):
-        for form, text, said in REFUSED:
-            if form in foreign.READERS and not self.has_networkx:
-                continue
+        for form, text, said in self.readable(REFUSED):
             with self.subTest(f"{form} {text[:80]!r}"), self.assertRaises(Wrong) as found:
                 read(text, form)
             self.note(
@@ -191,9 +184,7 @@ class Reading(Case):
 
     def test_read(self):
         """Each of these is one network, whatever other elements and keys are called."""
-        for form, text in READ:
-            if form in foreign.READERS and not self.has_networkx:
-                continue
+        for form, text in self.readable(READ):
             edges, alone, _ = read(text, form)
             self.same(f"{form} {text[:40]!r}", (edges, alone), ({frozenset(("Ulm", "Aue"))}, set()))
 
