@@ -52,7 +52,7 @@ PLAYED = {name: NETWORKS[name] for name in ("triangle", "petersen", "barred", "t
     "three with bars": b"p edge 3 0\nb 1 1\nb 1 2\nb 3 2\n",
 }
 # What the player says of a merge pulse: the three-colour, the forest, the old colour and its channel.
-TURN = r"colour (\d+) in forest (\d+), colour (\d+) \(channel (\d+)\) so far"
+TURN = r"colour (\d+) in forest (\d+) and channel (\d+) so far .* K = (\d+), J = (\d+)"
 
 
 def circles(mark, net_colours):
@@ -275,5 +275,5 @@ class Maps(PictureCase):
         steps = [merge_step(net, p) for p in range(FIRST_MERGE, last + 1)]
         row("whose turn it is", shown["step"][FIRST_MERGE:], [*map(list, steps)])
         said = [re.findall(TURN, text) for text in shown["said"][FIRST_MERGE:]]
-        wanted = [[(str(k), str(f), str(j), str(j + 1))] for f, k, j in steps]
+        wanted = [[(str(k), str(f), str(j + 1), str(k), str(j))] for f, k, j in steps]
         row("the turn in words", said, wanted)
