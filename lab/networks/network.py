@@ -54,8 +54,8 @@ def was_read(given: Namespace) -> str:
     refuse_words(given)
     path = given.file if given.file is not None else given.sites
     name = one_line(path)
-    found = Listed("sites") if given.file is None else file_listed(given, name)
     licence = channels_asked(given, words_of_channels(given), "network")
+    found = Listed("sites") if given.file is None else file_listed(given, name)
     if given.sites:
         sites = tables.Sites(*text_asked(given, given.sites), given.stated)
         tables.with_sites(found, sites, name)

@@ -1,7 +1,6 @@
 """The fields of a transcript: the words of payloads, and numbers within their bounds. What is none raises `NoEntry`."""
 import functools
 
-from lab.definitions.nodes import Wire
 
 # The words of the payloads of each proved program, and the bound of each one's number; those that go on after the
 # colouring have its words, too. Another program's payloads have any word of small letters.
@@ -67,7 +66,7 @@ def number(field: bytes, what: str, bound: int = 2**32) -> int:
 
 
 @functools.lru_cache(maxsize=2**16)
-def wire_of(program: str, *fields) -> Wire:
+def wire_of(program: str, *fields) -> tuple:
     """A wire as lab/definitions/nodes.py has it, with a payload of the program."""
     match fields:
         case [b"payload", pulse, word, of_word]:
