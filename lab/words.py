@@ -100,13 +100,13 @@ def add_command(
     )
 
 
-def bytes_at(path: str) -> bytes:
-    """All that a file has, or standard input for `-`."""
+def bytes_at(path: str, most: int = -1) -> bytes:
+    """All that a file has, or standard input for `-`; or its first bytes, of which there are at most so many."""
     try:
         if path == "-":
-            return sys.stdin.buffer.read()
+            return sys.stdin.buffer.read(most)
         with open(path, "rb") as file:
-            return file.read()
+            return file.read(most)
     except OSError as why:
         raise Wrong(f"{text_name(path)}: {why.strerror}") from None
 

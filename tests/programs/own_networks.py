@@ -318,6 +318,10 @@ class OwnNetworks(Case):
                 good and fault.rsplit(b"error: ")[1].count(b"\n") == 1,
                 fault[:300],
             )
+        for command in (["read", "--as", "dimacs"], ["tell"]):
+            status, _, fault = call(*command, "/dev/zero")
+            is_said = b"/dev/zero: more than 256 MiB" in fault
+            self.note(f"{command[0]} of what has no end", status == 1 and is_said, fault[:300])
         for command in (["read"], ["tell"], ["number", "--by", "degree"], ["names"]):
             self.same(
                 f"{command[0]} of no file",
