@@ -21,12 +21,13 @@ ghost use Rattle.bound_laws.specs.Apart.{OutcomesAreApart, SimulatingAreApart};
 ghost use Rattle.bound_laws.specs.FewSteps.{log_star, steps_for, tower};
 ghost use Rattle.bound_laws.specs.Wires.{SendsAtMost, WholeOutcomesPutFew};
 
+use cole_vishkin::IDENTIFIER_DIGITS;
 use colour_rules::FIRST_MERGE;
 use independent_set::laws::rounds_end_with_a_maximal_independent_set;
 use interference::laws::forest_count_is_the_greatest;
 
-// The number that the pages name.
-const _: () = prove!(FIRST_MERGE == 13);
+// The numbers that the pages name.
+const _: () = prove!(FIRST_MERGE == 13 && IDENTIFIER_DIGITS == 128);
 
 /// The iterated logarithm: a tower of log* n twos is at least n, and no tower of fewer is; and it counts one for each
 /// power of two.
