@@ -1,10 +1,8 @@
 //! Laws of numbers. Each is a function that does nothing, or only calls other laws: its contract is the law.
 
 ghost use Rattle.std.specs.Prelude.{◌≡◌, ◌<◌, ◌≤◌, ◌+◌, ◌-◌, ◌*◌, ◌^◌, Option, suc, ℕ};
-ghost use Rattle.interference.specs.Net.{IsNetwork, Net, count_of, forest_count_of, greatest_bars_of, neighbour_of};
-ghost use Rattle.interference.specs.Counts.{sum_over_ports};
+ghost use Rattle.interference.specs.Net.{IsEdge, IsNetwork, Net, count_of, forest_count_of, greatest_bars_of};
 ghost use Rattle.forests.specs.Forests.{number};
-ghost use Rattle.alpha_laws.specs.Counts.{payloads_sent};
 ghost use Rattle.interference.specs.Net.{greatest_degree_of};
 ghost use Rattle.node_api.specs.Program.{Program, last_pulse_on};
 ghost use Rattle.colour_base.specs.Forest.{IsProper, IsWithin};
@@ -19,7 +17,7 @@ ghost use Rattle.leader.specs.Election.{election};
 ghost use Rattle.layers.specs.Layering.{layering};
 ghost use Rattle.bound_laws.specs.Apart.{OutcomesAreApart, SimulatingAreApart};
 ghost use Rattle.bound_laws.specs.FewSteps.{log_star, steps_for, tower};
-ghost use Rattle.bound_laws.specs.Wires.{SendsAtMost, WholeOutcomesPutFew};
+ghost use Rattle.bound_laws.specs.Wires.{SendsAtMost, WholeOutcomesPutFew, payloads_over};
 
 use cole_vishkin::IDENTIFIER_DIGITS;
 use colour_rules::FIRST_MERGE;
@@ -50,13 +48,14 @@ pub fn iterated_steps_leave_six()
 
 /// The colouring takes at most 12 + 3·Δ·(Δ + B + 1) pulses, and sends at most 13 + 2·U payloads over an edge: two
 /// greetings, a label, ten colours, and a choice of each end in each forest from that of the edge on; so over an edge
-/// of forest f at most 13 + 2·(U - f). (The sum has each edge twice, once for each end.)
+/// of forest f at most 13 + 2·(U - f).
 pub fn colouring_is_bounded()
     ensures pulses { (net : Net) → IsNetwork net → last_pulse_on colouring net
         ≤ 12 + 3 * greatest_degree_of net * (greatest_degree_of net + greatest_bars_of net + 1) }
     ensures payloads { (net : Net) → IsNetwork net → SendsAtMost colouring net (13 + 2 * forest_count_of net) }
-    ensures by_forest { (net : Net) → IsNetwork net → 2 * payloads_sent colouring net
-        ≤ sum_over_ports net (λ v i. 13 + 2 * (forest_count_of net - number net v (neighbour_of net v i))) }
+    ensures by_forest { (net : Net) → IsNetwork net → (v w : ℕ) → IsEdge net v w
+        → payloads_over colouring net v w + payloads_over colouring net w v
+        ≤ 13 + 2 * (forest_count_of net - number net v w) }
 {
     forest_count_is_the_greatest();
 }
@@ -104,8 +103,8 @@ pub fn layering_is_bounded()
     ensures payloads { (net : Net) → IsNetwork net → SendsAtMost layering net 2 }
 {}
 
-/// If a program sends at most so many payloads over an edge, every whole outcome of workers has put at most
-/// 2·(as many + R + 1) wires over each edge, all edges together, whatever the threads did.
+/// If a program sends at most so many payloads over each edge, every whole outcome of workers has put at most
+/// 2·(as many + R + 1) wires for each edge, over all edges together, whatever the threads did.
 pub fn whole_outcomes_put_few_wires<S, M, E>()
     ensures law { (program : Program S M E) (net : Net) → IsNetwork net → WholeOutcomesPutFew program net }
 {}

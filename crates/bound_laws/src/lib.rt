@@ -4,7 +4,7 @@
 //! Nothing is built over this crate, so that no other waits for it.
 //!
 //! ```text
-//! bound_laws::laws::matching_takes_few_pulses(); // brings the law into a proof
+//! bound_laws::laws::matching_is_bounded(); // brings the law into a proof
 //! ```
 //!
 //! Limits: it has laws alone.

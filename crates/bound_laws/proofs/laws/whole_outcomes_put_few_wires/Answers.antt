@@ -4,6 +4,7 @@ use Rattle.node_api.specs.Program.{last_pulse_on}
 use Rattle.alpha_laws.specs.Counts.{payloads_sent}
 use Rattle.gather_laws.specs.Counts.{payloads_put, wires_put}
 use Rattle.gather_laws.proofs.Counts.{counted}
+use Rattle.bound_laws.proofs.Sent.{payloads-few}
 use Rattle.bound_laws.proofs.laws.whole_outcomes_put_few_wires.Goals as goal
 
 few : (wires payloads sent edges each last : ℕ) → wires ≡ 2 * payloads + 2 * edges * (last + 1) → payloads ≡ sent → sent ≤ edges * each
@@ -15,5 +16,5 @@ returns g c = record {
   law = λ program net ok each low capacity transcript outcome is whole.
       let count = counted program net ok capacity transcript outcome is whole in
       few (wires_put outcome) (payloads_put outcome) (payloads_sent program net) (edge_count_of net) each (last_pulse_on program net)
-      count.wires count.payloads low;
+      count.wires count.payloads (payloads-few program net ok each low);
 }
