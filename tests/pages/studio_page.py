@@ -28,6 +28,23 @@ TABS = ("rounds", "run", "adversary", "check", "pictures")
 # Keeps each picture that the page makes.
 KEEP = """(() => { const make = URL.createObjectURL.bind(URL); window.kept = [];
   URL.createObjectURL = blob => { kept.push(blob); return make(blob); }; })()"""
+VIRTUAL = {"Enter": 13, " ": 32, "Delete": 46}
+SHOTS = os.environ.get("SHOTS")
+SHOWN = (
+    "example=barred&tab=draw&node=3",
+    "example=petersen&tab=rounds&at=15",
+    "example=petersen&tab=run&seed=7&at=8.5&other=newest.2",
+    "example=triangle&tab=adversary&slow=1-3&dare=apart",
+    "example=petersen&tab=check&plan=1_1",
+    "example=petersen&tab=pictures&kind=forests",
+)
+# The controls above the network and below it that are cut off, or lie over another one.
+UNSEEN = """(() => { const all = Array.from(document.querySelectorAll('nav button, .tools > *, #time > *'))
+    .map(one => [one.id || one.textContent, one.getBoundingClientRect(), one]).filter(one => one[1].width > 2);
+  const over = (a, b) => Math.min(a.right, b.right) - Math.max(a.left, b.left) > 1
+    && Math.min(a.bottom, b.bottom) - Math.max(a.top, b.top) > 1;
+  return all.filter(([, box, it]) => box.left < 0 || box.right > innerWidth + 1 || it.scrollWidth > it.clientWidth + 1
+    || all.some(other => other[2] !== it && over(box, other[1]))).map(one => one[0]); })()"""
 # What nodes find in the triangle, whose plan is 2 3 1, once a field is changed. Node 3 takes node 2 in forest 0, so 1
 # is left over. In the first pass node 2 chooses first, then 1, then 3; so in the second it is 3, then 1, then 2.
 FOUND = [
@@ -172,11 +189,12 @@ class Drawn(Page):
             (2, "studio.seen.tab === 'draw' && studio.net.nodes.length === 10"),
             (1, "studio.seen.lesson === 1"),
         ):
-            self.page.value(f"document.querySelector('#welcome a:nth-child({number})').click()")
+            self.page.value(f"document.querySelectorAll('#welcome a')[{number - 1}].click()")
             self.sees(links[number - 1], wanted)
             self.note(
                 "without the buttons", self.page.value("document.getElementById('welcome').hidden")
             )
+            self.same("and steadily", self.page.value("studio.time.speed.value"), "1")
 
     def test_changes(self):
         """A button, and what plays, leave out the pulses in which nothing happens."""
@@ -281,6 +299,50 @@ class Drawn(Page):
         self.page.value("document.querySelector('[data-tab=draw]').focus()")
         self.page.key("ArrowLeft", code="ArrowLeft", windowsVirtualKeyCode=37)
         self.sees("an arrow from the first tab to the last", "studio.seen.tab === 'pictures'")
+
+    def test_keys(self):
+        """With keys alone nodes are added, joined and parted, and an edge is chosen and removed."""
+        self.go_to("tab=draw")
+        self.page.value("document.getElementById('clear').click()")
+        for _ in range(3):
+            self.page.key("a", text="a")
+        for one, key, edges, chosen in (
+            ("node='1'", "Enter", "", "Node 1"),
+            ("node='2'", "Enter", "1,2", ""),
+            ("node='3'", "Enter", "1,2", "Node 3"),
+            ("node='2'", " ", "1,2,2,3", ""),
+            ("node='1'", " ", "1,2,2,3", "Node 1"),
+            ("node='2'", "Enter", "2,3", ""),
+            ("edge='2-3'", "Enter", "2,3", "Edge 2 – 3"),
+            ("edge='2-3'", "Delete", "", ""),
+        ):
+            self.page.value(f'document.querySelector("#net [data-{one}]").focus()')
+            self.page.key(key, code=key, windowsVirtualKeyCode=VIRTUAL[key])
+            found = self.page.value("studio.net.edges.join()"), self.page.text("chosen")
+            name = f"{key} on {one}"
+            self.note(name, found[0] == edges and found[1].startswith(chosen), found)
+        self.page.size(360, 780, True)
+        self.page.value("document.getElementById('clear').click(); scrollTo(0, 0)")
+        for x, y in ((100, 250), (250, 250)):
+            self.page.tap(x, y)
+        self.page.tap(*self.at(1))
+        self.page.tap(*self.at(2))
+        self.same("taps add and join", self.page.value("studio.net.edges.join()"), "1,2")
+        self.page.size(1280, 800)
+
+    def test_widths(self):
+        """Nothing is cut off or covered on a phone, on its side, and at 400 %; SHOTS names a folder for screenshots."""
+        for number, words in enumerate(SHOWN):
+            self.go_to(words)
+            self.sees(words, "document.getElementById('busy').hidden && studio.net.nodes.length")
+            for wide, high in ((360, 740), (740, 360), (320, 256), (1280, 800)):
+                self.page.size(wide, high, wide == 360 or high == 360)
+                time.sleep(0.4)
+                self.same(f"{words} at {wide}", self.page.value(UNSEEN), [])
+                shown = self.page.value("document.documentElement.scrollWidth")
+                self.note(f"{words} at {wide}: no wider", shown <= wide, shown)
+                if SHOTS:
+                    self.page.shot(os.path.join(SHOTS, f"{number}-{wide}.png"))
 
     def test_lessons(self):
         """Each lesson has its text with its pictures, a hint and an answer; the lecture its places."""

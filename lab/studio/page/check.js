@@ -1,5 +1,5 @@
 // The tab Check: a plan that is typed or clicked, with the verdict on it, and transcripts.
-import {asks, by, capital, hooks, listOf, programNamed, seen, show, stage, tabs, whole} from "./base.js";
+import {announce, asks, by, capital, hooks, listOf, programNamed, seen, show, stage, tabs, whole} from "./base.js";
 import {blank, channelCircle, html, note} from "./marks.js";
 import {net, neighbours, text} from "./model.js";
 
@@ -38,6 +38,7 @@ function showPlan() {
       `The check names the first, node ${is.at[0]}. Dashed edges are clashes that this page sees.`]
     : [`${capital(is.words)}${is.code === "C4" ? `, ${plan[at[0] - 1]}` : ""} (${is.code})`, `What to do: ${is.do}.`];
   place.replaceChildren(html("b", head), html("p", more, {class: is.ok ? "" : "soft"}));
+  announce(`${head}. ${more}`);
 }
 function click(v, _edge, event) {
   if (!v) return;

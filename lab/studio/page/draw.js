@@ -1,7 +1,7 @@
 // The tab Draw: the network is drawn with the mouse, a finger or keys, and its plan is shown after each change.
 import {call, cancel} from "./api.js";
-import {all, among, asks, by, count, go, hang, hooks, programNamed, seen, show, showOptions, stage, tabs, tried, whole,
-  wrong} from "./base.js";
+import {all, among, announce, asks, by, count, edgesOf, go, hang, hooks, programNamed, seen, show, showOptions, stage,
+  tabs, tried, whole, wrong} from "./base.js";
 import {blank, channelCircle, html} from "./marks.js";
 import * as model from "./model.js";
 import {change, net, neighbours, text} from "./model.js";
@@ -14,13 +14,20 @@ function showPlan() {
   const says = v => [plan[v - 1] ? `channel ${plan[v - 1]}` : "", `neighbours ${neighbours(v).join(", ") || "none"}`]
     .filter(Boolean).join(", ");
   stage.draw({says, ring: v => v === seen.node ? "var(--glow)" : null,
-    edge: (v, w) => seen.edge && seen.edge.join() === `${v},${w}` ? {stroke: "var(--glow)", "stroke-width": 4} : {},
+    edge: (v, w) => {
+      const isChosen = isEdge(v, w), look = isChosen ? {stroke: "var(--glow)", "stroke-width": 4} : {};
+      return {...look, tabindex: 0, role: "button", "aria-label": `edge ${v}–${w}`, "aria-pressed": isChosen};
+    },
     node: (v, x, y, r) => plan[v - 1] ? channelCircle(x, y, r, plan[v - 1]) : blank(x, y, r)});
   const [undos, redos] = model.depth();
   by("undo").disabled = !undos;
   by("redo").disabled = !redos;
   by("delete").disabled = !seen.node && !seen.edge;
+  const chosen = seen.node ? `Node ${seen.node} is chosen: ${says(seen.node)}. ` : seen.edge
+    ? `Edge ${seen.edge.join("–")} is chosen. ` : "";
+  announce(`${chosen}${count(net.nodes.length, "node")}, ${count(net.edges.length, "edge")}`);
 }
+function isEdge(v, w) { return seen.edge && seen.edge.join() === `${v},${w}`; }
 function facts() {
   const is = drawn.plan, place = by("plan");
   if (!net.nodes.length) return place.replaceChildren(html("p", "Nothing is drawn yet."));
@@ -106,7 +113,7 @@ function click(v, edge, event) {
     return model.toggleEdge(from, v);
   }
   if (v) return choose(v === seen.node ? null : v);
-  if (edge) return choose(null, edge);
+  if (edge) return choose(null, isEdge(...edge) ? null : edge);
   if (seen.node || seen.edge) return choose(null);
   change(n => n.nodes.push({...stage.placeOf(event), id: "", name: "", bars: []}));
 }
@@ -122,7 +129,8 @@ function key(event, on) {
   const way = {ArrowLeft: [-20, 0], ArrowRight: [20, 0], ArrowUp: [0, -20], ArrowDown: [0, 20]}[event.key];
   if (on && way) change(n => { n.nodes[on - 1].x += way[0]; n.nodes[on - 1].y += way[1]; }, "key " + on, "move");
   else if (event.key === "Delete" || event.key === "Backspace") {
-    if (on) { seen.node = on; seen.edge = null; }
+    const {edge} = event.target.dataset || {};
+    if (on || edge) Object.assign(seen, {node: on, edge: edge ? edgesOf(edge)[0] : null});
     remove();
   } else if (event.key === "Escape") choose(null);
   else if (event.key.toLowerCase() === "a") addByKey();
@@ -247,6 +255,7 @@ let kind = "forests";
 function askPicture() {
   all("#kinds button").forEach(one => one.setAttribute("aria-pressed", one.dataset.kind === kind));
   by("kindsaid").textContent = KINDS[kind];
+  announce(KINDS[kind]);
   by("ofnode").hidden = !OF_NODE.includes(kind);
   by("ofrun").hidden = !OF_RUN.includes(kind);
   const program = OF_PROGRAM.includes(kind) ? programNamed() : "colouring";

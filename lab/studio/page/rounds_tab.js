@@ -35,7 +35,7 @@ function showAt() {
   say("when", `pulse ${p} of ${film.last}`);
   const ofNode = node ? ` Node ${node}: ${film.words(node, p, film.forestAt(p, rounds.forest))}.` : "";
   announce(`pulse ${p}. ${said}${ofNode}`);
-  fill("said", caption + said, () => [html("b", caption), html("br"), said]);
+  fill("said", caption + said, () => [said, html("br"), html("span", caption, {class: "soft"})]);
   const chips = by("forests"), hasFocus = chips.contains(document.activeElement);
   fill("forests", [p, rounds.forest, film.forests].join(), () => film.chips(p, rounds.forest, f => {
     rounds.forest = f;

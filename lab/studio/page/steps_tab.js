@@ -79,7 +79,7 @@ function sayWhere(is) {
     lines.push(html("p", `${agrees ? "✓" : "✗"} ${judge.by} ${said}`, {class: agrees ? "good" : "bad"}));
   }
   box.replaceChildren(...lines);
-  announce(box.textContent);
+  announce(lines.map(line => line.textContent).join(" "));
 }
 // What can happen now, node by node, as buttons; of a large network the chosen node's, or the first ones.
 function listSteps(is) {

@@ -28,6 +28,7 @@ hooks.show = () => {
   by("empty").hidden = net.nodes.length > 0;
   say("hint", isReplaced ? "Undo (Ctrl-Z, or in Draw) brings your drawing back." : tab.hint());
   say("name", [net.name, seen.program].filter(one => one && one !== "colouring").map(one => "· " + one).join(" "));
+  by("slider").setAttribute("aria-valuetext", by("when").textContent);
   hooks.link();
 };
 hooks.go = (name, more = {}) => {
@@ -45,6 +46,7 @@ hooks.go = (name, more = {}) => {
 let isWelcomed = false;
 function enter(more = {}) {
   const name = seen.tab;
+  if (isWelcomed || !by("welcome").hidden) by("speed").value = isWelcomed ? "3" : "1";
   by("welcome").hidden = !isWelcomed;
   isWelcomed = false;
   // What another tab has asked for isn't wanted any more.
@@ -215,7 +217,6 @@ function pairsOf(hash) {
 // What moves before the first click: the rounds of a small network, behind the first buttons.
 function welcome() {
   isWelcomed = true;
-  by("speed").value = "3";
   const play = matchMedia("(prefers-reduced-motion: reduce)").matches ? "at=48" : "play=1";
   return follow(`#example=petersen&tab=rounds&${play}`);
 }
@@ -290,7 +291,7 @@ function showLesson(lesson) {
   const card = html("details", null, {open: ""}), head = html("summary");
   head.append(html("b", `${lesson.number}. ${lesson.title}`));
   const questions = lesson.questions.flatMap(([words, place]) =>
-    [html("a", words, {href: `#${place}&lesson=${lesson.number}`}), " "]);
+    [html("a", words, {href: `#${place}&lesson=${lesson.number}`}), " · "]).slice(0, -1);
   if (questions.length) questions.unshift("Predict, then look: ");
   card.append(head, html("i", lesson.ask), html("p", lesson.see), html("p", "Exercise: " + lesson.do), ...questions,
     folded("the whole lesson", lesson.text), folded("a hint for its exercise", lesson.hint),
@@ -344,8 +345,9 @@ document.onkeydown = event => {
   if (mod && key.toLowerCase() === "z") { if (event.shiftKey) model.redo(); else model.undo(); }
   else if (mod && key.toLowerCase() === "y") model.redo();
   else if (mod || event.altKey) return;
-  else if (node && (key === "Enter" || key === " ")) tabs[seen.tab].click(node, null, event);
-  else if (edge && key === "Enter") tabs[seen.tab].click(null, edgesOf(edge)[0], event);
+  else if ((node || edge) && (key === "Enter" || key === " ")) {
+    tabs[seen.tab].click(node, edge ? edgesOf(edge)[0] : null, event);
+  }
   else if (event.target.role === "tab" && /^Arrow(Left|Right)$/.test(key)) nextTab(event.target, key);
   else if (key === "c" && seen.tab === "rounds") by("change").click();
   else if (key === "+" || key === "=") by("zoomin").click();
