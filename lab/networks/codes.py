@@ -150,10 +150,6 @@ CODES = {
             "give them more with `--turns`",
         ),
         "threads": ("the system refused a thread", "take fewer `--workers`, or try again"),
-        "stamps": (
-            "a stamp would pass 2^64 - 1",
-            "no run of the programs gets so far; please report it",
-        ),
     },
     "any command": {
         "memory F9 N3 C7 X2 Memory E5": (

@@ -111,7 +111,6 @@ WITHOUT_INPUT = {
     "Memory",
     "memory",
     "threads",
-    "stamps",
     "stream",
     "NoRoot",
 }

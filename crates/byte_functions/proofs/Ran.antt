@@ -1,5 +1,5 @@
 -- What is returned of a run of workers.
-use Rattle.std.proofs.Common.{◌≡◌, Bool, true, false, refl}
+use Rattle.std.proofs.Common.{◌≡◌, ◌≢◌, Bool, true, false, refl}
 use Rattle.std.specs.Prelude.{if◌then◌else◌, IfErr, IfOk, Result, Ok, Err}
 use Rattle.interference.specs.Net.{Net}
 use Rattle.run_options.specs.Ranges.{AreInRange}
@@ -41,9 +41,9 @@ whole-is (Err fault) = tt
 module _ {S M E : Type 0} (program : Program S M E) (net : Net) (o : Options) (t : Bool) where
   pub may-run : (ran : Ran S M) → IfOk ran (λ _. AreInRange o)
       → IfOk ran (λ outcome. IsOutcome program net o.capacity t outcome) → IfErr ran (λ fault. fault ≡ pool.BadOptions → AreInRange o → ⊥)
-      → ((AreInRange o → ⊥) → ran ≡ Err pool.BadOptions) → MayRun program net o t ran
-  may-run (Ok outcome) range is only first = (range, is)
-  may-run (Err fault) range is only first = pool-fault o fault only (λ out. let e = first out in cc)
+      → ((AreInRange o → ⊥) → ran ≡ Err pool.BadOptions) → IfErr ran (λ fault. fault ≢ pool.StampFull) → MayRun program net o t ran
+  may-run (Ok outcome) range is only first fits = (range, is)
+  may-run (Err fault) range is only first fits = pool-fault o fault only (λ out. let e = first out in cc) fits
 
   pub whole-outcome : (ran : Ran S M) → MayRun program net o t ran
       → IfOk (whole_after ran) (λ outcome. IsOutcome program net o.capacity t outcome)

@@ -47,11 +47,11 @@ in_range : (o : Options) → ((AreInRange o → ⊥) → ⊥) → AreInRange o
 in_range o not_out = ⊎_elim (λ is. is) (λ out. absurd (not_out out)) (ranges o)
 
 pub pool-fault : (o : Options) (fault : PoolFault) → (fault ≡ pool.BadOptions → AreInRange o → ⊥) → ((AreInRange o → ⊥) → fault ≡ pool.BadOptions)
-    → IsFaultOfPool o fault
-pool-fault o pool.Memory only first = in_range o (λ out. let e : pool.Memory ≡ pool.BadOptions = first out in cc)
-pool-fault o pool.Spawn only first = in_range o (λ out. let e : pool.Spawn ≡ pool.BadOptions = first out in cc)
-pool-fault o pool.StampFull only first = in_range o (λ out. let e : pool.StampFull ≡ pool.BadOptions = first out in cc)
-pool-fault o pool.BadOptions only first = only refl
+    → fault ≢ pool.StampFull → IsFaultOfPool o fault
+pool-fault o pool.Memory only first fits = in_range o (λ out. let e : pool.Memory ≡ pool.BadOptions = first out in cc)
+pool-fault o pool.Spawn only first fits = in_range o (λ out. let e : pool.Spawn ≡ pool.BadOptions = first out in cc)
+pool-fault o pool.StampFull only first fits = fits refl
+pool-fault o pool.BadOptions only first fits = only refl
 
 -- whether a run has a transcript is nothing to the ranges
 pub with_transcript : (o : Options) (transcript : Bool) → AreInRange o

@@ -16,12 +16,12 @@ use Rattle.answers.specs.declared.root.Root.{Root}
 use Rattle.answers.specs.declared.fault.PlanFault.{PlanFault}
 use Rattle.answers.specs.declared.fault.PlanFault.TheVariants as plan
 
--- The fault of a run of workers: if the options are out of range, that they are. When memory or a thread is refused, or
--- a stamp would be too great, isn't promised.
+-- The fault of a run of workers: if the options are out of range, that they are. When memory or a thread is refused
+-- isn't promised. No stamp is ever too great.
 abbrev pub IsFaultOfPool : Options → PoolFault → Type 0
 IsFaultOfPool options pool.Memory = AreInRange options
 IsFaultOfPool options pool.Spawn = AreInRange options
-IsFaultOfPool options pool.StampFull = AreInRange options
+IsFaultOfPool options pool.StampFull = ⊥
 IsFaultOfPool options pool.BadOptions = AreInRange options → ⊥
 
 -- what a run of workers returns that run nodes with states S and payloads M: an outcome, or its fault

@@ -18,7 +18,7 @@ may g c =
     may-run g.P.NodeProgram.program c.args.network.now o t c.run_workers.result
     (ok-maps c.run_workers.result (λ _. without_transcript o t) c.run_workers.ensures.in_range) c.run_workers.ensures.outcome
     (err-maps c.run_workers.result (λ fault no e is. no e (with_transcript o t is)) c.run_workers.ensures.bad_options)
-    (λ out. c.run_workers.ensures.reported_first (λ is. out (without_transcript o t is)))
+    (λ out. c.run_workers.ensures.reported_first (λ is. out (without_transcript o t is))) c.run_workers.ensures.stamps_fit
 
 pub returns-clause-outcome : goal.returns-clause-outcome
 returns-clause-outcome g c =
