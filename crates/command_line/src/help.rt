@@ -47,7 +47,6 @@ Status, and what standard error then holds:
   3  the turns were used up         forestplan: stopped
   4  a thread could not be started  forestplan: threads
      memory ran out                 forestplan: memory
-     a stamp would pass 2^64 - 1    forestplan: stamps
      a read or a write failed       forestplan: stream
 `stream` also comes if the reader of the output leaves before its end, as `| head`
 does: then nothing is wrong.
@@ -213,8 +212,7 @@ after the first line.
 On the complete graph of 100 nodes that is 594 million lines, of 13 GB in
 edition 1.
 A run that is cut off by --turns prints none: it reports `forestplan: stopped`
-(status 3). If a stamp would be above 18446744073709551615 it reports
-`forestplan: stamps` (status 4).
+(status 3).
 
 Example: two transmitters, out of reach of each other
   printf 'p edge 2 0\\n' | forestplan transcript
@@ -316,10 +314,10 @@ With --program NAME the nodes of any command run another program:
 has fewer nodes, it is reported as `forestplay: NoRoot vertex V`.
 
 Status: 0 done, 1 input refused, 2 command line refused, 3 the turns of `run` were
-used up, 4 memory ran out, a thread could not be started, a stamp would be too
-great, or the input could not be read or the output not written (`forestplay:
-stream`). The last also comes if the reader of the output leaves before its end,
-as `| head` does: then nothing is wrong.
+used up, 4 memory ran out, a thread could not be started, or the input could not
+be read or the output not written (`forestplay: stream`). The last also comes if
+the reader of the output leaves before its end, as `| head` does: then nothing is
+wrong.
 
 Example: node 1 of two greets the other
   printf 'p edge 2 1\\ne 1 2\\nput 1 0\\n' | forestplay events",
