@@ -31,5 +31,3 @@ forestlab picture broken --without parent -o docs/pictures/without-parent.svg
 forestlab picture broken --without pair -o docs/pictures/without-pair.svg
 forestlab picture broken --without earlier -o docs/pictures/without-earlier.svg
 forestlab picture broken --program matching --without partner -o docs/pictures/without-partner.svg
-forestlab picture adversary examples/two.col -o docs/pictures/two-adversary.html
-forestlab picture adversary examples/two.col --without safes -o docs/pictures/two-without-safes-adversary.html

@@ -18,7 +18,6 @@ from lab.networks.named import network_bytes
 from lab.networks.network_text import network_of, stem
 from lab.networks.plan_text import read_plan
 from lab.pictures import (
-    adversary_page,
     bits_picture,
     broken_picture,
     forests_picture,
@@ -151,20 +150,10 @@ def draw_watch(of, pulses):
     return watch_page.draw(runs)
 
 
-def space_in(kind, of, without, beyond):
-    return schedules_space.space_of(of.network, kind, without, beyond, of.program, of.progress)
-
-
 def draw_schedules(of, without, columns):
-    space = space_in("schedules", of, without, columns is not None)
+    is_beyond = columns is not None
+    space = schedules_space.space_of(of.network, without, is_beyond, of.program, of.progress)
     return schedules_picture.draw(of.network, space, columns)
-
-
-def draw_adversary(of, without, as_table):
-    space = space_in("adversary", of, without, True)
-    if as_table:
-        return adversary_page.draw_table(space)
-    return adversary_page.draw(of.network, space)
 
 
 class Kind(NamedTuple):
@@ -288,16 +277,6 @@ KINDS = {
         (4, "run, which draws one schedule"),
         of_programs=True,
     ),
-    "adversary": Kind(
-        "A page on which you are the network: you choose which message comes next (HTML).",
-        "At most 200,000 states. With a rule left out, what goes wrong is there too, in a table that may end\n"
-        "early, which the page says.",
-        "forestlab picture adversary examples/triangle.col > triangle.html\n"
-        "  forestlab picture adversary examples/path.col --without safes > path-without-safes.html",
-        draw_adversary,
-        (4, "player"),
-        of_programs=True,
-    ),
     "broken": Kind(
         "What goes wrong without a rule of the rounds, and the same rounds with all rules.",
         "At most 40 nodes if they go wrong in a merge or at the end of another program. Without NETWORK, a\n"
@@ -316,7 +295,7 @@ KINDS = {
 OF_PLAN, OF_RUN = ("plan",), ("run", "overview")
 
 HELP = (
-    "Draws plans, rounds and runs, as SVG on standard output; the last three kinds draw\n"
+    "Draws plans, rounds and runs, as SVG on standard output; the last two kinds draw\n"
     "what `forestlab explore` searches.\n\n"
     + "".join(
         f"  {name:10} {kind.does[0].lower()}{kind.does[1:-1]}\n" for name, kind in KINDS.items()
@@ -371,7 +350,7 @@ def add_pulses(kind, option, said, dest=None):
 
 def add_rules(kind, name):
     """The options of the kinds that leave rules out."""
-    if name in ("schedules", "adversary"):
+    if name == "schedules":
         kind.add_argument(
             "--without",
             type=some_of(*OF_SCHEDULES),
@@ -379,6 +358,7 @@ def add_rules(kind, name):
             metavar="RULES",
             help=f"some of {','.join(OF_SCHEDULES)}",
         )
+        add_pulses(kind, "--columns", "the states after A to B events alone")
     if name == "broken":
         of = "; or ".join(f"{','.join(of)} of {name}" for name, of in RULES_OF_PROGRAMS.items())
         kind.add_argument(
@@ -387,12 +367,6 @@ def add_rules(kind, name):
             required=True,
             metavar="RULES",
             help=f"some of {of}",
-        )
-    if name == "schedules":
-        add_pulses(kind, "--columns", "the states after A to B events alone")
-    if name == "adversary":
-        kind.add_argument(
-            "--json", action="store_true", dest="as_table", help="the page's table alone"
         )
 
 

@@ -11,7 +11,7 @@ MAX_STATES = 200_000
 BROKEN_STATES = 20_000, 60_000, MAX_STATES
 
 
-def space_of(network, kind, without=(), beyond=False, program=Colouring, progress=None):
+def space_of(network, without=(), beyond=False, program=Colouring, progress=None):
     """The space of a network that was read, whose nodes run a program. With a rule left out it goes on after what goes
     wrong if `beyond`, up to the first of the numbers of `BROKEN_STATES` within which something does. `progress` is told
     now and then how many states and events there are so far."""
@@ -24,7 +24,7 @@ def space_of(network, kind, without=(), beyond=False, program=Colouring, progres
     space = Space(network, without, MAX_STATES, progress=progress, program=program)
     if space.is_cut:
         raise Wrong(
-            f"{kind} draws at most {MAX_STATES:,} states, and {network.name} has more: leave out an edge or a node"
+            f"schedules draws at most {MAX_STATES:,} states, and {network.name} has more: leave out an edge or a node"
         )
     return space
 

@@ -30,8 +30,8 @@ and seed give the same run on every machine.
 A step is a put, a take or a pulse of one node. What waits comes when nothing else is
 possible, so it is as slow as it can be.
 
-With --events a list of events takes the place of the policy, as the page of
-`forestlab picture adversary` shows and copies it, `forestlab explore --list` writes it and
+With --events a list of events takes the place of the policy, as the tab Adversary of
+`forestlab studio` shows it, `forestlab explore --list` writes it and
 `forestplay events` reads it. An event that isn't possible is refused. If the list ends
 before all nodes are done, so does the transcript, and `forestplay replay` reports
 NotWhole; with --to-the-end the policy plays the rest.

@@ -10,8 +10,8 @@ from lab.wrong import Wrong
 # What the command line gives: the network to begin with, and programs of one's own by name; and whether the programs
 # are proved and built, and the file with what their build says.
 OPENED: dict[str, Any] = {"network": None, "own": {}, "is_proved": False, "log": None}
-# Nodes that are drawn; that the rounds, and a run without a clock, are shown of; of which every order is searched.
-MOST_DRAWN, MOST_ROUNDS, MOST_RUN, MOST_SEARCHED = 400, 100, 40, 4
+# Nodes that are drawn; that the rounds, and a run without a clock, are shown of.
+MOST_DRAWN, MOST_ROUNDS, MOST_RUN = 400, 100, 40
 
 
 def network_asked(asked, most=MOST_DRAWN):

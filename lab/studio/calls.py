@@ -1,24 +1,6 @@
 """What the page can ask for. A call takes what was asked, as a dictionary, and a function `tell(done, of)` or
-`tell(part=..)`; it returns what the page gets. A frame is a whole page, which the server lets reach nothing."""
-from lab.pictures import adversary_page, schedules_space
-from lab.pictures.svg import escaped
-from lab.schedules.rules import OF_SCHEDULES
+`tell(part=..)`; it returns what the page gets."""
 from lab.studio import building, networks, predictions, rounds, runs
-from lab.studio.asked import MOST_SEARCHED, network_asked, program_asked, rules_asked
-
-
-def adversary(asked, _tell):
-    """The page on which every order of a tiny network can be chosen."""
-    network = network_asked(asked, MOST_SEARCHED)
-    without = rules_asked(asked, OF_SCHEDULES)
-    return adversary_page.draw(
-        network, schedules_space.space_of(network, "adversary", without, True, program_asked(asked))
-    )
-
-
-def page_of_words(words):
-    return f'<!doctype html><meta charset="utf-8"><p style="font:14px DejaVu Sans,Verdana,sans-serif">{escaped(words)}'
-
 
 CALLS = {
     "hello": networks.hello,
@@ -43,4 +25,3 @@ CALLS = {
     "build": building.begin,
     "built": building.so_far,
 }
-FRAMES = {"adversary": adversary}

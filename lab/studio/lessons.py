@@ -58,7 +58,7 @@ PLACES = [
     (
         "example=path&tab=adversary&without=safes",
         "You choose which message is taken next. Here nodes don't wait for the safes of their neighbours.",
-        "Make a node pulse with a wrong inbox, in as few steps as you can; then search every order, and try the dares.",
+        "Make a node pulse with a wrong inbox, in as few steps as you can; then try the dares.",
     ),
     (
         "example=triangle&tab=rounds&program=matching",

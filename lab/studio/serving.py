@@ -21,7 +21,6 @@ import sys
 import threading
 import time
 import traceback
-from urllib.parse import parse_qs
 
 from lab.pictures import pages
 from lab.programs import TOP
@@ -49,14 +48,10 @@ NO_TOKEN = (
     "The token is missing or another: open the address that `studio` has printed; if it is open, "
     "reload this page."
 )
-# The page runs its own scripts alone, and a frame of an answer can reach nothing: it has no origin.
+# The page runs its own scripts alone.
 OF_PAGE = (
     "default-src 'none'; script-src 'self'; style-src 'self' 'unsafe-inline'; img-src 'self' data: blob:; "
-    "connect-src 'self'; frame-src 'self'; form-action 'self'; frame-ancestors 'none'; base-uri 'none'"
-)
-OF_FRAME = (
-    "sandbox allow-scripts; default-src 'none'; script-src 'unsafe-inline'; style-src 'unsafe-inline'; "
-    "img-src data:; frame-ancestors 'self'; base-uri 'none'"
+    "connect-src 'self'; form-action 'self'; frame-ancestors 'none'; base-uri 'none'"
 )
 
 
@@ -163,12 +158,12 @@ class Handler(http.server.BaseHTTPRequestHandler):
     def has_token(self, given):
         return hmac.compare_digest(given.encode(), self.server.token.encode())
 
-    def headed(self, status, kind, policy, length=None):
+    def headed(self, status, kind, length=None):
         self.send_response(status)
         for name, value in (
             ("Content-Type", f"{kind}; charset=utf-8"),
             ("Content-Length", length),
-            ("Content-Security-Policy", policy),
+            ("Content-Security-Policy", OF_PAGE),
             ("Cache-Control", "no-store"),
             ("X-Content-Type-Options", "nosniff"),
             ("Referrer-Policy", "same-origin"),
@@ -181,7 +176,7 @@ class Handler(http.server.BaseHTTPRequestHandler):
 
     def refuse(self, status, why):
         body = (why + "\n").encode()
-        self.headed(status, "text/plain", OF_PAGE, len(body))
+        self.headed(status, "text/plain", len(body))
         self.wfile.write(body)
 
     def do_GET(self):
@@ -199,23 +194,21 @@ class Handler(http.server.BaseHTTPRequestHandler):
                 body = file.read()
         else:
             return self.refuse(404, "There is no such page.")
-        self.headed(200, kind, OF_PAGE, len(body))
+        self.headed(200, kind, len(body))
         return self.wfile.write(body)
 
     def do_POST(self):
-        """A call, `/call/NAME` with JSON, or a form whose answer is a page for a frame, `/frame/NAME`."""
+        """A call, `/call/NAME` with JSON."""
         _, way, name = (self.path + "//").split("/")[:3]
         if not self.is_from_page():
             return self.refuse(403, "This call isn't from the studio's own page.")
-        if way != "frame" and not self.has_token(self.headers.get("X-Token", "")):
+        if not self.has_token(self.headers.get("X-Token", "")):
             return self.refuse(403, NO_TOKEN)
         length = length_of(self.headers.get("Content-Length", ""))
         if length is None or length > MOST_ASKED:
             return self.refuse(413, f"A call has at most {MOST_ASKED:,} bytes.")
         body = self.rfile.read(length)
         signal.alarm(0)
-        if way == "frame":
-            return self.frame_asked(name, body)
         if way != "call" or name not in calls.CALLS:
             return self.refuse(404, "There is no such call.")
         asked = object_of(body)
@@ -223,29 +216,12 @@ class Handler(http.server.BaseHTTPRequestHandler):
             return self.refuse(400, "A call is an object in JSON.")
         return self.answer_call(calls.CALLS[name], asked)
 
-    def frame_asked(self, name, body):
-        """A form has its token among its fields."""
-        form = parse_qs(body.decode("utf-8", "replace"))
-        asked = {key: values[-1] for key, values in form.items()}
-        if not self.has_token(asked.pop("token", "")):
-            return self.refuse(403, NO_TOKEN)
-        if name not in calls.FRAMES:
-            return self.refuse(404, "There is no such call.")
-        return self.answer_frame(calls.FRAMES[name], asked)
-
     def answer_call(self, call, asked):
-        self.headed(200, "application/x-ndjson", OF_PAGE)
+        self.headed(200, "application/x-ndjson")
         answer = Answer(self)
         with limited(self.connection, lambda why: answer.line(wrong=why)):
             found = outcome(call, asked, answer.tell)
         answer.line(**found)
-
-    def answer_frame(self, call, asked):
-        with limited(self.connection, lambda why: None):
-            found = outcome(call, asked, lambda *_, **_more: None)
-        body = (found.get("answer") or calls.page_of_words(found["wrong"])).encode(errors="replace")
-        self.headed(200, "text/html", OF_FRAME, len(body))
-        self.wfile.write(body)
 
 
 def outcome(call, asked, tell):

@@ -104,8 +104,8 @@ Of a transcript that isn't right it prints what `forestlab transcript check` say
 Only a take without a put before it and lines that no transcript has are refused:
 forestlab transcript check judges a run.
 
-The other way, from the list of events of `forestlab picture adversary` to a transcript, goes
-`forestlab simulate NETWORK --events LIST`.
+The other way, from a list of events, as `forestlab explore --list` writes it, to a
+transcript, goes `forestlab simulate NETWORK --events LIST`.
 
 In ShiViz, give this as the parser of the log:
   (?<host>\\S*) (?<clock>{.*})\\n(?<event>.*)""",

@@ -14,7 +14,7 @@ from concurrent.futures import ThreadPoolExecutor
 from itertools import product
 
 NETWORKS = "triangle path petersen drops barred chain6 four_cycle star queen5_5 two".split()
-PICTURES = "map plan results forests rounds bits why player schedules adversary".split()
+PICTURES = "map plan results forests rounds bits why player schedules".split()
 # Kinds that draw a run, of one thread: two runs of several threads differ.
 OF_RUN = ("overview", "run")
 OPTIONS = {"why": "--vertex 2"}

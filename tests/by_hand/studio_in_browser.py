@@ -1,6 +1,5 @@
 """More tests of the studio's page in Chromium or Chrome than those of ./test (tests/pages/studio_page.py): with a
-finger, keys, files, lessons, pages of another origin, a phone's width; and of the page of picture adversary. The last
-line is 'N passed, M failed'.
+finger, keys, files, lessons, pages of another origin, a phone's width. The last line is 'N passed, M failed'.
 
   python3 -m tests.running by_hand.studio_in_browser
 
@@ -12,13 +11,12 @@ import json
 import os
 import threading
 import time
-from itertools import product
+from itertools import combinations
 
 from tests import TOP
-from tests.cases import called, forestlab, said_by
+from tests.cases import forestlab, said_by
 from tests.pages import studio_page
 from tests.programs.studio import processes_of
-from tests.settings import PLAY
 
 SHOWN = {
     "draw": "example=barred&tab=draw&node=3",
@@ -56,33 +54,6 @@ EVIL = """<!doctype html><script>
   document.title = "tried: " + said.join(", ");
 })();
 </script><body>"""
-TWO, ALL_OF_FOUR = "p edge 2 1\ne 1 2\n", "p edge 4 6\ne 1 2\ne 1 3\ne 1 4\ne 2 3\ne 2 4\ne 3 4\n"
-ADVERSARIES = {
-    "two": (TWO, ()),
-    "triangle": ("p edge 3 3\ne 1 2\ne 1 3\ne 2 3\n", ()),
-    "star": ("p edge 4 3\ne 1 4\ne 2 4\ne 3 4\n", ()),
-    "two without early": (TWO, ("--without", "early")),
-    "four without safes": (ALL_OF_FOUR, ("--without", "safes")),
-}
-EVENTS, WIRE = "run.length - 1", "#net [data-step]"
-READY = "T.nodes.map((_, a) => a + 1).filter(v => possible().some(one => !one.take && one.v === v))"
-# The texts and messages of the map that lie outside of it.
-CUT = """Array.from(document.querySelectorAll('#net text, #net rect')).filter(e => { const b = e.getBBox(),
-  v = document.getElementById('net').viewBox.baseVal; return b.x < -1 || b.y < -1 || b.x + b.width > v.width + 1
-  || b.y + b.height > v.height + 1; }).map(e => e.textContent || e.outerHTML)"""
-# The fewest steps to something wrong, as lines of events.
-BROKEN = """(() => { const from = {0: null}, queue = [0];
-  while (queue.length) {
-    let s = queue.shift();
-    for (const step of stepsOf(s)) {
-      if (step.fault) {
-        const keys = [eventLine(step)];
-        for (; from[s]; s = from[s][0]) keys.unshift(from[s][1]);
-        return keys;
-      }
-      if (!(step.to in from)) { from[step.to] = [s, eventLine(step)]; queue.push(step.to); }
-    }
-  } })()"""
 
 
 class More(studio_page.Page):
@@ -235,10 +206,10 @@ class More(studio_page.Page):
             )
 
     def test_cancel(self):
-        """A search that takes minutes is ended by its button, and its process with it."""
-        self.go_to("net=0.0_100.0_100.100_0.100~1-2_1-3_1-4_2-3_2-4_3-4&tab=adversary")
-        self.sees("four nodes", "studio.steps.found && studio.net.nodes.length === 4")
-        self.page.click_on("#search")
+        """A run that takes long is ended by its button, and its process with it."""
+        places = "_".join(f"{20 * k}.{k * k}" for k in range(12))
+        edges = "_".join(f"{v}-{w}" for v, w in combinations(range(1, 13), 2))
+        self.go_to(f"net={places}~{edges}&tab=run&seed=7")
         self.sees("it is under way", "!document.getElementById('busy').hidden")
         time.sleep(1)
         self.note("by a process", self.working())
@@ -247,17 +218,6 @@ class More(studio_page.Page):
         while self.working() and time.monotonic() < until:
             time.sleep(0.1)
         self.note("which ends", not self.working(), self.working())
-        self.go_to("example=two&tab=adversary")
-        self.sees("two nodes", "studio.steps.found && studio.net.nodes.length === 2")
-        self.page.click_on("#search")
-        self.sees("every order of two", "!document.getElementById('frame').hidden")
-        self.page.click_on("#unsearch")
-        self.page.click_on("[data-tab=draw]")
-        time.sleep(0.5)
-        self.note(
-            "which is gone in another tab",
-            self.page.value("document.getElementById('frame').hidden"),
-        )
 
     def test_between_tabs(self):
         """What one tab has on the stage isn't left there; a place is kept, and the browser's way back leads to it."""
@@ -366,168 +326,3 @@ class More(studio_page.Page):
             got = self.page.value("document.title")
             self.note(f"and got nothing from {host}", got == "tried:", got)
         server.shutdown()
-
-
-class Adversary(studio_page.Page):
-    """The page of picture adversary, at 1024 by 768 and at a phone's width. The built `forestplay` has to accept its
-    lists."""
-
-    def test_pages(self):
-        for (name, (network, options)), wide in product(ADVERSARIES.items(), (1024, 390)):
-            self.net, self.name = self.file("net.col", network), f"{name}, {wide} wide"
-            self.network = network.encode()
-            drawn = forestlab("picture", "adversary", self.net, *options)[1]
-            page = self.file(f"{self.name}.html", drawn)
-            self.page.faults.clear()
-            self.page.size(wide, 800, wide < 600)
-            self.page.go(f"file://{page}")
-            self.page.until("document.readyState === 'complete' && element('list')")
-            for rows in (
-                [self.broken] if options else [self.looks, self.steps, self.refused, self.listed]
-            ):
-                rows()
-                self.page.value("restart(); show()")
-            self.row("no script complained", not self.page.faults, self.page.faults[:1])
-
-    def row(self, what, good, found=""):
-        self.note(f"{self.name}: {what}", good, found)
-
-    def has(self, what, words, wanted=True):
-        got = self.page.value(words)
-        self.row(what, got == wanted, got)
-
-    def type(self, key, **more):
-        self.page.key(key, **(more or {"text": key}))
-
-    def node(self, v):
-        self.page.click_on(f"#net .node[data-node='{v}'] circle")
-
-    def looks(self):
-        for _ in range(40):
-            self.type("r")
-        self.has("no wider than the window", "document.documentElement.scrollWidth <= innerWidth")
-        self.has("nothing of the map is cut off", CUT, [])
-        self.has(
-            "buttons are large enough for a finger",
-            "Array.from(document.querySelectorAll('button')).filter("
-            "one => one.offsetHeight && one.offsetHeight < 30).length",
-            0,
-        )
-        if SHOTS:
-            self.page.shot(os.path.join(SHOTS, f"adversary-{self.name.replace(', ', '-')}.png"))
-
-    def steps(self):
-        self.page.click_on(WIRE)
-        self.has("a message that is clicked comes", f"{EVENTS} === 1 && now().step.take")
-        self.page.click_on("#undo")
-        self.node(1)
-        self.has("undo, and a node that can't pulse", EVENTS, 0)
-        self.has(
-            "nodes say what they wait for",
-            "Array.from(document.querySelectorAll('#net .node')).every(one => "
-            "one.textContent.includes('waits for '))",
-        )
-        while not self.page.value(READY):
-            self.page.click_on(WIRE)
-        before = self.page.value("pulses().join()")
-        self.node(self.page.value(READY)[0])
-        self.has(
-            "a node that is clicked makes its pulse",
-            f"pulses().join() !== '{before}' && !now().step.take",
-        )
-        self.page.value("restart(); show()")
-        self.type("1")
-        self.type("u")
-        while self.page.value("document.activeElement.dataset.key === undefined"):
-            self.type("Tab", windowsVirtualKeyCode=9)
-        for _ in range(3):
-            self.type("Enter", text="\r", windowsVirtualKeyCode=13)
-        self.has("a digit, u, Tab and Enter, and Enter again", EVENTS, 3)
-        self.page.value("restart(); show()")
-        self.type("s")
-        self.type("s")
-        self.has("twice in step", "pulses().every(p => p === 2)")
-        self.page.value("restart(); show()")
-        v, w = self.page.value("D.net.edges[0]")
-        self.page.click(
-            *self.page.value(
-                "(() => { const b = stage.svg.getBoundingClientRect(), "
-                f"p = stage.along({v}, {w}, 0.5); return [b.x + p[0], b.y + p[1]]; }})()"
-            )
-        )
-        self.page.click_on("#rest")
-        self.has(
-            "nothing comes over a frozen line",
-            f"frozen['{v}–{w}'] && T.links.filter(link => edgeOf(link) === "
-            f"'{v}–{w}').every(link => held(link, now().state).length)",
-        )
-        self.page.value(f"document.querySelector('#net [data-edge=\"{v}-{w}\"]').focus()")
-        self.type("Enter", text="\r", windowsVirtualKeyCode=13)
-        self.has("a key thaws it", f"!frozen['{v}–{w}'] && possible().length > 0")
-
-    def refused(self):
-        """What isn't possible is said, in a list and in an address."""
-        for words, line in (
-            ("put 9 0", 1),
-            ("put 1 0\nput 1 0", 2),
-            ("take 1 9", 1),
-            ("pulse 9", 1),
-            ("put 1", 1),
-            ("c x\nputt 1 0", 2),
-        ):
-            self.page.value(
-                f"element('list').value = {json.dumps(words)}; element('paste').click()"
-            )
-            said = self.page.text("said")
-            self.row(
-                f"a list with {words!r}",
-                said.startswith(f"Line {line}, ") and "isn’t possible" in said,
-                said,
-            )
-        for place, words in (
-            ("#run-z", "Step 1 of the address"),
-            ("#entry-3", "no place of this page"),
-        ):
-            self.page.value(f"location.hash = {json.dumps(place)}")
-            self.sees(f"{self.name}: {place}", f"element('said').textContent.includes('{words}')")
-        self.page.value("location.hash = ''")
-
-    def played(self):
-        """What forestplay does with the page's list."""
-        text = self.page.value("element('list').value").encode()
-        return called(PLAY, "events", data=self.network + text)
-
-    def listed(self):
-        for _ in range(25):
-            self.type("r")
-        for when in ("on the way", "at the end"):
-            if when == "at the end":
-                self.page.click_on("#rest")
-            done = self.played()
-            shown = self.page.text("state").encode() + b"\n"
-            self.row(f"forestplay shows the same {when}", done[:2] == (0, shown), (done, shown))
-        self.has(
-            "the end",
-            r"/All have halted, with channels \d+(, \d+)*\.$/.test(element('said').textContent)",
-        )
-        self.has(
-            "what can't be won isn't",
-            "D.dares.filter(dare => ['wrong', 'plan'].includes(dare.kind) && "
-            "judged(dare)[0]).length",
-            0,
-        )
-
-    def broken(self):
-        """Along the first list that goes wrong, event by event, by its buttons."""
-        path = self.page.value(BROKEN)
-        for key in path:
-            self.page.click_on(f'#nodes [data-key="{key}"]')
-        self.has(
-            "what goes wrong is said, and a dare won",
-            f"element('said').className === 'bad' && {EVENTS} === "
-            f"{len(path)} && judged(D.dares[0])[0]",
-        )
-        done = self.played()
-        # The proved machine keeps what comes early apart, so without `early` the events are possible there.
-        good = done[0] == 0 if "early" in self.name else done[0] == 1 and b" line " in done[2]
-        self.row("forestplay accepts the list alone if it goes right there", good, done)

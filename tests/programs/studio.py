@@ -14,13 +14,15 @@ import sys
 import tempfile
 import threading
 import time
+from itertools import combinations
 
 from lab.schedules.policies import POLICIES
 from tests import TOP
 from tests.cases import Case, examples, said_by
 
 TRIANGLE = "p edge 3 3\ne 1 2\ne 1 3\ne 2 3\n"
-SLOW = "p edge 4 6\n" + "".join(f"e {v} {w}\n" for v in range(1, 5) for w in range(v + 1, 5))
+# A run of twelve nodes that are all neighbours takes seconds.
+SLOW = "p edge 12 66\n" + "".join(f"e {v} {w}\n" for v, w in combinations(range(1, 13), 2))
 HUNGRY = (
     "def greet(node):\n    return bytearray(3 << 30)\n\n\ndef next(node, pulse, inbox):\n    return []\n\n\n"
     "def result(node):\n    return ''\n"
@@ -550,17 +552,17 @@ class Ends(Server):
     def test_ends(self):
         """A call ends with its browser, and all with the server."""
 
-        def search():
+        def slow_run():
             end = socket.create_connection(("127.0.0.1", self.port))
-            form = f"token={self.token}&network={SLOW.replace(chr(10), '%0A').replace(' ', '+')}"
+            asked = json.dumps({"network": SLOW, "policy": "oldest"})
             end.sendall(
-                f"POST /frame/adversary HTTP/1.1\r\nHost: 127.0.0.1:{self.port}\r\nContent-Length: "
-                f"{len(form)}\r\n\r\n{form}".encode()
+                f"POST /call/run HTTP/1.1\r\nHost: 127.0.0.1:{self.port}\r\nX-Token: {self.token}\r\n"
+                f"Content-Length: {len(asked)}\r\n\r\n{asked}".encode()
             )
             self.waits(lambda: processes_of(self.process.pid), 20)
             return end
 
-        end = search()
+        end = slow_run()
         self.note(
             "a call is under way",
             len(processes_of(self.process.pid)) == 1,
@@ -570,7 +572,7 @@ class Ends(Server):
         self.note(
             "it ends with its browser", self.waits(lambda: not processes_of(self.process.pid))
         )
-        end = search()
+        end = slow_run()
         under_way = processes_of(self.process.pid)
         self.process.send_signal(signal.SIGINT)
         self.note("Ctrl-C ends the server", self.process.wait(30) == 0)

@@ -74,7 +74,7 @@ export function wrong(said, key = null) {
   by("wrong").textContent = said || "";
   wrongKey = key;
 }
-export function busy(said, key, onCancel) {
+function busy(said, key) {
   const box = by("busy");
   if (!said && busyWith !== key) return;
   box.hidden = !said;
@@ -83,7 +83,7 @@ export function busy(said, key, onCancel) {
   box.querySelector("span").textContent = said;
   box.querySelector("progress").removeAttribute("value");
   box.querySelector("button").onclick = () => {
-    if (onCancel) onCancel(); else cancel(key);
+    cancel(key);
     busy(null, key);
   };
 }

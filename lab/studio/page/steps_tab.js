@@ -1,6 +1,5 @@
 // The tab Adversary: whoever looks is the network, and chooses which message is taken next and which node pulses.
-import {token} from "./api.js";
-import {all, among, announce, asks, busy, by, go, hooks, leftOutWords, listOf, programNamed, ruleBoxes, rulesOf, say, seen,
+import {all, among, announce, asks, by, go, hooks, leftOutWords, listOf, programNamed, ruleBoxes, rulesOf, say, seen,
   show, showOptions, stage, tabs, toggle} from "./base.js";
 import {html} from "./marks.js";
 import {net, text} from "./model.js";
@@ -120,36 +119,8 @@ function saidOf(is, step) {
   if (!w) return `make pulse ${is.looks[v - 1].p + 1}`;
   return `${wireOf(is, step).replace(/^payload \d+ /, "")} from ${w}` + (place ? `, before ${place} others` : "");
 }
-// Every order of events of a tiny network, in a frame that can reach nothing.
-function search() {
-  const form = html("form", null, {method: "post", action: "/frame/adversary", target: "frame"}), frame = by("frame");
-  const asked = {token, network: text(), name: net.name || "this network", without: steps.without,
-    program: programNamed()};
-  Object.entries(asked).forEach(([name, value]) => {
-    const field = html("input", null, {type: "hidden", name});
-    field.value = value;
-    form.append(field);
-  });
-  document.body.append(form);
-  busy("searching all orders of events", "adversary", closeFrame);
-  frame.onload = () => { busy(null, "adversary"); showFrame(true); };
-  form.submit();
-  form.remove();
-}
-// While the frame is there, the run that is made step by step isn't.
-function showFrame(isThere) {
-  by("frame").hidden = by("unsearch").hidden = !isThere;
-  document.body.classList.toggle("searched", isThere);
-}
-function closeFrame() {
-  // What is loaded last is nothing, and isn't shown.
-  if (by("frame").onload) by("frame").src = "about:blank";
-  by("frame").onload = null;
-  busy(null, "adversary");
-  showFrame(false);
-}
 tabs.adversary = {
-  search, show: showAt,
+  show: showAt,
   hint: () => "Click a message to have it taken, a node in a green ring to make its pulse, an edge to hold it.",
   click(v, edge, event, step) {
     if (step) return make(step);
@@ -173,8 +144,6 @@ tabs.adversary = {
     ruleBoxes("without", orders, steps.without, leaveOut);
     by("rule").textContent = leftOutWords(orders, steps.without);
     by("dare").value = steps.dare;
-    closeFrame();
-    by("searchrow").hidden = net.nodes.length > 4;
     by("handover").disabled = Boolean(steps.without);
     steps.found = null;
     ["undostep", "chance", "chance20", "instep"].forEach(id => { by(id).disabled = true; });
@@ -182,7 +151,6 @@ tabs.adversary = {
     if (more.fresh) steps.made = [];
     ask();
   },
-  leave: closeFrame,
   link(add) {
     add("steps", steps.made.join("_"));
     add("without", steps.without);
@@ -213,5 +181,3 @@ by("playlist").onclick = () => ask({list: by("list").value});
 by("program3").onchange = () => { seen.program = by("program3").value; tabs.adversary.enter({fresh: true}); };
 by("predicts2").onchange = () => { steps.predicts = by("predicts2").checked; show(); hooks.link(); };
 by("dare").onchange = () => { steps.dare = by("dare").value; ask(); hooks.link(); };
-by("search").onclick = search;
-by("unsearch").onclick = closeFrame;
