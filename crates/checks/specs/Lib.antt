@@ -1,1 +1,3 @@
+pub mod Pausing
+pub mod PausingLaws
 pub mod SmallNets

@@ -19,6 +19,8 @@ mod deque_checks;
 #[cfg(test)]
 mod event_machine_checks;
 #[cfg(test)]
+mod followed_checks;
+#[cfg(test)]
 mod forest_merge_checks;
 #[cfg(test)]
 mod forests_checks;
@@ -40,6 +42,8 @@ mod net_core_checks;
 mod networks;
 #[cfg(test)]
 mod node_api_checks;
+#[cfg(test)]
+mod pausing;
 #[cfg(test)]
 mod pool_checks;
 #[cfg(test)]
