@@ -12,25 +12,50 @@ The plan is that of the slow definitions, which `forestplan plain` prints, too. 
 whose classes have chosen anew, the greatest channel first, in as many passes, as `forestplay rounds --program
 recolouring --passes N` has it."""
 import argparse
+import math
+import random
 import sys
+from collections.abc import Iterable
+from itertools import combinations
 
 import networkx
 
-from bench import graphs
 from lab.definitions.colours import colours
-from lab.network import Network
+from lab.network import Edge, Network
 from lab.networks import kinds
 
 # How many passes are made, one after the other.
 PASSES = 3
+
+
+def of_pairs(nodes: int, edges: Iterable[Edge]) -> Network:
+    """The network of edges between nodes that count from 0."""
+    return Network(nodes, {(min(edge) + 1, max(edge) + 1) for edge in edges})
+
+
+def disk(nodes: int, degree: int, seed: int) -> Network:
+    """Places by chance in a square; two are joined if they are so near that `degree` neighbours are expected."""
+    source, reach = random.Random(seed), math.sqrt(degree / (math.pi * nodes))
+    places = [(source.random(), source.random()) for _ in range(nodes)]
+    pairs = combinations(range(nodes), 2)
+    return of_pairs(nodes, [(a, b) for a, b in pairs if math.dist(places[a], places[b]) <= reach])
+
+
+def gnp(nodes: int, share: float, seed: int) -> Network:
+    """Each pair is an edge with this chance."""
+    source = random.Random(seed)
+    pairs = [(a, b) for a in range(nodes) for b in range(a)]
+    return of_pairs(nodes, [pair for pair in pairs if source.random() < share])
+
+
 NETWORKS = {
-    "disk of 500, some 9 each": lambda: graphs.disk(500, 9, 7),
-    "200 nodes, a twentieth of pairs": lambda: graphs.gnp(200, 0.05, 7),
+    "disk of 500, some 9 each": lambda: disk(500, 9, 7),
+    "200 nodes, a twentieth of pairs": lambda: gnp(200, 0.05, 7),
     "2,000 sites, 55 of 1,000 apart": lambda: kinds.disk(2000, 0.055, 1),
     "queen 8x8": lambda: kinds.queen(8, 8),
     "grid 50x50": lambda: kinds.grid(50, 50),
     "tree of 1,000": lambda: kinds.tree(1000, 1),
-    "2,000 by preference, 5 each": lambda: graphs.of_pairs(
+    "2,000 by preference, 5 each": lambda: of_pairs(
         2000, networkx.barabasi_albert_graph(2000, 5, seed=1).edges
     ),
 }
