@@ -1,22 +1,16 @@
-"""Copies the built programs and the scripts into a folder, from where they run without this tree and its toolchain.
-
-All is made in a folder of its own and moved file by file, so that a full disk leaves nothing half; SHA256SUMS says what
-may be removed later."""
+"""Copies the built programs and the scripts into a folder, from where they run without this tree and its toolchain."""
 import os
-import pathlib
 import re
 import shutil
 import subprocess
 import sys
-import tempfile
 
 from build import kit, program
 from build.completion import COMMANDS, completion, manual
 from build.crate_lists import PROGRAMS, TOP
-from lab import checksums, version
-from lab.door import held
+from lab import version
 from lab.words import parser_of
-from lab.workshop.class_files import write, write_scripts
+from lab.workshop.class_files import is_free, make_folder, write, write_scripts, write_sums
 
 # What is copied, each at the path that it has here.
 FOLDERS = ("examples", "docs", "lab")
@@ -42,9 +36,8 @@ the minutes that README.md says, and needs the toolchain's command rt.
 """
 
 MORE_HELP = """\
-What is in the folder under one of these names is replaced, and what an earlier install
-put there and this one doesn't is removed; all else in it stays. If it can't be written
-to the end, as on a full disk, the folder stays as it was.
+DIR is a folder that isn't there yet, or is empty; so remove an earlier one. If it can't
+be written to the end, as on a full disk, nothing of it is left.
 
 Status: 0 done, 1 the folder can't be written, 2 the command line is refused; if the
 programs can't be built, what `forestplan` ends with.
@@ -112,54 +105,23 @@ def make(room):
         os.path.join(room, "VERSION"),
         version.text() + "".join(f"built where rt is of {it}\n" for it in kits),
     )
-    write(os.path.join(room, checksums.NAME), checksums.text_of(room))
-
-
-def put(room, folder):
-    """Moves all into place, each file in place of what was there, even if that is being run or is a link; and removes
-    what an earlier install put there and this one doesn't."""
-    before, now = checksums.read(folder), checksums.read(room)
-    for path in now:
-        if os.path.isdir(os.path.join(folder, path)) or any(
-            os.path.isfile(os.path.join(folder, above)) for above in pathlib.PurePath(path).parents
-        ):
-            raise OSError(
-                f"there is a folder in the place of {path}, or a file in that of a folder of it"
-            )
-    for path in [*now, checksums.NAME]:
-        os.makedirs(os.path.dirname(os.path.join(folder, path)), exist_ok=True)
-        os.replace(os.path.join(room, path), os.path.join(folder, path))
-    for path, known in before.items():
-        if path not in now and checksums.of(os.path.join(folder, path)) == known:
-            os.remove(os.path.join(folder, path))
-
-
-def install(folder):
-    """Makes all beside the folder, or inside if it is there, so that what is moved stays on one disk."""
-    at = folder if os.path.isdir(folder) else os.path.dirname(folder)
-    os.makedirs(at, exist_ok=True)
-    # A signal between the making of the room and its being known would leave it.
-    with held():
-        kept = tempfile.TemporaryDirectory(prefix=".install-", dir=at)
-    with kept as room:
-        make(room)
-        put(room, folder)
+    write_sums(room)
 
 
 def main():
     words = parser_of("install", "DIR", HELP, MORE_HELP, "python3 build")
-    words.add_argument("dir", metavar="DIR", help="a folder; it is made if it isn't there")
+    words.add_argument("dir", metavar="DIR", help="the folder that is made")
     folder = os.path.abspath(words.parse_args().dir)
     inside = os.path.relpath(os.path.realpath(folder), os.path.realpath(TOP))
-    if inside == "." or inside.split(os.sep)[0] in FOLDERS:
-        words.error(
-            "the folder has to be another one than this tree, and not inside of what is copied"
-        )
+    if inside.split(os.sep)[0] in FOLDERS:
+        words.error("the folder can't be inside of what is copied")
+    if not is_free(folder):
+        words.error(f"{folder} is there already")
     status = program.built(PROGRAMS)
     if status:
         return status
     try:
-        install(folder)
+        make_folder(folder, make)
     except (OSError, shutil.Error, subprocess.CalledProcessError) as failed:
         why = failed.args[0][0][2] if isinstance(failed, shutil.Error) else failed
         print(f"install: {folder}: {why}", file=sys.stderr)

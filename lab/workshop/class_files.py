@@ -1,13 +1,14 @@
 """The folder of a class: what students may see. The slow definitions, and all that is written with them, are solutions
 of the assignment; so are the right nodes. `workshop class DIR` makes it from an installed folder or a built tree."""
+import hashlib
 import os
 import re
 import shutil
 import tempfile
-from typing import Collection, Iterator
+from typing import Callable, Collection, Iterator
 
-from lab import checksums, version
-from lab.__main__ import COMMANDS
+from lab import version
+from lab.door import held
 from lab.programs import FIRST, SCRIPT, TOP, program_file
 from lab.words import parser_of
 
@@ -25,7 +26,6 @@ COPIED = (
     "examples",
     "lab/__init__.py",
     "lab/__main__.py",
-    "lab/checksums.py",
     "lab/door.py",
     "lab/door.sh",
     "lab/help",
@@ -56,7 +56,6 @@ LEFT_OUT = (
 # The line of its VERSION by which it is known.
 IS_CLASS = "for a class"
 
-STAR = "A command with a star (\\*) isn't in this folder; your teacher's folder has it."
 README = """\
 # A class with forestplan
 
@@ -69,7 +68,8 @@ Transmitters find channels by talking with their neighbours alone. Here you lear
 - [GALLERY](docs/learn/GALLERY.md): what goes wrong if a rule is left out.
 
 Put the folder's `bin` on the PATH once, by `PATH=$PWD/bin:$PATH`, and then type commands, as
-`forestlab workshop rounds two -- python3 my_node.py`.
+`forestlab workshop rounds two -- python3 my_node.py`. A command that isn't in this folder says so; your teacher's
+folder has it.
 """
 
 
@@ -85,39 +85,18 @@ def class_files() -> Iterator[str]:
                     yield found
 
 
-# What is said in brackets besides, with a link to a page.
-BESIDE = re.compile(r"; [^();]*\[[^]]+\]\(([^)#\s]+)\)(?=\))")
 LINK = re.compile(r"(?<!!)\[([^]]+)\]\(([^)#\s]+)(?:#[^)\s]*)?\)")
 
 
 def page_for_a_class(text: str, path: str, paths: Collection[str]) -> str:
-    """A page without its links to what isn't copied; their words stay, but for what is in brackets beside others."""
+    """A page without its links to what isn't copied; their words stay."""
 
-    def is_there(target):
-        found = os.path.normpath(os.path.join(os.path.dirname(path), target))
-        return (
-            ":" in target or found in paths or any(other.startswith(found + "/") for other in paths)
-        )
+    def linked(link):
+        found = os.path.normpath(os.path.join(os.path.dirname(path), link[2]))
+        is_there = ":" in link[2] or any(f"{other}/".startswith(f"{found}/") for other in paths)
+        return link[0] if is_there else link[1]
 
-    text = BESIDE.sub(lambda beside: beside[0] if is_there(beside[1]) else "", text)
-    text = LINK.sub(lambda link: link[0] if is_there(link[2]) else link[1], text)
-    absent = [name for name, module in COMMANDS.items() if module_path(module) not in paths]
-    return marked(text, absent)
-
-
-def module_path(module: str) -> str:
-    return f"{module.replace('.', '/')}.py"
-
-
-def marked(text: str, absent: Collection[str]) -> str:
-    """A page with a star at each command that the folder of a class hasn't, and a line that says so below the title."""
-    command = rf"forestlab (?:{'|'.join(absent)})\b"
-    new = re.sub(rf"(?m)^( {{4,}}\$ .*{command}.*)$", r"\1    # *", text)
-    new = re.sub(rf"(`{command}[^`]*`)", r"\1\\*", new)
-    if new == text or STAR in text:  # a folder of a class makes another one
-        return text
-    title, _, rest = new.partition("\n")
-    return f"{title}\n\n{STAR}\n{rest}"
+    return LINK.sub(linked, text)
 
 
 def write_scripts(room: str) -> None:
@@ -131,6 +110,35 @@ def write(path: str, text: str) -> None:
     os.makedirs(os.path.dirname(path), exist_ok=True)
     with open(path, "w", encoding="utf-8") as file:
         file.write(text)
+
+
+def write_sums(room: str) -> None:
+    """Writes a sum of each file of a folder, in the form that `sha256sum -c` reads."""
+    paths = [os.path.join(at, name) for at, _, names in os.walk(room) for name in names]
+    lines = ""
+    for path in sorted(paths):
+        with open(path, "rb") as file:
+            found = hashlib.sha256(file.read()).hexdigest()
+        lines += f"{found}  {os.path.relpath(path, room)}\n"
+    write(os.path.join(room, "SHA256SUMS"), lines)
+
+
+def is_free(folder: str) -> bool:
+    """Whether a folder isn't there yet, or is empty."""
+    return not os.path.exists(folder) or os.path.isdir(folder) and not os.listdir(folder)
+
+
+def make_folder(folder: str, make: Callable[[str], None]) -> None:
+    """Has such a folder made beside its place, and moved there once it is whole, so that nothing half is left."""
+    above = os.path.dirname(folder)
+    os.makedirs(above, exist_ok=True)
+    # A signal between the making of the room and its being known would leave it.
+    with held():
+        kept = tempfile.TemporaryDirectory(prefix=".new-", dir=above)
+    with kept as room:
+        made = os.path.join(room, "made")
+        make(made)
+        os.rename(made, folder)
 
 
 HELP = """\
@@ -147,13 +155,9 @@ def main(words: list[str]) -> int:
     line = parser_of("workshop class", "DIR", HELP, None)
     line.add_argument("dir", metavar="DIR", help="the folder that is made")
     folder = os.path.abspath(line.parse_args(words).dir)
-    if os.path.exists(folder) and not (os.path.isdir(folder) and not os.listdir(folder)):
+    if not is_free(folder):
         line.error(f"{folder} is there already")
-    os.makedirs(os.path.dirname(folder), exist_ok=True)
-    with tempfile.TemporaryDirectory(prefix=".class-", dir=os.path.dirname(folder)) as room:
-        made = os.path.join(room, "made")
-        copy_class(made)
-        os.rename(made, folder)
+    make_folder(folder, copy_class)
     print(f"{folder} is for students")
     return 0
 
@@ -180,4 +184,4 @@ def copy_class(room: str) -> None:
         os.path.join(room, "VERSION"),
         text if IS_CLASS in text.splitlines() else f"{text}{IS_CLASS}\n",
     )
-    write(os.path.join(room, checksums.NAME), checksums.text_of(room))
+    write_sums(room)

@@ -2,7 +2,6 @@
 
 What is installed has to run from another folder, through symbolic links, and from a copy of the folder; its manual
 pages have to be the help texts, which lab/help/ has."""
-import hashlib
 import os
 import re
 import resource
@@ -210,73 +209,37 @@ class Install(Case):
         missing = {f"forestlab {it.name}" for it in OF_BIN} - blocks.keys()
         self.note("the commands of forestlab", not missing, missing)
 
-    def test_again(self):
-        """Once more, while a program of the folder runs: what is there besides stays, and what an earlier install put
-        there and this one doesn't is removed, if it is as it was; nothing outside."""
-        own, old, changed, outside = (
-            self.file(os.path.join(self.target, "examples", name), b"x")
-            for name in ("own", "old", "changed", "../../outside")
-        )
-        for path, said in ((old, b"x"), (changed, b"y"), (outside, b"x")):
-            line = f"{hashlib.sha256(said).hexdigest()}  {os.path.relpath(path, self.target)}\n"
-            self.file(os.path.join(self.target, "SHA256SUMS"), line, "ab")
-        with subprocess.Popen(
-            [os.path.join(self.target, "bin", "forestplan"), "forests"],
-            stdin=subprocess.PIPE,
-            stdout=subprocess.PIPE,
-        ) as running:
-            got = run([*self.script, self.target])
-            out, _ = running.communicate(b"p edge 2 1\ne 1 2\n", timeout=LIMIT)
-        self.note(
-            "install once more", got[:2] == (0, b"") and out == b"forests 2 1\n0 1 2\n", (got, out)
-        )
-        there = [os.path.exists(path) for path in (own, changed, outside, old)]
-        self.same("what is there", there, [True, True, True, False])
-
     def test_refused(self):
+        """A folder that has something, this tree and what is in it among them, stays as it is."""
+        file = self.file(os.path.join(self.folder, "clash", "lib"), b"")
+        clash = os.path.dirname(file)
         for words in (
             [],
             [self.folder, self.folder],
             ["--all"],
+            [clash],
             [TOP],
             [os.path.join(TOP, "docs", "new")],
         ):
             self.refusal(f"install {words}", run([*self.script, *words]), 2, b"install: error: ")
-        file = self.file(os.path.join(self.folder, "clash", "lib"), b"")
-        for folder in (os.path.join(file, "below"), os.path.dirname(file)):
-            got = run([*self.script, folder])
-            self.note(
-                f"install to {folder}",
-                got[:2] == (1, b"") and re.fullmatch(rb"install: [^\n]+\n", got[2]),
-                got,
-            )
-        self.same("what was there", os.listdir(os.path.dirname(file)), ["lib"])
+        got = run([*self.script, os.path.join(file, "below")])
+        is_said = re.fullmatch(rb"install: [^\n]+\n", got[2])
+        self.note("install below a file", got[:2] == (1, b"") and is_said, got)
+        self.same("what was there", os.listdir(clash), ["lib"])
 
     def test_nothing_half(self):
-        """A full disk and a signal leave a folder as it was, and a new one isn't left."""
-        there = os.path.join(self.folder, "there")
-        self.file(os.path.join(there, "README.md"), b"mine\n")
-        for folder, left in ((there, ["README.md"]), (os.path.join(self.folder, "new"), None)):
-            got = run([*self.script, folder], most=200_000)  # The programs are larger.
-            self.note(f"no room in {folder}", got[:2] == (1, b"") and got[2].count(b"\n") == 1, got)
-            self.same("what is left", os.path.exists(folder) and os.listdir(folder), left or False)
-            with subprocess.Popen([*self.script, folder], stderr=subprocess.DEVNULL) as started:
-                at = folder if left else self.folder
-                wait_until(
-                    lambda: started.poll() is not None
-                    or any(name.startswith(".install-") for name in os.listdir(at)),
-                    LIMIT,
-                    0.001,
-                )
-                started.terminate()
-                self.same("the status", started.wait(LIMIT), 128 + signal.SIGTERM)
-            self.same(
-                "what a signal leaves", os.path.exists(folder) and os.listdir(folder), left or False
-            )
-            self.note(
-                "nothing beside it",
-                not any(name.startswith(".install-") for name in os.listdir(at)),
-            )
+        """A full disk and a signal leave nothing."""
+        room = os.path.join(self.folder, "room")
+        os.mkdir(room)
+        new = os.path.join(room, "new")
+        got = run([*self.script, new], most=200_000)  # The programs are larger.
+        self.note("no room", got[:2] == (1, b"") and got[2].count(b"\n") == 1, got)
+        self.same("what is left", os.listdir(room), [])
+        with subprocess.Popen([*self.script, new], stderr=subprocess.DEVNULL) as started:
+            wait_until(lambda: os.listdir(room) or started.poll() is not None, LIMIT, 0.001)
+            started.terminate()
+            self.same("the status", started.wait(LIMIT), 128 + signal.SIGTERM)
+        self.same("what a signal leaves", os.listdir(room), [])
 
     def test_limit(self):
         """Where a file may not grow, the output can't be written: that is a fault of the stream, and no death."""

@@ -119,29 +119,8 @@ class ClassFolder(Case):
             ("[part](#part)",) * 2,
             ("![C](../pictures/d.svg)",) * 2,
             ("see [D](../claim/D.md#part).", "see D."),
-            ("(run it; as\ncode: [D](D.md))", "(run it)"),
-            ("(run it; as [B](B.md))",) * 2,
         ):
             self.same(text, class_files.page_for_a_class(text, "docs/learn/A.md", paths), right)
-
-    def test_a_mark_at_commands_that_arent_there(self):
-        """By hand; and on the pages a command has a star exactly if the folder refuses it."""
-        page = "# P\n\nText `forestlab explore\ntwo`, `forestlab network`.\n\n    $ forestlab explore two | head\n"
-        right = (
-            f"# P\n\n{class_files.STAR}\n\nText `forestlab explore\ntwo`\\*, `forestlab network`.\n\n"
-            "    $ forestlab explore two | head    # *\n"
-        )
-        self.same("a page", class_files.marked(page, ["explore", "picture"]), right)
-        self.same("no such command", class_files.marked(page, ["sheet"]), page)
-        stars = 0
-        for path in ("TUTORIAL.md", "GALLERY.md", "WORKSHOP.md", "OWN_NETWORK.md", "PROTOCOL.md"):
-            lines = re.findall(r"(?m)^ {4,}\$ (.*forestlab .*)$", self.text(f"docs/learn/{path}"))
-            for line in lines:
-                name = re.search(r"forestlab (\w+)", line)[1]
-                is_there = name in ("workshop", "network", "channels")
-                self.same(f"{path}: {line}", line.endswith("    # *"), not is_there)
-            stars += sum(line.endswith("# *") for line in lines)
-        self.assertGreater(stars, 10)
 
     def test_it_has_no_solution(self):
         for path in (
