@@ -5,7 +5,6 @@ from typing import Callable
 from lab.door import held
 from lab.workshop.findings import Fault
 from lab.workshop.guard import Guard, Limits
-from lab.workshop.leftovers import end_all, is_reaper
 from lab.workshop.processes import Process
 
 Answer = list[str] | Fault
@@ -75,8 +74,6 @@ class Nodes:
                 process.end()
             while self.processes:
                 self.processes.pop().stop(until)
-            if is_reaper():
-                end_all()
 
 
 def attempt(do, *given):

@@ -35,10 +35,9 @@ class Forgers(unittest.TestCase):
         self.assertEqual(left_at_last(), [])
 
     def test_nothing_reaches_the_workshop(self):
-        """And nothing stays: children of sessions of their own, whose parents have ended. The environment is small, and
-        no signal is blocked, though signals wait while a program is started."""
+        """And the environment is small, and no signal is blocked, though signals wait while a program is started."""
         more = (
-            f"for _ in range(60):\n    away({MARK})\nsaid.append('names=' + '+'.join(sorted(os.environ)))\n"
+            "said.append('names=' + '+'.join(sorted(os.environ)))\n"
             "said.append(f'blocked={len(signal.pthread_sigmask(signal.SIG_BLOCK, ()))}')\n"
         )
         given = {"SECRET": "x", "PYTHONUNBUFFERED": "1", "HOME": "/", "LANG": "C.UTF-8"}

@@ -4,6 +4,7 @@ import ctypes
 import os
 import re
 import shutil
+import signal
 import socket
 import subprocess
 from unittest import mock
@@ -12,7 +13,6 @@ from lab.workshop import sandbox
 from lab.workshop.compiling import compiled, unpack
 from lab.workshop.findings import Fault
 from lab.workshop.guard import Guard, Limits
-from lab.workshop.leftovers import end_all, shut
 from lab.workshop.processes import Process
 from lab.workshop.sandbox import USERS, Sandbox
 from lab.wrong import Wrong
@@ -153,9 +153,6 @@ class Sandboxed(Case):
         self.file(os.path.join(self.copy, NODE), "own")
         os.symlink(os.path.join(self.subs, "ben", NODE), os.path.join(self.copy, "link"))
 
-    def tearDown(self):
-        end_all()
-
     def guards(self):
         """The container, and none; both in the folder of a submission."""
         if os.geteuid() == 0:
@@ -239,13 +236,13 @@ class Sandboxed(Case):
     def test_all_ends_with_a_program(self):
         """Children in sessions of their own, whose parents have ended."""
         more = f"for _ in range(3):\n    away({MARK})\ntime.sleep(0.5)\n"
-        shut()  # what is left behind becomes a child of this process
         for guard, some in zip(self.guards(), (0, 3)):
             with started(guard, program({}, more)) as process:
                 process.wait(LIMIT)
-                found = wait_until(lambda: len(left()) == some, 10)
-                self.note(type(guard).__name__, found, left())
-                end_all()
+            found = wait_until(lambda: len(left()) == some, 10)
+            self.note(type(guard).__name__, found, left())
+        for number in left():
+            os.kill(number, signal.SIGKILL)
 
     def fault_of(self, more, memory):
         """What is found of a program that gives no answer."""
