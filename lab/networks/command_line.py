@@ -2,7 +2,6 @@
 from argparse import ArgumentParser
 
 from lab.networks.kinds import KINDS, Kind
-from lab.networks.numbering import WAYS
 from lab.networks.options import add_form, add_stated
 from lab.words import add_command, add_commands, add_output, add_seed, parser_of
 
@@ -12,7 +11,7 @@ Makes networks, reads them in other forms, and says what they are.
 {kinds}
   read FILE           another form of a network: pairs (CSV), edges, adjacency, and by
                       networkx GraphML, GML, JSON, ..; or sites and a reach
-  number FILE         the same network, with other numbers
+  number FILE         the same network, with other numbers by chance
   tell FILE           what a network is, what a run on it costs, or what is wrong with it;
                       or of a code of the programs, as C8, what it means and what to do
   names FILE          a plan on standard input, with the names of a network that was read
@@ -63,15 +62,12 @@ be one of them.""",
     ),
     "number": (
         "FILE [options]",
-        "Numbers the nodes of a network anew.",
+        "Numbers the nodes of a network anew, by chance.",
         """\
-  random  by chance, by --seed
-  degree  fewest neighbours first
-  place   from left to right, by the comment lines `c at V X Y`
 A node keeps its name; one without a name gets its old number as name. Identifiers and
 barred channels of lines `i` and `b` go with their nodes.
 The forests depend on the numbers, and so does the plan.""",
-        "forestlab network number examples/petersen.col --by random --seed 2 | forestplan forests",
+        "forestlab network number examples/petersen.col --seed 2 | forestplan forests",
     ),
     "tell": (
         "FILE [options]\n       forestlab network tell CODE",
@@ -80,8 +76,7 @@ The forests depend on the numbers, and so does the plan.""",
   barred      how many channels are barred, if any is
   forests     the greatest number of neighbours of a node with a greater identifier
   payloads    the messages of the rounds: every run of `plan` has just these. If they
-              may be many, a bound is printed, which is proved, unless --payloads has
-              forestplay count them
+              may be many, a bound is printed, which is proved
   wires       what all links of such a run carry: the payloads, as many
               acknowledgements, a safe of each pulse and a closing mark
   transcript  what `transcript` prints of it
@@ -127,15 +122,6 @@ def add_options(command: ArgumentParser, name: str) -> None:
         command.add_argument("--forests", type=int, metavar="U", help="there are U forests")
     if name == "read":
         add_tables(command)
-    if name == "tell":
-        command.add_argument(
-            "--payloads", action="store_true", help="counts the payloads, however many they are"
-        )
-    if name == "number":
-        command.add_argument(
-            "--by", choices=WAYS, required=True, help="the order of the new numbers"
-        )
-        command.add_argument("--reverse", action="store_true", help="the other way round")
     if name == "names":
         command.add_argument(
             "--channels", metavar="TABLE", help="real channel numbers, as '36 40 44 48'"

@@ -1,16 +1,11 @@
 """`forestlab network tell`: what a network is, and what a run on it comes to, its payloads and wires, and about how
 long the commands take."""
 from collections.abc import Iterator
-import subprocess
-import tempfile
 from typing import Any
 
 from lab.network import Network
 from lab.networks.network_text import Reading
-from lab.networks.texts import plain_text
-from lab.programs import program_file
 from lab.words import counted, duration
-from lab.wrong import Wrong
 
 # The most nodes times pulses for which the rounds are worked out here, in some seconds.
 MOST_AT_ONCE = 300_000
@@ -22,24 +17,17 @@ WIRES_A_SECOND = {"plan": 1_500_000, "transcript": 1_000_000}
 
 
 class Run:
-    """What every whole run of a network comes to; `payloads` counts them, `how` says who counted, and `is_bound` that
-    it is the most that there can be. If they may be many, they are counted only if that `is_counted`.
-    """
+    """What every whole run of a network comes to; `payloads` counts them, or if they may be many, `is_bound`, it is the
+    most that there can be."""
 
-    def __init__(self, network, is_counted=False):
-        self.is_bound, self.last = False, LAST_COLOUR + 3 * network.forest_count * network.channels
+    def __init__(self, network):
+        self.last = LAST_COLOUR + 3 * network.forest_count * network.channels
         rounds = rounds_here(network) if network.nodes * self.last <= MOST_AT_ONCE else None
+        self.is_bound = rounds is None
         if rounds:
             self.payloads = sum(len(pulse.puts) for pulse in rounds.pulses)
-            self.how = "counted by the definition of the rounds"
-        elif is_counted:
-            self.payloads, self.how = payloads_by_program(network), "counted by `forestplay rounds`"
         else:
-            self.payloads, self.how, self.is_bound = (
-                most_payloads(network),
-                "--payloads counts them",
-                True,
-            )
+            self.payloads = most_payloads(network)
         self.wires = 2 * self.payloads + 2 * len(network.edges) * (self.last + 1)
         # Of a transcript; a line has two vertices, a pulse, and words of 13 letters.
         self.lines = 2 * self.wires + network.nodes * self.last + 1
@@ -58,22 +46,6 @@ def rounds_here(network: Network) -> Any:
     except ImportError:
         return None
     return Rounds(network)
-
-
-def payloads_by_program(network: Network) -> int:
-    """The payloads of the rounds, counted line by line: the whole text may have a gigabyte."""
-    with tempfile.TemporaryFile() as file:
-        file.write(plain_text(network).encode())
-        file.seek(0)
-        with subprocess.Popen(
-            [program_file("forestplay"), "rounds"], stdin=file, stdout=subprocess.PIPE
-        ) as started:
-            found = sum(b" put " in line for line in started.stdout or ())
-    if started.returncode:
-        raise Wrong(
-            f"forestplay rounds ended with status {started.returncode}; is there too little memory?"
-        )
-    return found
 
 
 def most_payloads(network: Network) -> int:
@@ -110,15 +82,17 @@ def size(count: float) -> str:
     return f"{float(f'{count / unit:.2g}'):g} {name}"
 
 
-def facts(reading: Reading, network: Network, is_counted: bool) -> list[tuple[str, str]]:
+def facts(reading: Reading, network: Network) -> list[tuple[str, str]]:
     """(name, what) of each line that `tell` prints."""
-    run = Run(network, is_counted)
+    run = Run(network)
     degrees = [len(network.neighbours[v]) for v in network.vertices]
     edges, forests = len(network.edges), network.forest_count
     again = reading.edge_lines - edges
     alone = f", {degrees.count(0):,} of them without a neighbour" if 0 in degrees else ""
     more = f", {counted(again, 'line')} more with an edge that was there before" if again else ""
-    most = "at most " if run.is_bound else ""
+    most, how = "", "counted by the definition of the rounds"
+    if run.is_bound:
+        most, how = "at most ", "`forestplay rounds < FILE | grep -c ' put '` counts them"
     enough = f", so at most {counted(network.channels, 'channel')}"
     bars = network.bars.values()
     barred = (
@@ -138,7 +112,7 @@ def facts(reading: Reading, network: Network, is_counted: bool) -> list[tuple[st
             "forests",
             f"{forests:,}, so the last pulse is 12 + 3 * {forests:,} * {network.channels:,} = {run.last:,}",
         ),
-        ("payloads", f"{most}{run.payloads:,}; {run.how}"),
+        ("payloads", f"{most}{run.payloads:,}; {how}"),
         ("wires", f"{most}2 * {run.payloads:,} + 2 * {edges:,} * {run.last + 1:,} = {run.wires:,}"),
         (
             "transcript",

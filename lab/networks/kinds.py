@@ -164,7 +164,7 @@ KINDS = {
     "star": Kind(
         star,
         "one centre, which is the last node; the others are its leaves",
-        "So there is one forest; `number --by degree --reverse` gives the centre the number 1.",
+        "So there is one forest.",
     ),
     "complete": Kind(complete, "each node is joined to each other"),
     "grid": Kind(grid, "squares of a board that share a side, numbered row by row"),

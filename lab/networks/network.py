@@ -116,21 +116,16 @@ def was_told(given: Namespace) -> str:
         return as_text(tell_code(found))
     if len(given.file) > 1:
         given.refuse("one FILE, or a code and where it is, as `C8 vertex 1`")
-    return network_told(words, given.payloads)
-
-
-def network_told(path: str, is_counted: bool) -> str:
-    data, path = network_bytes(path), one_line(path)
+    data, path = network_bytes(words), one_line(words)
     reading = reading_of(data.decode("utf-8", "replace"), path)
     network = reading.network()
     for what in warnings(reading):
         say(f"{path}: {what}")
-    return as_text(f"{name}: {what}" for name, what in facts(reading, network, is_counted))
+    return as_text(f"{name}: {what}" for name, what in facts(reading, network))
 
 
 def was_numbered(given: Namespace) -> str:
-    network = network_at(given.file)
-    return text_of(renumbered(network, given.by, source_of(given.seed), given.reverse))
+    return text_of(renumbered(network_at(given.file), source_of(given.seed)))
 
 
 def was_named(given: Namespace) -> str:

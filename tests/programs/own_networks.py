@@ -90,7 +90,7 @@ REFUSED = [
     "read",
     "path 99999999999",
     "number x",
-    "number x --by size",
+    "number x --by degree",
     "tell",
     "tell x y",
     "read x --as graph",
@@ -322,7 +322,7 @@ class OwnNetworks(Case):
             status, _, fault = call(*command, "/dev/zero")
             is_said = b"/dev/zero: more than 256 MiB" in fault
             self.note(f"{command[0]} of what has no end", status == 1 and is_said, fault[:300])
-        for command in (["read"], ["tell"], ["number", "--by", "degree"], ["names"]):
+        for command in (["read"], ["tell"], ["number"], ["names"]):
             self.same(
                 f"{command[0]} of no file",
                 call(*command, "/nowhere.col"),
@@ -335,56 +335,20 @@ class OwnNetworks(Case):
             )
 
     def test_numbers(self):
-        """`number` and `read` leave each node its name, place, identifier, bars and neighbours; and the numbers have
-        the order that was asked for."""
+        """`number` and `read` leave each node its name, place, identifier, bars and neighbours."""
         for name, before in {
-            **{name: example(name) for name in ("petersen", "disk100", "star")},
+            **{name: example(name) for name in ("petersen", "disk100")},
             "identifiers": LONG_NAMES,
             "bars": BARRED,
         }.items():
-            for words in (
-                "read -",
-                "number - --by random",
-                "number - --by random --seed 9",
-                "number - --by degree",
-                "number - --by degree --reverse",
-                "number - --by place",
-            ):
-                if "place" in words and b"c at" not in before:
-                    continue
-                text = self.written(*words.split(), data=before)
-                self.same(f"{name} by {words}", by_names(text), by_names(before))
-                net = network_of(text)
-                order = [
-                    len(net.neighbours[v])
-                    if "degree" in words
-                    else float(comments(text, "at")[v].split()[0])
-                    for v in net.vertices
-                    if "degree" in words or "place" in words
-                ]
-                self.same(
-                    f"{name} by {words}: the order",
-                    order,
-                    sorted(order, reverse="reverse" in words),
-                )
-            again = [
-                call("number", "-", "--by", "random", "--seed", seed, data=before)[1]
-                for seed in (1, 1, 4)
-            ]
-            self.note(f"{name} numbered by chance: by its seed", again[0] == again[1] != again[2])
-        for words, data, said in (
-            (
-                ["number", "-", "--by", "place"],
-                b"p edge 2 1\ne 1 2\nc at 1 0 0\n",
-                b"have no place",
-            ),
-            (
-                ["number", "-", "--by", "degree"],
-                b"p edge 2 0\ni 2 9\ni 1 9\n",
-                b"1 and 2 have one identifier",
-            ),
-        ):
-            self.refusal(f"{words}: {said}", call(*words, data=data), 1, said)
+            again = []
+            for words in ("read -", *(f"number - --seed {seed}" for seed in (1, 1, 4))):
+                again.append(self.written(*words.split(), data=before))
+                self.same(f"{name} by {words}", by_names(again[-1]), by_names(before))
+            self.note(f"{name} numbered by chance: by its seed", again[1] == again[2] != again[3])
+        said = b"1 and 2 have one identifier"
+        done = call("number", "-", data=b"p edge 2 0\ni 2 9\ni 1 9\n")
+        self.refusal("number of a network with a fault", done, 1, said)
 
     def test_names(self):
         network = self.written(
@@ -513,11 +477,9 @@ class OwnNetworks(Case):
         self.refusal("an edge too many", call("tell", "-", data=text.encode()), 1, said)
 
     def test_large(self):
-        """Of a large network `network tell` has the rounds counted by the program."""
+        """Of a large network `network tell` has a bound of the payloads, and the command that counts them."""
         data = self.written("random", 3000, 9000)
-        bound, _ = self.told_of(data)
-        told, _ = self.told_of(data, "--payloads")
-        payloads = len(re.findall(rb"^\d+ put ", called(PLAY, "rounds", data=data)[1], re.M))
+        told, _ = self.told_of(data)
         wires = numbers(told["wires"])[-1]
         said = f"plan about {duration(wires / 1_500_000)}, transcript about {duration(wires / 1_000_000)}, of all "
         self.note("the time of a large network", told["time"].startswith(said), told)
@@ -526,13 +488,10 @@ class OwnNetworks(Case):
             [duration(59.9), duration(60), duration(185)],
             ["59 s", "1 min 0 s", "3 min 5 s"],
         )
-        most = bound["payloads"].removeprefix("at most ").partition(";")
-        good = bound["payloads"].startswith("at most ") and most[2] == " --payloads counts them"
-        self.note(
-            "a bound of the payloads", good and payloads <= int(most[0].replace(",", "")), bound
-        )
-        self.same(
-            "payloads of a large network",
-            told["payloads"],
-            f"{payloads:,}; counted by `forestplay rounds`",
-        )
+        most, command = re.fullmatch(
+            "at most ([0-9,]+); `(.*)` counts them", told["payloads"]
+        ).groups()
+        command = command.replace("forestplay", PLAY).replace("< FILE ", "")
+        _, payloads, _ = called("sh", "-c", command, data=data)
+        good = 0 < int(payloads) <= int(most.replace(",", ""))
+        self.note("a bound of the payloads", good, (payloads, most))
