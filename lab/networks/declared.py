@@ -11,7 +11,6 @@ from xml.parsers import expat
 
 from lab.networks.fields import shown
 from lab.networks.listed import Where
-from lab.networks.network_text import MAX_NODES
 from lab.wrong import Wrong, wrong_line
 
 
@@ -81,38 +80,20 @@ PAIR = re.compile(r"(\w+)\s+(\S+)")
 
 def in_gml(data: bytes, path: str) -> Declared:
     """The lists of GML; ids and ends are before what a node or an edge has in lists of its own."""
-    text = data.decode()
     declared = Declared(path)
-    for found in TEXT.finditer(text):
-        after = text[found.end() : found.end() + 1]
-        if found[0].startswith('"') and after and after not in " \t\r\n]":
-            line = text.count("\n", 0, found.start()) + 1
-            what = "a quotation mark within a text, which GML writes as &quot;"
-            raise wrong_line(path, line, what)
-    bare = TEXT.sub(lambda found: '""' + "\n" * found[0].count("\n"), text)
+    bare = TEXT.sub(lambda found: '""' + "\n" * found[0].count("\n"), data.decode())
     line, end = 1, 0
     for found in LIST.finditer(bare):
         line += bare.count("\n", end, found.start())
         end = found.start()
-        pairs = PAIR.findall(found[2])
-        keys = [key for key, _ in pairs]
-        if keys.count("label") > 1 or keys.count("name") > 1:
-            raise wrong_line(path, line, "a second name of one node")
-        declared.declare(found[1], line, dict(pairs))
+        declared.declare(found[1], line, dict(PAIR.findall(found[2])))
     return declared.checked()
 
 
 def loaded(data: bytes, path: str) -> dict:
     """The object of a text in JSON; an empty one if it has none."""
-
-    def once(pairs: list[tuple[str, object]]) -> dict[str, object]:
-        found = dict(pairs)
-        if len(found) < len(pairs):
-            raise Wrong(f"{path}: an object has a key twice: {shown(', '.join(found))}")
-        return found
-
     try:
-        whole = json.loads(data, object_pairs_hook=once)
+        whole = json.loads(data)
     except json.JSONDecodeError as why:
         raise wrong_line(path, why.lineno, f"no JSON: {why.msg}") from None
     except RecursionError:
@@ -140,12 +121,6 @@ def in_json(data: bytes, path: str) -> Declared:
 
 
 def in_letters(data: bytes, path: str) -> None:
-    """Refuses a second graph of graph6 or sparse6, each of which is a line, and one of too many nodes."""
-    first, *others = data.strip().split(b"\n")
-    if others:
+    """Refuses a second graph of graph6 or sparse6, each of which is a line."""
+    if b"\n" in data.strip():
         raise wrong_line(path, 2, "a second graph: a file of one graph is read")
-    # Up to 62 nodes are one letter; more are three after a `~`.
-    letters = re.sub(rb"^(>>\w+<<)?:?", b"", first)
-    count = sum((letter - 63) << 12 - 6 * at for at, letter in enumerate(letters[1:4]))
-    if letters.startswith(b"~") and count > MAX_NODES:
-        raise wrong_line(path, 1, f"more than {MAX_NODES} nodes")

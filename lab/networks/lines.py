@@ -1,4 +1,4 @@
-"""Edges and adjacency as networkx writes them: words with blanks between, below comments."""
+"""Edges and adjacency as networkx writes them: words with blanks between, and comments that begin with #."""
 import re
 
 from lab.networks.fields import shown
@@ -11,29 +11,18 @@ TABLE = "a table is read --as pairs"
 NO_NAME = re.compile('[,;"]')
 BETWEEN = re.compile("[ \t]+")
 # Two nodes, and after them nothing, a number, or data in braces.
-EDGE = re.compile(rf"([^ \t]+)[ \t]+([^ \t]+)(?:[ \t]+(?:({NUMBER.pattern})|(\{{.*\}})))?")
+EDGE = re.compile(rf"([^ \t]+)[ \t]+([^ \t]+)([ \t]+(?:{NUMBER.pattern}|\{{.*\}}))?")
 
 
-def rows_below(text: str, name: str, comment: str) -> tuple[list[tuple[int, str]], list[str]]:
-    """(line, what it has) of the lines in which something is, and a note of the comments before them.
-
-    A comment is `#`, alone or with a blank after it; in the first line it is what fits `comment`.
-    """
-    rows: list[tuple[int, str]] = []
-    comments = 0
-    for line, raw in enumerate(text.split("\n"), 1):
-        row = raw.strip(" \t")
-        if not row.startswith("#"):
-            rows += [(line, row)] if row else []
-        elif rows or not re.fullmatch(comment if line == 1 else "#( .*)?", row):
-            what = "a comment comes before all rows, and has a blank after its #"
-            raise wrong_line(name, line, f"{what}: `{shown(row)}`")
-        else:
-            comments += 1
-    if not rows:
+def rows_in(text: str, name: str) -> tuple[list[tuple[int, str]], list[str]]:
+    """(line, what it has) of the lines in which something is, and a note of the comments among them."""
+    rows = [(line, row.strip(" \t")) for line, row in enumerate(text.split("\n"), 1)]
+    found = [(line, row) for line, row in rows if row and not row.startswith("#")]
+    if not found:
         raise Wrong(f"{name}: it has no row")
+    comments = sum(row.startswith("#") for _, row in rows)
     said = counted(comments, "line that begins", "lines that begin")
-    return rows, [f"{said} with # left out"] if comments else []
+    return found, [f"{said} with # left out"] if comments else []
 
 
 def node_of(word: str, name: str, line: int) -> str:
@@ -44,34 +33,29 @@ def node_of(word: str, name: str, line: int) -> str:
 
 
 def edges(text: str, name: str) -> Listed:
-    """Two nodes a line, and after them nothing, a number, or data in braces, as after the first."""
-    rows, notes = rows_below(text, name, "#( .*)?")
+    """Two nodes a line, and after them nothing, a number, or data in braces."""
+    rows, notes = rows_in(text, name)
     found = Listed("edges", notes=notes)
-    shapes = set()
+    has_more = False
     for line, row in rows:
         parts = EDGE.fullmatch(row)
         if not parts:
             what = "no two nodes, maybe with a number or {data}"
             raise wrong_line(name, line, f"{what}: `{shown(row)}`")
-        one, other, number, data = parts.groups()
-        shapes.add((number is None, data is None))
-        if len(shapes) > 1:
-            raise wrong_line(name, line, f"not as many words as in the rows before: `{shown(row)}`")
+        one, other, more = parts.groups()
+        has_more = has_more or bool(more)
         is_heading = one.casefold() in TITLES["source"] and other.casefold() in TITLES["target"]
         if is_heading and not found.edges:
             raise wrong_line(name, line, f"it is a heading, and lines of nodes have none; {TABLE}")
         found.edges.append((line, node_of(one, name, line), node_of(other, name, line)))
-    if number or data:
+    if has_more:
         found.notes.append("numbers or data after the nodes aren't read")
     return found
 
 
 def adjacency(text: str, name: str) -> Listed:
-    """A node, maybe with a colon after it, and its neighbours; each node has a line of its own.
-
-    networkx writes the words of its script after the `#` of the first line.
-    """
-    rows, notes = rows_below(text, name, "#.*")
+    """A node, maybe with a colon after it, and its neighbours; each node has a line of its own."""
+    rows, notes = rows_in(text, name)
     nodes: dict[str, Where] = {}
     found = Listed("adjacency", nodes=nodes, notes=notes)
     for line, row in rows:

@@ -1,6 +1,5 @@
 """What a text lists: nodes and edges by their names."""
 import difflib
-import re
 import unicodedata
 from collections.abc import Collection
 from dataclasses import dataclass, field
@@ -10,8 +9,6 @@ from lab.networks.fields import shown
 from lab.wrong import wrong_line
 
 LONGEST_NAME = 200
-# How a spreadsheet writes a cell that it can't work out, as #DIV/0!.
-ERROR_VALUE = re.compile(r"#[A-Z/0]+[!?]|#N/A|#NV", re.I)
 # Where something is in a text: the number of its line, or words if it has no line.
 Where = int | str
 Edge = tuple[Where, str, str]
@@ -47,9 +44,7 @@ def composed(word: str) -> str | None:
     """A name with composed letters, by which names are compared; None if it is no name."""
     word = unicodedata.normalize("NFC", word.strip())
     is_seen = word.isprintable() and any(map(str.isalnum, word))
-    if not is_seen or len(word) > LONGEST_NAME or "\ufffd" in word or ERROR_VALUE.fullmatch(word):
-        return None
-    return word
+    return word if is_seen and len(word) <= LONGEST_NAME else None
 
 
 def name_of(word: str, path: str, where: Where) -> str:

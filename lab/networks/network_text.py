@@ -41,13 +41,11 @@ LINES = {
 
 class Reading:
     """What the lines so far say: `nodes` is None before the `p` line, `promised` its number of edges, and `edge_lines`
-    counts the lines that name one, again and again too; `name_lines` has the line of each vertex's name.
-    """
+    counts the lines that name one, again and again too."""
 
     def __init__(self, path=""):
         self.path, self.line, self.nodes, self.promised, self.edge_lines = path, 0, None, None, 0
         self.edges, self.places, self.names, self.identifiers, self.bars = set(), {}, {}, {}, {}
-        self.name_lines = {}
 
     def wrong(self, what, code):
         return wrong_line(self.path, self.line, f"{what} ({code})")
@@ -74,7 +72,6 @@ class Reading:
             self.places[whole(place[1])] = float(place[2]), float(place[3])
         if name:
             self.names[whole(name[1])] = name[2]
-            self.name_lines[whole(name[1])] = self.line
 
     def problem(self, fields):
         """NODES and EDGES of the `p` line."""

@@ -4,19 +4,11 @@ from lab.networks import foreign, lines, tables
 from lab.networks.fields import whole
 from lab.networks.listed import Listed
 from lab.networks.named import path_of
-from lab.networks.network_text import (
-    MAX_EDGES,
-    Reading,
-    checked,
-    network_of,
-    read_network,
-    reading_of,
-    stem,
-)
+from lab.networks.network_text import MAX_EDGES, checked, network_of, read_network, stem
 from lab.networks.stated import Stated, decoded, form_of, letters_of
 from lab.networks.texts import text_of
 from lab.words import counted, one_line
-from lab.wrong import wrong_line
+from lab.wrong import Wrong, wrong_line
 
 
 def listed_of(data: bytes, name: str, form: str, stated: Stated) -> Listed:
@@ -27,24 +19,21 @@ def listed_of(data: bytes, name: str, form: str, stated: Stated) -> Listed:
         # Nothing is mended, not even line ends.
         encoding = stated.encoding
         text = letters_of(data, name, encoding) if encoding else data.decode("utf-8", "replace")
-        return listed_in(reading_of(text, name))
+        return listed_in(read_network(text, name), name)
     text = decoded(data, name, stated.encoding)
     if form == "pairs":
         return tables.pairs(text, name, stated)
     return {"edges": lines.edges, "adjacency": lines.adjacency}[form](text, name)
 
 
-def listed_in(reading: Reading) -> Listed:
-    """The nodes and edges of a text in the DIMACS format by their names, which differ."""
-    network, lines = reading.network(), reading.name_lines
+def listed_in(network: Network, path: str) -> Listed:
+    """The nodes and edges of a network by their names, which differ."""
     names = {v: network.names.get(v, str(v)) for v in network.vertices}
     vertices: dict[str, int] = {}
     for v, own in names.items():
         other = vertices.setdefault(own, v)
         if other != v:
-            line = max(lines.get(v, 0), lines.get(other, 0))
-            what = f"vertices {other} and {v} are both called {own}"
-            raise wrong_line(reading.path, line, what)
+            raise Wrong(f"{path}: vertices {other} and {v} are both called {own}")
     return Listed(
         "dimacs",
         edges=[(f"vertex {v}", names[v], names[w]) for v, w in network.edges],

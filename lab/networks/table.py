@@ -28,8 +28,6 @@ TITLES = {
 # What may be between the fields of a row.
 MARKS = ",;\t"
 NUMBER = re.compile(r"-?[0-9]{1,20}(?:[.,][0-9]{1,20})?(?:[eE][+-]?[0-9]{1,2})?")
-# No coordinate is as great, in metres or kilometres.
-FARTHEST = 1e9
 Row = tuple[int, list[str]]
 # The line of the first row, the titles of the columns, and the mark between the fields.
 Begin = tuple[int, list[str], str]
@@ -109,8 +107,6 @@ class Table:
     def first_rows(self, text: str) -> list[Begin]:
         """The first row with each mark that is in the first line, and with which it is a row."""
         first_line = text.lstrip("\n ").partition("\n")[0]
-        if first_line.startswith("sep="):
-            raise self.wrong(1, f"`{shown(first_line)}` is for Excel alone: delete this line")
         found, fault = [], Wrong(f"{self.name}: it has no row")
         for mark in [mark for mark in MARKS if mark in first_line] or [","]:
             try:
@@ -147,12 +143,7 @@ class Table:
         """The refusal of a heading with two columns that may be meant."""
         titles = [shown(self.titles[at]) for at in self.places_of(column, self.titles)]
         what = f"{in_words(titles)} may each be the column {column}: rename one"
-        choices = [
-            (words_of({column: title}), f"the column {column} is {title}")
-            for title in titles
-            if titles.count(title) == 1
-        ]
-        return Unsaid(self.wrong(self.line, what), choices)
+        return self.wrong(self.line, what)
 
     def unsaid(self, line: int, first: list[str]) -> Wrong:
         """The refusal of a first row that doesn't have all wanted columns."""
@@ -197,10 +188,7 @@ class Table:
         """A number with a point, or with a comma if commas don't separate the fields."""
         if not NUMBER.fullmatch(field) or "," in field and "," not in self.decimals:
             raise self.wrong(line, f"no number, or one with thousands: `{shown(field)}`")
-        number = float(field.replace(",", "."))
-        if abs(number) >= FARTHEST:
-            raise self.wrong(line, f"no place on this earth: `{shown(field)}`")
-        return number
+        return float(field.replace(",", "."))
 
 
 def choice_of(columns: tuple[str, ...], titles: list[str]) -> tuple[list[str], str]:

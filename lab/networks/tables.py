@@ -5,8 +5,8 @@ from lab.networks.fields import shown, whole
 from lab.networks.listed import Listed, Where, check_known, name_of
 from lab.networks.network_text import IDENTIFIERS, MAX_BARS, MAX_CHANNEL, MAX_EDGES
 from lab.networks.places import Place, across_of, near, on_ground, on_map
-from lab.networks.stated import Stated, Unsaid
-from lab.networks.table import Table, choice_of
+from lab.networks.stated import Stated
+from lab.networks.table import Table
 from lab.words import counted
 from lab.wrong import Wrong
 
@@ -118,10 +118,7 @@ def join_near(found: Listed, sites: Sites, reach: float) -> None:
     """Joins the sites that are less than the reach apart."""
     table = sites.table
     if not sites.places:
-        titles = [title for title in table.unread() if table.has_heading]
-        what = table.wrong(table.line, "no site has a place, so --reach joins none")
-        columns = UNITS if len(titles) > 1 else ()
-        raise Unsaid(what, [choice_of(pair, titles) for pair in columns])
+        raise table.wrong(table.line, "no site has a place, so --reach joins none")
     names = list(sites.places)
     points = [
         on_ground(*place) if sites.is_globe else (*place, 0.0) for place in sites.places.values()

@@ -29,7 +29,6 @@ TABLES = (
     ("site;x_m;y_m\nUlm;1.234,5;0\n", "", "line 2: no number, or one with thousands"),
     ("site,identifier\nUlm,%d\n" % 2**128, "", "line 2: no identifier below 2^128"),
     ("site,identifier\nUlm,7\nAue,07\n", "", "line 3: a second site of the identifier 7"),
-    ("site,x_km,y_km\nUlm,1e9,0\n", "", "line 2: no place on this earth"),
     (SITES, "site,channel\nHoff,1\n", "line 2: Hoff is no site, is it Hof?"),
     (SITES, "site,channel\nHof,2049\n", "line 2: no channel from 1 to 2048"),
     (SITES, "site,channel\nHof,6.0\n", "line 2: no channel: `6.0`"),
