@@ -1,4 +1,5 @@
-"""Edges and adjacency as networkx writes them: words with blanks between, and comments that begin with #."""
+"""Edges and adjacency as networkx writes them: words with blanks between, and comments, each a line with # and a blank
+before it."""
 import re
 
 from lab.networks.fields import shown
@@ -8,7 +9,8 @@ from lab.words import counted
 from lab.wrong import Wrong, wrong_line
 
 TABLE = "a table is read --as pairs"
-NO_NAME = re.compile('[,;"]')
+NO_NAME = re.compile('[,;"]|^#')
+COMMENT = re.compile("#( .*)?")
 BETWEEN = re.compile("[ \t]+")
 # Two nodes, and after them nothing, a number, or data in braces.
 EDGE = re.compile(rf"([^ \t]+)[ \t]+([^ \t]+)([ \t]+(?:{NUMBER.pattern}|\{{.*\}}))?")
@@ -17,16 +19,16 @@ EDGE = re.compile(rf"([^ \t]+)[ \t]+([^ \t]+)([ \t]+(?:{NUMBER.pattern}|\{{.*\}}
 def rows_in(text: str, name: str) -> tuple[list[tuple[int, str]], list[str]]:
     """(line, what it has) of the lines in which something is, and a note of the comments among them."""
     rows = [(line, row.strip(" \t")) for line, row in enumerate(text.split("\n"), 1)]
-    found = [(line, row) for line, row in rows if row and not row.startswith("#")]
+    found = [(line, row) for line, row in rows if row and not COMMENT.fullmatch(row)]
     if not found:
         raise Wrong(f"{name}: it has no row")
-    comments = sum(row.startswith("#") for _, row in rows)
+    comments = sum(bool(COMMENT.fullmatch(row)) for _, row in rows)
     said = counted(comments, "line that begins", "lines that begin")
     return found, [f"{said} with # left out"] if comments else []
 
 
 def node_of(word: str, name: str, line: int) -> str:
-    """A node of a line. Its name has no mark of a table."""
+    """A node of a line. Its name has no mark of a table, and doesn't begin as a comment."""
     if NO_NAME.search(word):
         raise wrong_line(name, line, f"no name of a node: `{shown(word)}`; {TABLE}")
     return name_of(word, name, line)
@@ -54,8 +56,11 @@ def edges(text: str, name: str) -> Listed:
 
 
 def adjacency(text: str, name: str) -> Listed:
-    """A node, maybe with a colon after it, and its neighbours; each node has a line of its own."""
-    rows, notes = rows_in(text, name)
+    """A node, maybe with a colon after it, and its neighbours; each node has a line of its own.
+
+    networkx writes the words of its script after the `#` of the first line.
+    """
+    rows, notes = rows_in(re.sub(r"\A#", "# ", text), name)
     nodes: dict[str, Where] = {}
     found = Listed("adjacency", nodes=nodes, notes=notes)
     for line, row in rows:

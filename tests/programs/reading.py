@@ -47,6 +47,8 @@ REFUSED = (
     ("edges", "a\n", "line 1: no two nodes"),
     ("edges", "", "it has no row"),
     ("edges", "1 : 2\n", "line 1: no name of a node: `:`"),
+    ("edges", "#c d\na b\n", "line 1: no name of a node: `#c`"),
+    ("adjacency", "#x.py\n#a b\nb\n", "line 2: no name of a node: `#a`"),
     ("edges", "source target\na b\n", "line 1: it is a heading"),
     ("edges", "2 Mill,\n", "line 1: no name of a node: `Mill,`; a table is read --as pairs"),
     ("edges", "A\u00a0B 3\n", "line 1: no name of a node: `A\\xa0B`"),

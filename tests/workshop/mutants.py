@@ -1,15 +1,14 @@
 """Mutants of the right nodes: each typical mistake, each line left out, each comparison turned, each number moved by
-one. The networks that WORKSHOP names show each that is wrong at all. Nodes run in this process; the rest is the
-workshop."""
+one. The networks that WORKSHOP names show each that is wrong at all: so all typical mistakes but two. Nodes run in this
+process; the rest is the workshop."""
 import ast
 import copy
 import os
+import signal
 import sys
 import types
 from functools import cache, partial
-from unittest import mock
 
-from lab.definitions import own_program
 from lab.schedules.policies import POLICIES, Policy
 from lab.workshop.alpha_run import AlphaRun
 from lab.workshop.cases import cases_of
@@ -26,18 +25,23 @@ PAIRS = (
     *((ast.Is, ast.IsNot), (ast.In, ast.NotIn)),
 )
 TURNED = {one: other for pair in PAIRS for one, other in (pair, pair[::-1])}
-# By program, the file that has it, its classes there, and the networks on which WORKSHOP has it tried.
+# By program, the file that has it, its classes there, how its typical mistakes begin, and the networks that WORKSHOP
+# names for it.
 COLOURED = ("two", "triangle", "star4", "most4")
 PROGRAMS = {
-    "colouring": ("colouring", (), ("path1", "most4", "rest3", "drops8")),
-    "leader": ("programs", ("Leader",), ("path5", "alone4")),
-    "layers": ("programs", ("Layers",), ("path5", "alone4")),
-    "matching": ("programs", ("Sequel", "Matching"), COLOURED),
-    "independent-set": ("programs", ("Sequel", "IndependentSet"), COLOURED),
-    "recolouring": ("programs", ("Sequel", "Recolouring"), COLOURED),
+    "colouring": ("colouring", (), "", ("path1", "most4", "rest3", "drops8")),
+    "leader": ("programs", ("Leader",), "leader", ("path5", "alone4")),
+    "layers": ("programs", ("Layers",), "layers", ("path5", "alone4")),
+    "matching": ("programs", ("Matching",), "matching", COLOURED),
+    "independent-set": ("programs", ("Sequel", "IndependentSet"), "set", COLOURED),
+    "recolouring": ("programs", ("Recolouring",), "anew", COLOURED),
 }
 MODULES = ast.FunctionDef, ast.ClassDef, ast.Import, ast.ImportFrom
-SECONDS = 5.0  # that one run of a mutant may take, before it counts as endless
+SECONDS = 1.0  # of processor time that one run of a mutant may take, before it counts as endless
+
+
+class Endless(BaseException):
+    """A run that takes longer."""
 
 
 def source(name):
@@ -71,19 +75,20 @@ def does_something(line):
     return not isinstance(line, MODULES)
 
 
-def typical(file):
+def typical(file, begin):
     """By their names, the texts that have a typical mistake."""
     for name, (_, right, wrong) in MISTAKES.FILES[f"{file}.py"].items():
-        yield name, source(file).replace(right, wrong)
+        if name.startswith(begin):
+            yield name, source(file).replace(right, wrong)
 
 
-def mutants(file, classes):
+def mutants(file, only):
     """By a name with its line, the texts that differ in one place of these classes; of all classes and functions of
     the file if there are none."""
     tree = ast.parse(source(file))
     for at, part in enumerate(tree.body):
         is_one = isinstance(part, (ast.ClassDef, ast.FunctionDef))
-        if not is_one or classes and part.name not in classes:
+        if not is_one or only and part.name not in only:
             continue
         for number, node in enumerate(ast.walk(part)):
             for words, change in changes(node):
@@ -136,6 +141,10 @@ class InProcess:
         pass
 
 
+def end_run(*_):
+    raise Endless
+
+
 known = cache(lambda name, program: RightRounds(network(name), program))
 
 
@@ -145,10 +154,12 @@ def is_wrong(make, rounds, policy=None):
     if policy:
         run = AlphaRun(rounds, Policy(policy, net.vertices, net.edges, "1"))
     try:
-        with own_program.limited():
-            found = run.play(InProcess(partial(make, program=rounds.program)))
-    except own_program.TooLong:
+        signal.setitimer(signal.ITIMER_VIRTUAL, SECONDS)
+        found = run.play(InProcess(partial(make, program=rounds.program)))
+    except Endless:
         return True
+    finally:
+        signal.setitimer(signal.ITIMER_VIRTUAL, 0)
     if policy is None:
         return found is not None
     return bool(run.stop or run.verdict().name) or run.results != rounds.results
@@ -156,12 +167,15 @@ def is_wrong(make, rounds, policy=None):
 
 class Mutants(Case):
     def setUp(self):
-        self.enterContext(mock.patch.object(own_program, "LONGEST", SECONDS))
+        before = signal.signal(signal.SIGVTALRM, end_run)
+        self.addCleanup(signal.signal, signal.SIGVTALRM, before)
 
-    def survive(self, assignment, file, shown, others, *classes):
-        """Each mutant of a file that no run of the page shows is right in all others, too."""
-        right, count = {name: source(name) for name in FILES}, 0
-        for name, text in (*typical(file), *mutants(file, classes)):
+    def survive(self, assignment, file, only, begin, shown, others):
+        """Each mutant of a file that no run of the page shows is right in all others, too. Returns the typical mistakes
+        among them."""
+        right, names, count = {name: source(name) for name in FILES}, [], 0
+        known = dict(typical(file, begin))
+        for name, text in (*known.items(), *mutants(file, only)):
             try:
                 make = node_class(assignment, right | {file: text})
             except Exception:
@@ -169,19 +183,23 @@ class Mutants(Case):
             if any(is_wrong(make, *run) for run in shown):
                 count += 1
                 continue
+            names += [name] if name in known else []
             wrong = next((run for run in others if is_wrong(make, *run)), None)
             said = wrong and (wrong[0].network.name, wrong[0].network.identifiers, *wrong[1:])
             self.note(f"{file} {name}", not wrong, said)
         self.assertGreater(count, 10)
+        return names
 
     def test_of_programs_with_a_clock(self):
         """On the networks that the page names for each, and on those of many runs."""
-        for program, (file, classes, names) in PROGRAMS.items():
+        unseen = []
+        for program, (file, only, begin, names) in PROGRAMS.items():
             shown = [(known(name, program),) for name in names]
-            words = ["--program", program, "--runs", "60", "--seed", "3"]
+            words = ["--program", program, "--runs", "24", "--seed", "3"]
             many = [case.network for case in cases_of(options_of("rounds", *words))]
             others = [(RightRounds(net, program),) for net in many]
-            self.survive("rounds", file, shown, others, *classes)
+            unseen += self.survive("rounds", file, only, begin, shown, others)
+        self.same("typical mistakes that change nothing", unseen, ["merge_last"])
 
     def test_of_the_synchroniser(self):
         """As WORKSHOP has it: two networks, with the newest wire first and with acknowledgements last."""
@@ -194,4 +212,5 @@ class Mutants(Case):
             for policy in ("newest", "late-acks")
         ]
         others = [(rounds, policy) for rounds in networks.values() for policy in POLICIES]
-        self.survive("alpha", "alpha_node", shown, others)
+        unseen = self.survive("alpha", "alpha_node", (), "", shown, others)
+        self.same("typical mistakes that change nothing", unseen, ["acks_after"])
