@@ -89,7 +89,6 @@ REFUSED = [
     "",
     "read",
     "path 99999999999",
-    "number x",
     "number x --by degree",
     "tell",
     "tell x y",
