@@ -21,7 +21,6 @@ from tests.workshop.base import (
     C,
     GREEDY,
     JAVA,
-    MISTAKES,
     ROUNDS,
     Played,
     answering,
@@ -42,33 +41,22 @@ BARRED_RING = Network(5, RING.edges, RING.said, {1: [1], 4: [2]}, name="barred r
 # Its colour is 1, since 0 is barred, and 1 again. The last pulse is 14, two after those of the colouring.
 BARRED = Network(1, [], bars={1: [1]}, name="barred one")
 
-# By mistake, what is found on most4 and on rest3: (node, pulse) of a difference, or None where all is right. On rest3
+# By mistake, one of each kind, what is found on most4 and on rest3: (node, pulse) of a difference, or None where all is
+# right. That each other one is found at all is for mutants.py. On rest3
 # by hand: node 2 has the parents 3 and 13, in this order, and as texts in the other. The bit steps of 13, 3 and 2 give
 # 1, 3 and 0, and then the same again; the shift gives node 2 the 3, which is dropped in pulse 12 and not in pulse 8.
 COLOURING = {
-    "shift_root": ((1, 7), (1, 7)),
     "no_shift": ((3, 7), (2, 7)),
-    "drop_parent": ((3, 8), None),
     "drop_all": (None, (2, 8)),
     "bit_highest": ((3, 3), (2, 3)),
-    "bit_root": ((1, 3), (1, 3)),
-    "label_ports": ((3, 1), (2, 1)),
     "label_falling": ((3, 1), (2, 1)),
-    "names_text": (None, (2, 1)),
     "names_64": ((1, 0), None),
-    "names_float": ((3, 3), None),
-    "merge_this": ((1, 31), (1, 26)),
-    "merge_all": ((1, 13), (2, 13)),
     "merge_old": ((2, 38), (3, 19)),
-    "merge_keep": ((3, 55), (3, 27)),
-    "bars_forgotten": ((4, 19), (1, 13)),
-    "bars_channels": ((4, 19), (1, 13)),
     "bars_width": ((4, 19), (3, 16)),
     # On the row of eight 5 and 4 are dropped at node 2, and 3 at node 4 (the network's own comment).
     "drop_three": (None, None, (4, 12)),
     "drop_four": (None, None, (2, 10)),
     "drop_five": ((3, 8), None, (2, 8)),
-    "merge_last": (None, None),  # nobody ever chooses in the last pulse of a merge
 }
 # By mistake, what is found on alone4; what else the node could do there, why it can't do that, and what came early.
 PULSE = "a node makes its next pulse once it has said safe and has the safes of all its neighbours"
@@ -89,13 +77,6 @@ SYNCHRONISER = {
         "waits for ack 0 by port 0; safe 0 by ports 0 and 1",
         f"{SAFE}can't have",
     ),
-    "early_present": (
-        "WrongWire",
-        2,
-        23,
-        "one of: put 0 safe 23; put 1 safe 23",
-        "pulse 23 is the turn of the nodes",
-    ),
     "early_lost": (
         "WrongWire",
         2,
@@ -113,13 +94,6 @@ SYNCHRONISER = {
         f"{PULSE}, and this node has",
         "\nearly  `take 1 safe 1` came at pulse 0, and " "is to be kept until pulse 1 is made\n",
         "\nwaits  node 1 for safe 2 by port 0 | node 3 for safe 2 by port 0\n",
-    ),
-    "safes_any": (
-        "NotReady",
-        2,
-        0,
-        "waits for safe 0 by port 0",
-        f"{PULSE}; it lacks safe 0 by port 0",
     ),
     "safes_none": (
         "NotReady",
@@ -152,7 +126,6 @@ SYNCHRONISER = {
     ),
     "close_safe": ("WrongWire", 1, 30, "put 0 close", "its pulse, 30, is the last"),
     "close_never": ("stuck", 1, 30, "close is put on each link as the node makes its last pulse"),
-    "one_pulse": ("stuck", 4, 1, f"{PULSE}, and this node has"),
     "leaves": ("ended", 2, 29, "waits for safe 29 by port 0"),
     "no_channel": (
         "result",
@@ -160,8 +133,6 @@ SYNCHRONISER = {
         30,
         "wrong  no line `channel 1`\nright  channel 1\nwhy    the channel is the merged",
     ),
-    # A payload completes nothing, so nothing else is in the answer to it.
-    "acks_after": None,
     # Here acknowledgements come last: node 2 takes both payloads, then one acknowledgement, and says safe.
     "acks_any": (
         "NothingToPut",
@@ -170,22 +141,13 @@ SYNCHRONISER = {
         "waits for ack 0 by port",
         "it lacks the acknowledgement of pulse 0 by port",
     ),
-    "early_twice": ("WrongWire", 2, 16, "put 0 payload 16 chosen 1", "pulse 16 is the turn of"),
 }
-LATE_ACKS = ("acks_any", "early_twice")
 # Where a mistake shows, or one of a program, if that isn't the triangle.
 SHOWN_ON = {"anew_bars": BARRED, "matching_greatest": "star4", "layers": "path4"}
 # By program and mistake, (node, pulse) of what is found with a clock on path4 or a triangle, the verdict and the pulse
 # without one, and the rule and this node's numbers.
 OTHERS = {
     "layers": {
-        "layers_again": (
-            1,
-            1,
-            "WrongWire",
-            1,
-            "a node sends `hops N` by each port as soon as it knows that it is in",
-        ),
         "layers_last": (
             2,
             3,
@@ -211,22 +173,6 @@ OTHERS = {
             "children are by port 0; it sent `free 0` by port 1 in pulse 13, `free 0` came by port 0 in "
             "pulse 14, `take 0` came by port 1 in pulse 15, `free 0` came by port 0 in pulse 16",
         ),
-        "matching_all": (
-            1,
-            13,
-            "NothingToPut",
-            13,
-            "pulse 13 is the first of the turn of colour 0 in forest 0: a node "
-            "without a partner sends `free 0` to its parent in this forest, and nothing else is sent; in "
-            "forest 0 it had 0, its parent is by port 0 and it has no child; nothing has come",
-        ),
-        "matching_turn": (
-            2,
-            14,
-            "WrongWire",
-            14,
-            "pulse 14 is the second of the turn of colour 0 in forest 0",
-        ),
         # Node 4 has the colour 1 in forest 0, as all others have 0, so it takes one of three in the second turn.
         "matching_greatest": (
             4,
@@ -234,13 +180,6 @@ OTHERS = {
             "NothingToPut",
             16,
             "has no partner takes the child of the least port by which `free 0` has come",
-        ),
-        "matching_untold": (
-            3,
-            14,
-            "NothingToPut",
-            14,
-            "its children are by port 1; `free 0` came by port 1 in pulse",
         ),
         # Up to the cut the words are those of the colouring.
         "label_falling": (
@@ -260,24 +199,9 @@ OTHERS = {
             "pulse 32 is the turn of the nodes of colour 1, channel 2: one of them "
             "joins if no neighbour has sent `joined`, and then sends `joined 1` by each port, but nothing "
             "in the last pulse; it had merged colour 1; `joined 0` came by port 1 in pulse 32",
-        ),
-        "set_forgets": (
-            2,
-            33,
-            "result",
-            33,
-            "a node is in if it has joined in the turn of its colour; it had merged "
-            "colour 2; `joined 0` came by port 1 in pulse 32",
-        ),
+        )
     },
     "recolouring": {
-        "anew_least": (
-            2,
-            31,
-            "WrongWire",
-            31,
-            "pulse 31 is the turn of the nodes that have colour 2, channel 3",
-        ),
         "anew_bars": (
             1,
             14,
@@ -392,10 +316,6 @@ class RightNodes(Played):
 
 
 class Mistakes(Played):
-    def test_each_has_a_row(self):
-        others = {name for names in OTHERS.values() for name in names}
-        self.assertEqual(set(COLOURING) | set(SYNCHRONISER) | others, set(MISTAKES.MISTAKES))
-
     def test_of_the_colouring(self):
         for name, rights in COLOURING.items():
             for given, right in zip(("most4", "rest3", "drops8"), rights):
@@ -410,19 +330,18 @@ class Mistakes(Played):
     def test_of_the_synchroniser(self):
         for name, row in SYNCHRONISER.items():
             found = self.found(
-                row and row[:3],
+                row[:3],
                 "alpha",
                 "alone4",
                 self.wrong_node(name, "alpha_node.py"),
-                policy="late-acks" if name in LATE_ACKS else "newest",
+                policy="late-acks" if name == "acks_any" else "newest",
                 one_process=name != "leaves",
             )
-            if row:
-                text = "\n".join(found.text())
-                is_early = not re.search(
-                    r"came at pulse (\d+), and is to be kept until pulse \1 ", text
-                )
-                self.note(name, is_early and all(words in text for words in row[3:]), text)
+            text = "\n".join(found.text())
+            is_early = not re.search(
+                r"came at pulse (\d+), and is to be kept until pulse \1 ", text
+            )
+            self.note(name, is_early and all(words in text for words in row[3:]), text)
 
     def test_of_other_programs(self):
         for program, names in OTHERS.items():
@@ -512,9 +431,7 @@ talk.serve({node})
 # By assignment, when and how an answer on `two` is changed: the verdict with its node and pulse, and words of it. There
 # 18 is the last pulse of the rounds; of the own algorithm node 2 chooses in pulse 1, and node 1 hears of it in pulse 2.
 RESULTS = (
-    ("rounds", "not found", "[*lines, 'channel 99']", ("differs", 1, 0), "channel 99"),
     ("rounds", "asked == 17", "[*lines, 'channel 1']", ("differs", 1, 17), "channel 1"),
-    ("rounds", "found", "[*lines, 'channel 7', *found]", ("garbage", 1, 18), "already"),
     ("rounds", "found", "[*lines, *found]", ("garbage", 1, 18), "already"),
     ("rounds", "found", "['channel 9', *lines]", ("garbage", 1, 18), "`channel 9` in this answer"),
     ("alpha", "not done", "[*lines, 'channel 99']", ("garbage", 1, 0), "its last pulse, 18"),
@@ -533,11 +450,8 @@ RESULTS = (
         ("garbage", 1, 18),
         "a result is final",
     ),
-    ("alpha", "done and not found", "[*lines, *done]", ("garbage", 1, 18), "a result is final"),
-    ("open", "done and not found", "[*lines, *done]", ("garbage", 2, 2), "a result is final"),
     ("open", "done and not found", "[*lines, 'channel 9']", ("garbage", 2, 2), "a result is final"),
     ("open", "found", "[*lines, *found]", ("garbage", 2, 1), "a result is final"),
-    *((name, "False", "[]", None, "") for name in ("rounds", "alpha", "open")),
 )
 
 
@@ -555,11 +469,9 @@ class Results(Played):
             told = {"path": os.path.dirname(ROUNDS[-1]), "file": file, "node": node}
             code = CHANGED.format(when=when, lines=lines, **told)
             command = [sys.executable, "-S", "-c", code]
-            found = played(assignment, "two", command, policy="oldest").finding
-            got = found and (found.kind, found.node, found.pulse)
-            said = dict(found.lines)["wrong"] if found else ""
-            name = f"{assignment}, {when}: {lines}"
-            self.note(name, got == right and words in said, (got, said))
+            found = self.found(right, assignment, "two", command, policy="oldest")
+            said = dict(found.lines)["wrong"]
+            self.note(f"{assignment}, {when}: {lines}", words in said, said)
 
 
 class Lines(Played):
@@ -567,7 +479,6 @@ class Lines(Played):
         forms = "`layer N by PORT`, `layer 0`, `layer none` and `end`"
         for program, assignment, line, words in (
             ("layers", "rounds", "colour 0 1", f"which are `put PORT WORD NUMBER`, {forms}"),
-            ("layers", "rounds", "layer 1 by", "`layer 1 by` is no line of an answer"),
             ("layers", "alpha", "chose 1", f"which are `put PORT WIRE`, `pulse P`, {forms}"),
             (
                 "layers",
@@ -582,22 +493,10 @@ class Lines(Played):
                 f"`{1 << 32}` is no number of a hops, which is",
             ),
             (
-                "matching",
-                "rounds",
-                "channel 1",
-                "which are `put PORT WORD NUMBER`, `partner PORT`, `partner none` and ",
-            ),
-            (
                 "colouring",
                 "alpha",
                 "put 0 safe",
                 "`safe` is no wire, which are `payload P WORD NUMBER`",
-            ),
-            (
-                "colouring",
-                "alpha",
-                f"pulse {1 << 32}",
-                f"`pulse {1 << 32}` is no line of an answer",
             ),
             (
                 "colouring",
@@ -618,12 +517,6 @@ class Lines(Played):
                 "x ..` is no line of an answer, which are `put PORT WORDS..`",
             ),
             ("colouring", "rounds", "", "an empty line is no line of an answer"),
-            (
-                "colouring",
-                "rounds",
-                "my colours: [3, 1]",
-                "`my colours: [3, 1]` is no line of an answer",
-            ),
         ):
             found = played(assignment, "two", answering(line), program=program).finding
             said = dict(found.lines)["wrong"]
@@ -636,15 +529,13 @@ class Lines(Played):
 
 class Cases(Played):
     def test_most_networks_have_a_root(self):
-        """And those of the colouring are as they always were; bars come by chance where they count."""
+        """And bars come by chance where they count."""
         made = cases_of(options_of("rounds", "--program", "layers"))
         self.assertIn(sum(1 in case.network.identifiers.values() for case in made), range(80, 100))
-        for case in made:
-            with self.subTest(case=case.number):
-                self.assertEqual(len(set(case.network.identifiers.values())), case.network.nodes)
-        self.assertEqual(
-            {case.network.name for case in made if case.network.bars}, {"most4", "rest3"}
-        )
+        same = [
+            case for case in made if len({*case.network.identifiers.values()}) < case.network.nodes
+        ]
+        self.same("identifiers differ", same, [])
         for program, has_bars in (
             ("colouring", True),
             ("matching", False),
