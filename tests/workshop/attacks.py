@@ -1,11 +1,10 @@
 """What is submitted tries to get points that it hasn't earned, by another way than from within its programs
 (sandbox.py): by the folder in which grading is called, by the words of a command, by what it prints, by its files."""
 import os
-import stat
 import subprocess
 from random import Random
 
-from lab.workshop.cases import NETWORKS, network_of
+from lab.workshop.cases import network_of
 from lab.workshop.submissions import part_of
 from tests.cases import text_in
 from tests.tools import need
@@ -33,23 +32,8 @@ class Attacks(Submitted):
         self.loot = os.path.join(self.folder, "loot")
         os.makedirs(self.here)
 
-    def test_networks_of_the_working_folder(self):
-        """Files of the names of networks, each of one node, and folders, as students may have: a node that is right on
-        that alone has what it has anywhere."""
-        self.submit("anna", rounds_node_py=ONE)
-        before = self.graded(runs="12")["anna"]["rounds"]
-        names = NETWORKS.split(",")
-        for name, other in zip(names[::2], names[1::2]):
-            self.file(os.path.join(self.here, name), "p edge 1 0\n")
-            os.makedirs(os.path.join(self.here, other))
-        after = self.graded(runs="12", cwd=self.here)["anna"]["rounds"]
-        self.same("right runs", (before["right"], after["right"]), (1, 1))
-        self.same("its points", after["points"], 3)
-        sizes = [case["nodes"] for case in after["cases"]]
-        self.same("nodes of the networks", sizes, [case["nodes"] for case in before["cases"]])
-
     def test_a_name_means_the_example_in_each_folder(self):
-        """And with `./` the file."""
+        """Whatever a class has in its folder; with `./` it is the file."""
         names = {"two": 2, "path3": 3, "random6": 6, "most4": 4}
         for name in names:
             self.file(os.path.join(self.here, name), "p edge 1 0\n")
@@ -130,16 +114,3 @@ class Attacks(Submitted):
         self.assertNotIn("\x1b", done.stdout + done.stderr)
         self.assertRegex(done.stdout, r"(?m)^anna +0/2 +0 +- +0 +0/2 +0 +0  rounds: ended;")
         self.assertNotIn("\x1b", text_in(self.folder, "to", "anna.txt"))
-
-    def test_what_a_submission_is_afterwards(self):
-        """As it was: the same names, contents and rights."""
-        folder = self.submit("anna", rounds_node_py="open(__file__, 'w')\n", note="x")
-        os.chmod(os.path.join(folder, "note"), 0o600)
-
-        def kept():
-            paths = [os.path.join(folder, name) for name in sorted(os.listdir(folder))]
-            return [(path, text_in(path), stat.S_IMODE(os.stat(path).st_mode)) for path in paths]
-
-        before = kept()
-        self.same("it isn't written", self.graded(runs="1")["anna"]["rounds"]["right"], 0)
-        self.same("the folder", kept(), before)

@@ -3,8 +3,8 @@ nothing."""
 import argparse
 import contextlib
 import io
-import json
 import os
+import pathlib
 import re
 import shutil
 import subprocess
@@ -66,13 +66,9 @@ class Grades(Submitted):
         self.assertIn("can't be written: File name too long", done.stderr)
         self.assertEqual(done.returncode, 0, done)
 
-    def test_a_mute_program(self):
-        self.submit("cleo", open_node_py=MUTE)
-        cases = self.graded(runs="50", timeout="0.5")["cleo"]["open"]["cases"]
-        self.assertEqual([case["verdict"] for case in cases], ["silent"] * 50)
-
     def test_what_tries_to_reach_out(self):
-        """A node of each kind that fails, and what it starts; all that is left is the table."""
+        """A node of each kind that fails, and what it starts; all that is left is the table, and submissions as they
+        were."""
         need(self, "bwrap")
         other = os.path.join(self.subs, "ben", "rounds_node.py")
         attacks = {
@@ -82,26 +78,27 @@ class Grades(Submitted):
             "own": "open('kept', 'w').write('x')",
         }
         deep = "for _ in range(1500):\n    os.mkdir('d')\n    os.chdir('d')\n"
-        os.makedirs(os.path.join(self.folder, "room"))
-        self.submit("anna", rounds_node_py=program(attacks, f"away({MARK})\n")[-1])
-        os.symlink(other, os.path.join(self.subs, "anna", "link"))
+        folder = self.submit("anna", rounds_node_py=program(attacks, f"away({MARK})\n")[-1])
+        os.symlink(other, os.path.join(folder, "link"))
+        os.chmod(os.path.join(folder, "rounds_node.py"), 0o600)
         self.submit("ben", rounds_node_py=program({}, deep)[-1])
-        self.submit("cleo", rounds_node_py=ZERO)
+        self.submit("cleo", rounds_node_py="open(__file__, 'w')\n")
         reports, room = (os.path.join(self.folder, name) for name in ("reports", "room"))
-        os.chmod(room, 0o755)
-        words = ["--runs", "1", "--json", "--reports", reports]
+        os.mkdir(room, 0o755)
+        before = self.kept()
         given = {**os.environ, "HOME": os.path.dirname(self.subs), "TMPDIR": room}
-        done = call("grade", self.subs, *words, env=given)
-        table = {one["student"]: one["rounds"] for one in json.loads(done.stdout)["submissions"]}
-        verdicts = {name: found["cases"][0]["verdict"] for name, found in table.items()}
-        self.same("verdicts", verdicts, {"anna": "ended", "ben": "ended", "cleo": "differs"})
+        table = self.graded("--reports", reports, runs="1", env=given)
+        verdicts = {name: found["rounds"]["cases"][0]["verdict"] for name, found in table.items()}
+        self.same("verdicts", verdicts, dict.fromkeys(table, "ended"))
         found = got(text_in(reports, "anna.txt"))
-        missing = "FileNotFoundError"
-        right = dict.fromkeys(attacks, missing) | {"own": "1"}
-        self.same("what is reached", found, right)
-        names = sorted(os.listdir(os.path.join(self.subs, "anna")))
-        self.same("its folder", names, ["link", "rounds_node.py"])
+        self.same("reached", found, dict.fromkeys(attacks, "FileNotFoundError") | {"own": "1"})
+        self.same("submissions", self.kept(), before)
         self.same("what is left", os.listdir(room), [])
+
+    def kept(self):
+        """What submissions have, with the rights of each."""
+        paths = sorted(pathlib.Path(self.subs).rglob("*.py"))
+        return [(path, path.read_text(), path.stat().st_mode) for path in paths]
 
     def test_if_the_one_that_grades_is_killed(self):
         self.submit("anna", rounds_node_py=f"import os\nos.execvp('sleep', ['sleep', '{MARK}'])\n")
@@ -142,20 +139,20 @@ class Grades(Submitted):
     def test_second_plays(self):
         """They share a time, whatever their number, and the better of both results counts."""
         some = [
-            submissions.Part(f"s{at}", "", "rounds", ["x"], {"result": {"right": 5}})
-            for at in range(9)
+            submissions.Part(student, "", "rounds", ["x"], {"result": {"right": 5}})
+            for student in ("anna", "ben", "cleo")
         ]
-        given, seen = argparse.Namespace(seconds=600.0), []
+        founds = {"anna": {"why": "over"}, "ben": {"result": {"right": 9}}, "cleo": {"why": "x"}}
+        seen = []
 
         def play(some, limits, jobs, room):
-            seen.append(limits.seconds)
-            some[0].found = {"result": {"right": 9}} if some[0].student == "s1" else {"why": "over"}
+            seen.append(round(limits.seconds))
+            some[0].found = founds[some[0].student]
 
-        with mock.patch.object(parts, "play_all", play):
-            parts.play_again(some, given, "room")
-        self.assertTrue(all(199 < seconds <= 600 for seconds in seen), seen)
-        self.assertLess(max(seen[:1]), 201)
-        self.assertEqual([part.result["right"] for part in some], [5, 9] + [5] * 7)
+        with mock.patch.object(parts, "play_all", play), mock.patch.object(parts, "AGAIN", 2):
+            parts.play_again(some, argparse.Namespace(seconds=600.0), "room")
+        self.same("seconds", seen, [400, 600, 600])
+        self.same("right runs", [part.result["right"] for part in some], [5, 9, 5])
 
     def test_java(self):
         """A class is run, and not its source, which each start would compile."""
@@ -256,24 +253,17 @@ class Points(Case):
     """By hand, of the table in TEACHING: 99 of 100 runs give 39, nine of ten policies 36, and all plans 10."""
 
     def test_they_add_up(self):
-        def of(assignment, rows):
-            return submissions.points({"assignment": assignment, "cases": rows})
-
-        right, wrong = {"verdict": "right"}, {"verdict": "stuck"}
         alpha = [{"policy": policy, "verdict": "right"} for policy in POLICIES for _ in range(12)]
-        self.assertEqual(
-            [of("rounds", [right] * 100), of("alpha", alpha), of("open", [right] * 50)],
-            [40, 40, 10],
-        )
-        alpha[17] = alpha[17] | wrong
-        self.assertEqual(
-            [
-                of("rounds", [right] * 99 + [wrong]),
-                of("alpha", alpha),
-                of("open", [right] * 49 + [wrong]),
-            ],
-            [39, 36, 0],
-        )
+        right = {"verdict": "right"}
+        for assignment, rows, all_right, one_wrong in (
+            ("rounds", [right] * 100, 40, 39),
+            ("alpha", alpha, 40, 36),
+            ("open", [right] * 50, 10, 0),
+        ):
+            wrong = [*rows[:-1], rows[-1] | {"verdict": "stuck"}]
+            for cases, points in ((rows, all_right), (wrong, one_wrong)):
+                result = {"assignment": assignment, "cases": cases}
+                self.same(f"{assignment} {points}", submissions.points(result), points)
 
     def test_the_parts_are_a_hundred(self):
         table = (
