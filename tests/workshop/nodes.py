@@ -22,8 +22,10 @@ from tests.workshop.base import (
     GREEDY,
     JAVA,
     ROUNDS,
+    MISTAKES,
     Played,
     answering,
+    call,
     ending_with,
     compiled,
     network,
@@ -42,7 +44,7 @@ BARRED_RING = Network(5, RING.edges, RING.said, {1: [1], 4: [2]}, name="barred r
 BARRED = Network(1, [], bars={1: [1]}, name="barred one")
 
 # By mistake, one of each kind, what is found on most4 and on rest3: (node, pulse) of a difference, or None where all is
-# right. That each other one is found at all is for mutants.py. On rest3
+# right. On rest3
 # by hand: node 2 has the parents 3 and 13, in this order, and as texts in the other. The bit steps of 13, 3 and 2 give
 # 1, 3 and 0, and then the same again; the shift gives node 2 the 3, which is dropped in pulse 12 and not in pulse 8.
 COLOURING = {
@@ -315,7 +317,39 @@ class RightNodes(Played):
                 )
 
 
+# By how the other mistakes begin, the program, and the networks on which WORKSHOP has it tried.
+COLOURED = ("two", "triangle", "star4", "most4")
+TRIED = {
+    "layers": ("layers", ("path5", "alone4")),
+    "matching": ("matching", COLOURED),
+    "set": ("independent-set", COLOURED),
+    "anew": ("recolouring", COLOURED),
+}
+# A node that says nothing of its colours.
+RESERVED = ("sh", "-c", '"$@" | grep -Ev --line-buffered "^(colour|chose)"', "sh")
+
+
 class Mistakes(Played):
+    def is_right(self, name):
+        """Whether a mistake shows in none of the runs with which the pages have it tried."""
+        kind, program, words = "rounds", [], ["path1", "most4", "rest3", "drops8"]
+        if name in MISTAKES.ALPHA:
+            kind = "alpha"
+            words = ["alone4", "triangle", "triangle", "alone4", "--policies", "newest,late-acks"]
+        elif name in MISTAKES.OTHERS:
+            of, networks = TRIED[name.partition("_")[0]]
+            program, words = [of], [*networks, "--program", of]
+        node = self.wrong_node(name, f"{kind}_node.py", *program)
+        return (
+            call(kind, *words, "--one-process", "--first", "--", *RESERVED, *node).returncode == 0
+        )
+
+    def test_all_but_two_show(self):
+        """Those change nothing: what nobody does, and what nothing comes after."""
+        self.same(
+            "right", list(filter(self.is_right, MISTAKES.MISTAKES)), ["merge_last", "acks_after"]
+        )
+
     def test_of_the_colouring(self):
         for name, rights in COLOURING.items():
             for given, right in zip(("most4", "rest3", "drops8"), rights):
