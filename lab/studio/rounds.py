@@ -60,21 +60,21 @@ def of_nodes(words):
     return words.replace("vertices", "nodes").replace("vertex", "node")
 
 
+def rounds_asked(asked):
+    network, program = network_asked(asked, MOST_ROUNDS), program_asked(asked)
+    if program is not Colouring:
+        return ProgramRounds(network, program)
+    return rounds_of(network, asked["network"])
+
+
 def rounds(asked, _tell):
     """The rounds, pulse by pulse."""
-    network = network_asked(asked, MOST_ROUNDS)
-    program = program_asked(asked)
-    if program is not Colouring:
-        return player_page.film_of(ProgramRounds(network, program))
-    return player_page.film_of(rounds_of(network, asked["network"]))
+    return player_page.film_of(rounds_asked(asked))
 
 
 def rounds_page(asked, _tell):
     """A page that plays the rounds and needs no server, as the command `picture player` draws it."""
-    network, program = network_asked(asked, MOST_ROUNDS), program_asked(asked)
-    if program is not Colouring:
-        return player_page.draw(ProgramRounds(network, program))
-    return player_page.draw(rounds_of(network, asked["network"]))
+    return player_page.draw(rounds_asked(asked))
 
 
 def why(asked, _tell):

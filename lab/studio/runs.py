@@ -116,15 +116,12 @@ def run(asked, tell):
     else:
         text, found = played(asked, network, program, tell)
     if found is None:
-        # Of a text in the order of a run only its beginning is read: a part, and then as much as is shown.
-        counts = (
-            (PART, MOST_ENTRIES + 2) if text.startswith("transcript 2 ") else (text.count("\n"),)
-        )
-        for count in counts if text.count("\n") > 2 * PART else counts[-1:]:
-            lines = "".join(line + "\n" for line in text.split("\n", count + 1)[: count + 1])
-            found = Run("the run", network, steps_of_text("the run", network, lines, None, program))
-            if count != counts[-1]:
-                tell(part=shown(found))
+        lines = text.splitlines(keepends=True)
+        if text.startswith("transcript 2 "):
+            # Of a text in the order of a run only as much is read as is shown.
+            del lines[MOST_ENTRIES + 3 :]
+        steps_shown = steps_of_text("the run", network, "".join(lines), None, program)
+        found = Run("the run", network, steps_shown)
     same, results = compared(found, network, program)
     return shown(found) | {
         "text": text,

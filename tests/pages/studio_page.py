@@ -1,5 +1,5 @@
 """The studio's page in a browser, if one is installed: a network is drawn with a real mouse, and each tab shows what
-the definitions say. tests/by_hand/studio_in_browser.py has more. And what the page repeats of others."""
+the definitions say. And what the page repeats of others."""
 import json
 import os
 import re
@@ -19,7 +19,7 @@ from lab.pictures.palette import (
     text_on,
 )
 from tests import TOP, browser
-from tests.cases import Case
+from tests.cases import Case, said_by
 from tests.programs.studio import begin
 from tests.tools import need
 
@@ -45,11 +45,9 @@ UNSEEN = """(() => { const all = Array.from(document.querySelectorAll('nav butto
     && Math.min(a.bottom, b.bottom) - Math.max(a.top, b.top) > 1;
   return all.filter(([, box, it]) => box.left < 0 || box.right > innerWidth + 1 || it.scrollWidth > it.clientWidth + 1
     || all.some(other => other[2] !== it && over(box, other[1]))).map(one => one[0]); })()"""
-# What nodes find in the triangle, whose plan is 2 3 1, once a field is changed. Node 3 takes node 2 in forest 0, so 1
-# is left over. In the first pass node 2 chooses first, then 1, then 3; so in the second it is 3, then 1, then 2.
+# What nodes find in the triangle, whose plan is 2 3 1, once a field is changed. In the first pass node 2 chooses first,
+# then 1, then 3; so in the second it is 3, then 1, then 2.
 FOUND = [
-    ("program4", "matching", ["partner none", "partner 1", "partner 1"]),
-    ("program4", "independent-set", ["out", "out", "in"]),
     (
         "program4",
         "recolouring",
@@ -255,6 +253,19 @@ class Drawn(Page):
             self.note(f"{what} is itself", words in saved, saved[:200])
             if what in ("rounds", "run"):
                 self.note("it needs no server", not re.search(r'src="|href="(?!data:)', saved))
+                self.file(what + ".html", saved)
+        for what in ("rounds", "run"):
+            self.page.go(f"file://{self.folder}/{what}.html#pulse-3")
+            self.sees(f"{what}: two nodes", "document.querySelectorAll('#net .node').length === 2")
+            self.sees(f"{what}: at its place", "time.at >= 3")
+            self.page.click_on("#play")
+            self.sees(f"{what}: it plays", "time.at > 5")
+            self.page.size(360, 780, True)
+            wide = self.page.value("document.documentElement.scrollWidth")
+            self.note(f"{what}: no wider than a phone", wide <= 360, wide)
+            self.page.size(1280, 800)
+        self.page.go(self.address)
+        self.sees("the studio again", "window.studio && studio.rounds.film")
 
     def test_labels(self):
         """No label covers another one or another node where there is room, on a desk and on a phone on its side."""
@@ -329,6 +340,13 @@ class Drawn(Page):
         self.page.tap(*self.at(2))
         self.same("taps add and join", self.page.value("studio.net.edges.join()"), "1,2")
         self.page.size(1280, 800)
+        self.page.tap(*self.at(1))
+        self.page.value("document.querySelector('#chosen input').focus()")
+        for words in ("Oslo", "77"):
+            self.page.ask("Input.insertText", text=words)
+            self.page.key("Tab", code="Tab", windowsVirtualKeyCode=9)
+        named = "studio.net.nodes[0].name + studio.net.nodes[0].id"
+        self.sees("Tab goes from field to field", f"{named} === 'Oslo77'")
 
     def test_widths(self):
         """Nothing is cut off or covered on a phone, on its side, and at 400 %; SHOTS names a folder for screenshots."""
@@ -460,14 +478,13 @@ class Drawn(Page):
             "undo takes a drag back in one step", abs(self.at(4)[1] - before[1]) < 2, self.at(4)
         )
         self.click((3, 4))
-        self.page.key("Delete", code="Delete", windowsVirtualKeyCode=46)
-        self.note("an edge is removed", self.page.value("studio.net.edges.length") == 3)
-        self.sees("the address has the network", "/net=.*~1-2_1-3_2-3&/.test(location.hash)")
+        self.same("an edge is chosen", self.page.value("studio.seen.edge"), [3, 4])
+        self.sees("the address has the network", "/net=.*~1-2_1-3_2-3_3-4&/.test(location.hash)")
         address = self.page.value("location.href")
         self.note("and no token", "token" not in address, address)
         self.page.go("about:blank")
         self.page.go(address)
-        self.sees("a link shows the network", "window.studio && studio.net.edges.length === 3")
+        self.sees("a link shows the network", "window.studio && studio.net.edges.length === 4")
 
     def test_rounds(self):
         self.go_to("example=petersen&tab=rounds&at=4&forest=0")
@@ -556,6 +573,9 @@ class Drawn(Page):
             "judged up to here", "document.getElementById('judgehere').textContent.startsWith('✓')"
         )
         self.note("takes its line back", not self.page.text("wrong"), self.page.text("wrong"))
+        self.page.click_on("#play")
+        self.sees("what is said of another place goes", "!judgehere.textContent")
+        self.page.click_on("#play")
         self.click((4, 5))
         self.sees("a click makes a link wait", "studio.seen.slow.length === 2")
         self.go_to("example=chain6&tab=run&seed=7&other=newest.2&at=5")
@@ -566,6 +586,8 @@ class Drawn(Page):
         self.sees(
             "rows of both", "document.getElementById('now').textContent.includes('second, stamp')"
         )
+        self.page.click_on("[data-tab=draw]")
+        self.sees("the stage is whole again", "studio.stage.high > stage.clientHeight - 40")
 
     def test_steps(self):
         """The adversary: a message that is clicked is taken, a held link holds, and No clock plays the rest."""
@@ -618,8 +640,7 @@ class Drawn(Page):
         return self.page.value("kept.length ? kept[0].text() : ''")
 
     def test_pictures(self):
-        """Of the chosen program: what the nodes have found, and the wires of a run, which the last pulse tells apart:
-        13 + 6 · 2 of the matching, and 30 + 1 + 2 of the set."""
+        """Of the chosen program with its passes: what nodes have found, and a run, which ends at pulse 30 + 3 · 2."""
         self.page.value(KEEP)
         self.go_to("example=two&tab=pictures&kind=plan")
         self.sees(
@@ -627,34 +648,17 @@ class Drawn(Page):
             "document.querySelector('#picture img[alt=plan]') && "
             "document.getElementById('ofprogram').hidden",
         )
-        triangle = "example=triangle&tab=pictures&kind=results"
-        self.picture("results", self.go_to, triangle)
+        self.picture("results", self.go_to, "example=triangle&tab=pictures&kind=results")
         for field, value, wanted in FOUND:
             shown = self.picture("results", self.page.choose, field, value)
             found = re.findall(r"<title>node \d+: (.*?)</title>", shown)
             self.note(f"what nodes find with {field} {value}", found == wanted, found)
-        self.sees(
-            "the address has the passes", "/program=recolouring.*passes=2/.test(location.hash)"
-        )
-        shown = self.picture("results", self.go_to, f"{triangle}&program=recolouring&passes=3")
-        self.note(
-            "a third pass ends as the first",
-            "node 2: channel 1, was channel 3" in shown,
-            shown[:400],
-        )
-        self.note(
-            "as the address says", self.page.value("document.getElementById('passes').value") == "3"
-        )
-        for passes, does, words in (
-            (3, self.page.click_on, ("#kinds [data-kind=overview]",)),
-            (1, self.page.choose, ("passes", "1")),
-        ):
-            shown = self.picture("overview", does, *words)
-            last = f" of {30 + 3 * passes}"
-            self.note(f"the run has {passes} passes", last in shown, shown[:400])
-        for program, last in (("matching", 25), ("independent-set", 33)):
-            shown = self.picture("overview", self.page.choose, "program4", program)
-            self.note(f"the run is one of {program}", f" of {last}" in shown, shown[:400])
+        address = "/program=recolouring.*passes=2/.test(location.hash)"
+        self.sees("the address has the passes", address)
+        shown = self.picture("run", self.page.click_on, "#kinds [data-kind=run]")
+        self.note("the run has them", " of 36" in shown, shown[:400])
+        self.go_to("example=triangle&tab=pictures&kind=results&program=recolouring&passes=3")
+        self.sees("as the address says", "document.getElementById('passes').value === '3'")
 
     def test_check(self):
         self.go_to("example=petersen&tab=check&plan=1_1")
@@ -668,6 +672,54 @@ class Drawn(Page):
         while self.page.value("studio.check.plan[0]") != wanted:
             self.click(1)
         self.sees("a clash", "studio.check.verdict && studio.check.verdict.code === 'C4'")
+        self.go_to("example=two&tab=check")
+        self.sees("two nodes", "studio.net.nodes.length === 2 && studio.check.verdict")
+        text = said_by("simulate", "two")[1]
+        for words, said in ((text.replace("ack 3", "ack 4", 1), "WrongWire"), (text, "whole run")):
+            self.page.choose("transcript", words)
+            self.page.click_on("#judged")
+            self.sees(said, f"document.getElementById('judgement').textContent.includes('{said}')")
+        self.page.click_on("#watchit")
+        self.sees("it is watched", "judge.textContent.startsWith('✓') && studio.run.transcript")
+
+    def test_files(self):
+        """A file that is dropped is read, and what it doesn't say is asked."""
+        self.go_to("tab=draw")
+        for name, words, seen in (
+            ("x.col", "p edge 2 1\ne 1 3\n", "document.body.textContent.includes('(F5)')"),
+            ("x.txt", "a,b\nOslo,Ulm\nUlm,Rom\n", "!document.getElementById('unsaid').hidden"),
+        ):
+            self.page.value(
+                f"(() => {{ const d = new DataTransfer(); d.items.add(new File([{json.dumps(words)}], "
+                f"'{name}')); document.dispatchEvent(new DragEvent('drop', {{dataTransfer: d, "
+                "cancelable: true})); })()"
+            )
+            self.sees(name, seen)
+        self.page.click_on("#unsaidchoices button")
+        self.sees(
+            "its columns", "document.getElementById('unsaidwhat').textContent.match('heading')"
+        )
+        self.page.click_on("#unsaidchoices button")
+        self.sees(
+            "which are stated", "studio.net.nodes.map(one => one.name).join() === 'Oslo,Ulm,Rom'"
+        )
+        self.note(
+            "and no longer asked", self.page.value("document.getElementById('unsaid').hidden")
+        )
+
+    def test_cancel(self):
+        """A call that takes long is ended by its button."""
+        self.go_to("example=two&tab=draw")
+        self.sees("two nodes", "studio.net.nodes.length === 2")
+        self.page.value(
+            "window.real = fetch; window.fetch = (to, {signal}) => new Promise((_, end) => "
+            "signal.addEventListener('abort', () => { window.ended = true; end(signal.reason); }))"
+        )
+        self.page.click_on("#tidy")
+        self.sees("it is under way", "!document.getElementById('busy').hidden")
+        self.page.click_on("#busy button")
+        self.sees("it ends", "window.ended && document.getElementById('busy').hidden")
+        self.page.value("window.fetch = real")
 
     def test_addresses(self):
         """What can't be read in an address is said, or left out, and the page goes on."""
@@ -688,6 +740,8 @@ class Drawn(Page):
             (two + "&tab=adversary&without=toString", "without=toString"),
             (two + "&tab=pictures&kind=toString", "kind=toString"),
             (two + "&tab=pictures&kind=results&program=recolouring&passes=9", "passes=9"),
+            ("example=disk100&tab=run", "at most 40"),
+            ("example=disk100&tab=adversary", "at most 40"),
             (two + "&tab=rounds&at=2&node=1&broken=digit,root", ""),
         ):
             self.go_to(words)
