@@ -7,10 +7,14 @@
   in one that takes it from there.
 - `main` of each program has the type that `serve_words` alone makes, of its own commands and the standard streams.
 - No line is wider than 120 columns in src/ and specs/, and than 160 in proofs/.
+- Files of specs/ have definitions alone: those that import proofs or state a lemma are called `..Laws.antt`, or
+  `Props.antt`, and neither another file of specs/ nor a clause takes a word from one of these.
+- Each lemma is named outside its own proof, except those of UNCITED.
 - Each crate of crates.txt lists each crate that its own files name, and no other. A crate that the head of a `lib.rt`
   names as a caller ("`answers` calls ..") lists the crate. No file passes a name of another crate on: no `pub use` of a
   lower crate in src/, specs/ or proofs/, and no import by way of one (`below`).
 """
+import collections
 import glob
 import os
 import re
@@ -34,6 +38,43 @@ CALLERS = (
 NUMBER = r"^pub const ([A-Z_]+): [iu]\w+ = ([\d_]+);"
 SAID = r"prove!\([^;]*\);|ensures \w+ \{ [A-Z_]+ ≡ \d+ \}"
 TESTS = ("checks", "worker_checks")
+
+# A file of specs/ that has laws with their proofs, as a path and as a module.
+LAWS = r"/(?:[A-Z]\w+Laws|Props)\.antt$"
+LAWS_MODULE = r"specs\.(?:[A-Z]\w+Laws|Props)"
+# What a definition doesn't need: proofs, laws, and a lemma, whose statement its proof follows.
+PROOFS_TAKEN = rf"^use \S*\.(?:proofs\.|{LAWS_MODULE}\b).*"
+LEMMA = r"^( *)(?:pub )?([^\s:(){}]+) : (?!goal\.).*\n(?:\1 +.*\n)*(?:\1unfolding .*\n)?\1\2[ \n]"
+# The words that a file takes from laws, and a clause, up to braces in its braces.
+WORDS_OF_LAWS = rf"^ *(?:ghost )?use Rattle\.\w+\.{LAWS_MODULE}\.\{{(.*)\}}"
+WORD = r"[^\s(){}\[\],.;:]+"
+CLAUSE = r"^ *(?:ensures|requires) \w* ?(\{(?:[^{}]|\{[^{}]*\})*\})"
+# Lemmas that nothing cites, by crate: each goes when its crate is proved anew.
+UNCITED = {
+    "actor": {"on_refusal", "memory_not_full", "full_not_memory"},
+    "alpha_core": {"safe-count", "out-change", "few-payloads"},
+    "answers": {"rooted-so"},
+    "colour_base": {"least_from-low"},
+    "dimacs_col": {"outside-first", "outside-second"},
+    "event_machine": {"reached_start"},
+    "forests": {"roles-are"},
+    "interference": {"count-le", "count-lt", "degree_in-le", "starts_from"},
+    "lone_runs": {"stuck_first", "stuck_all", "stuck_none"},
+    "node_api": {"get-set_same", "get-replicate", "made-none", "read-none"},
+    "node_pool": {"each_more"},
+    "outcomes": {"none_met", "no_rows_met", "slot_same", "slot_found"},
+    "stamps": {"entry_more", "KeepsStamps-prop", "more_stamp"},
+    "transcripts": {"fault-two", "fault-one"},
+    "worker_deques": {
+        "none_moved",
+        "one_moved",
+        "all_moved",
+        "right_none",
+        "right_more",
+        "but_none",
+        "total-append",
+    },
+}
 
 
 def unfound(path):
@@ -140,36 +181,65 @@ class Crates(Case):
         served = "".join(text for _, text in files_of("serving"))
         self.same("what makes one", re.findall(r"^ *Served \{", served, re.M), ["    Served {"])
 
+    def test_definitions(self):
+        specs = {path for path in SOURCES if re.search(r"/crates/\w+/specs/", path)}
+        laws = {path for path in specs if re.search(LAWS, path)}
+        self.note("files of laws", len(laws) > 20, len(laws))
+        for path in sorted(specs - laws):
+            text = text_in(path)
+            found = re.findall(PROOFS_TAKEN, text, re.M)
+            found += [name for _, name in re.findall(LEMMA, text, re.M)]
+            self.same(f"definitions alone: {os.path.relpath(path, TOP)}", found, [])
+        for path in sorted(set(SOURCES) - specs):
+            text = text_in(path)
+            taken = re.findall(r"[^\s,]+", " ".join(re.findall(WORDS_OF_LAWS, text, re.M)))
+            if taken:
+                clauses = " ".join(re.findall(CLAUSE, text, re.M))
+                cited = set(taken) & set(re.findall(r"[^\s(){},.]+", clauses))
+                self.same(f"laws in clauses: {os.path.relpath(path, TOP)}", cited, set())
+
+    def test_uncited(self):
+        texts = dict(file for crate in listed() for file in files_of(crate))
+        words = {path: re.findall(WORD, text) for path, text in texts.items()}
+        files = collections.Counter(word for found in words.values() for word in set(found))
+        uncited = collections.defaultdict(set)
+        for path, text in texts.items():
+            if "/proofs/" not in path and not re.search(LAWS, path):
+                continue
+            for dent, name in re.findall(LEMMA, text, re.M):
+                word = re.escape(name)
+                proof = rf"(?:{dent} +.*\n|{dent}(?:unfolding|{word})(?: .*)?\n|\n)*"
+                others = re.sub(rf"^{dent}(?:pub )?{word} : .*\n{proof}", "", text, flags=re.M)
+                if files[name] == 1 and name not in re.findall(WORD, others):
+                    uncited[path.split("/")[1]].add(name)
+        self.same("lemmas that nothing cites", uncited, UNCITED)
+
     def test_lists(self):
-        """What a crate lists, who a head says that calls it, and names that are passed on."""
-        lists, passed, count = listed(), [], 0
+        """What a crate lists, and names that are passed on."""
+        lists, passed = listed(), []
         for crate, names in lists.items():
-            named, others = set(), "|".join(lists.keys() - {crate})
-            for path, text in files_of(crate):
-                named |= set(
-                    re.findall(GHOST, text) + re.findall(CODE, text) * path.endswith(".rt")
-                )
-                passed += [
-                    f"{path}: {line}"
-                    for line in re.findall(
-                        rf"^ *pub use (?:Rattle\.)?(?:{others})\b.*|^.*\bRattle\.\w+\.below\..*",
-                        text,
-                        re.M,
-                    )
-                ]
-            self.same(f"crates.txt {crate}", sorted(named & lists.keys() - {crate}), sorted(names))
-            path = os.path.join(TOP, "crates", crate, "src", "lib.rt")
-            head = (
-                " ".join(re.findall(r"^//! ?(.*)$", text_in(path), re.M))
-                if os.path.isfile(path)
-                else ""
+            others = lists.keys() - {crate}
+            named = set()
+            passing = (
+                rf"^ *pub use (?:Rattle\.)?(?:{'|'.join(others)})\b.*|^.*\bRattle\.\w+\.below\..*"
             )
-            callers = {
-                name for found in re.findall(CALLERS, head) for name in re.findall(r"\w+", found)
-            } & lists.keys()
-            wrong, count = sorted(
-                name for name in callers if crate not in lists[name]
-            ), count + len(callers)
-            self.note(f"head of {crate}", not wrong, f"not listed by {wrong}")
+            for path, text in files_of(crate):
+                named.update(re.findall(GHOST, text))
+                if path.endswith(".rt"):
+                    named.update(re.findall(CODE, text))
+                passed += re.findall(passing, text, re.M)
+            self.same(f"crates.txt {crate}", named & others, set(names))
+        self.same("names passed on", passed, [])
+
+    def test_callers(self):
+        """Who a head says that calls its crate."""
+        lists, count = listed(), 0
+        for path in glob.glob(f"{TOP}/crates/*/src/lib.rt"):
+            crate = path.split("/")[-3]
+            head = " ".join(re.findall(r"^//! ?(.*)$", text_in(path), re.M))
+            callers = re.findall(r"\w+", " ".join(re.findall(CALLERS, head)))
+            callers = [name for name in callers if name in lists]
+            count += len(callers)
+            wrong = [name for name in callers if crate not in lists[name]]
+            self.same(f"not listed by who calls {crate}", wrong, [])
         self.note("callers in heads", count > 30, count)
-        self.note("names passed on", not passed, passed[:5])

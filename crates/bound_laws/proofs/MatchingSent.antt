@@ -15,9 +15,9 @@ use Rattle.forests.specs.Forests.{number, role_of}
 use Rattle.forests.specs.declared.numbering.Role.TheVariants.{Up}
 use Rattle.forests.proofs.Ends.{up-role}
 use Rattle.matching.specs.Knowing.{Wire, matching, turns}
-use Rattle.matching.specs.Lawful.{at, turns_cut}
+use Rattle.matching.specs.ProgramLaws.{at, turns_cut}
 use Rattle.matching.proofs.OneTurn.{Turn, child, none-or-some, offer-some, offer_by, one_turn, taken-some, taken_by, told1, told2}
-use Rattle.matching.proofs.Partners.{free-before, partner}
+use Rattle.matching.proofs.Partners.{free-before, none_unless, partner}
 use Rattle.bound_laws.proofs.ColouringSent.{by_ends}
 use Rattle.bound_laws.proofs.Sent.{none-more, one-more, over, sent_below}
 use Rattle.bound_laws.proofs.SequelSent.{both-before}
@@ -25,10 +25,6 @@ use Rattle.bound_laws.proofs.SequelSent.{both-before}
 none-unless : (x : Option Wire) → ((y : Wire) → x ≡ Some y → ⊥) → x ≡ None
 none-unless None none = refl
 none-unless (Some y) none = absurd (none y refl)
-
-no-port : (x : Option ℕ) → ((k : ℕ) → x ≡ Some k → ⊥) → x ≡ None
-no-port None none = refl
-no-port (Some k) none = absurd (none k refl)
 
 module _ (net : Net) (ok : IsNetwork net) where
   sent-is : (p : ℕ) (sent : ℕ → ℕ → Option Wire) → ((v : ℕ) → IsVertex net v → (at net ok p v).1 ≡ map (sent v) (neighbours net v)) → (v w : ℕ) → IsEdge net v w
@@ -139,12 +135,12 @@ module _ (net : Net) (ok : IsNetwork net) where
     free-idle : (v : ℕ) → IsVertex net v → partner net ok (suc t) v ≡ None → (partner net ok t v ≡ None) × (takes v ≡ None)
     free-idle v is_vertex free = (
       free-before net ok (t / 3) (t % 3) (partner net ok t) takes (partner net ok (suc t)) turn v is_vertex free,
-      no-port (takes v) (λ k is. let none : None ≡ Some k = sym free ∙ turn.takes v k is_vertex is in absurd cc),
+      none_unless (takes v) (λ k is. let none : None ≡ Some k = sym free ∙ turn.takes v k is_vertex is in absurd cc),
     )
 
     matched-idle : (v k : ℕ) → IsVertex net v → partner net ok t v ≡ Some k → takes v ≡ None
     matched-idle v k is_vertex is =
-        no-port (takes v) (λ j taking. let none : None ≡ Some k = sym (turn.chosen v j is_vertex taking).0 ∙ is in absurd cc)
+        none_unless (takes v) (λ j taking. let none : None ≡ Some k = sym (turn.chosen v j is_vertex taking).0 ∙ is in absurd cc)
 
   -- a child speaks in the three turns of its forest alone
   child-turns : (t v w : ℕ) → t ≤ 3 * forest_count_of net → IsEdge net v w → id_of net v < id_of net w

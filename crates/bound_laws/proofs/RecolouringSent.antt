@@ -3,7 +3,7 @@ use Rattle.std.proofs.Common.{◌≡◌, ◌≢◌, ℕ, zero, suc, ◌+◌, ◌
 use Rattle.std.specs.Prelude.{if◌then◌else◌, nat_lt, Option, None}
 use Rattle.std.specs.FinSet.{FinSet}
 use Rattle.std.specs.Ordering.{nat_cmp}
-use Rattle.std.proofs.lemmas.Bool.{le-leb, ne_eqb}
+use Rattle.std.proofs.lemmas.Bool.{and_left, le-leb, ne_eqb}
 use Rattle.interference.specs.Net.{IsEdge, IsNetwork, IsVertex, Net, forest_count_of, port_to, span_of}
 use Rattle.interference.proofs.Neighbours.{both-ways, neighbour-is_vertex}
 use Rattle.node_api.specs.Boxes.{at_port}
@@ -14,15 +14,12 @@ use Rattle.alpha_core.specs.Program.{sends}
 use Rattle.colour_rules.specs.Node.{Node, ports}
 use Rattle.followed.specs.Followed.{Both}
 use Rattle.recolouring.specs.Knowing.{Recoloured, Wire, colour_after, entering, is_turn, ready, recolouring, recolours, told, with_anew}
-use Rattle.recolouring.specs.Lawful.{at, at-pass, class-of, coloured, cut, has_greatest, ready-as, recolours_cut}
+use Rattle.recolouring.specs.ProgramLaws.{at, at-pass, class-of, coloured, cut, has_greatest, ready-as, recolours_cut}
 use Rattle.bound_laws.proofs.Sent.{no-less, once, over, sent_below}
 use Rattle.bound_laws.proofs.SequelSent.{both-before}
 
 told-none : (node : Node) (b : Bool) (c k : ℕ) → b ≡ false → at_port (told node b c) k ≡ None
 told-none node b c k e = ap (λ (d : Bool). at_port (told node d c) k) e ∙ at_port-nothing (ports node) k
-
-false-and : (a b : Bool) → a ≡ false → (a && b) ≡ false
-false-and a b e = ap (λ (c : Bool). c && b) e
 
 -- a node enters a pass at its first pulse alone
 stays-ready : (node : Node) (s : Recoloured) (k q : ℕ) → suc q ≤ s.greatest → ready node s (k * (s.greatest + 1) + suc q) ≡ s
@@ -84,7 +81,7 @@ module _ (again : ℕ) (net : Net) (ok : IsNetwork net) where
       (let e : suc (cut net ok) + k * (span_of net + 1) + q ≡ suc (cut net ok + pulse_of k q) = omega arith in e)
       ∙ (ap (λ (node : Both Node Recoloured × List (Option Wire)). at_port node.1 (port_to net v w)) (at-pass again net ok k q v is_vertex h)
       ∙ told-none (coloured net ok v) (turn && nat_lt q s.greatest) (colour_after s (heard k q v) turn) (port_to net v w)
-      (false-and turn (nat_lt q s.greatest) (not-turn k q v is_vertex h other)))
+      (and_left turn (nat_lt q s.greatest) (not-turn k q v is_vertex h other)))
 
   passes : (k v w : ℕ) → IsVertex net v → sent_below (sends (recolouring again) net v w) (suc (cut net ok) + k * (span_of net + 1))
       ≤ sent_below (sends (recolouring again) net v w) (suc (cut net ok)) + k

@@ -2,7 +2,7 @@
 -- neighbours one does.
 use Rattle.std.proofs.Common.{◌≡◌, ◌≢◌, ℕ, zero, suc, ◌+◌, ◌-◌, ◌*◌, ◌≤◌, ◌==◌, ◌&&◌, Bool, true, false, List, ap, sym, ◌∙◌, arith, subst, inl, inr}
 use Rattle.std.specs.Prelude.{◌||◌, nat_lt, not, Option, None}
-use Rattle.std.proofs.lemmas.Bool.{cases_Bool, ne_eqb, or_left, or_right}
+use Rattle.std.proofs.lemmas.Bool.{and_left, cases_Bool, ne_eqb, or_left, or_right}
 use Rattle.std.proofs.lemmas.Bool.Decides.{nat_tests}
 use native.Mathlib.Decide.{dec_lt}
 use Prim.{yes, no}
@@ -16,16 +16,13 @@ use Rattle.alpha_core.specs.Program.{sends}
 use Rattle.colour_rules.specs.Node.{Node, ports}
 use Rattle.followed.specs.Followed.{Both}
 use Rattle.independent_set.specs.Knowing.{Member, Wire, came, classes, independent_set, joins, told}
-use Rattle.independent_set.specs.Lawful.{at, at-class, classes_cut, coloured, cut}
+use Rattle.independent_set.specs.ProgramLaws.{at, at-class, classes_cut, coloured, cut}
 use Rattle.bound_laws.proofs.Sent.{no-less, once, over, quiet, sent_below}
 use Rattle.bound_laws.proofs.SequelSent.{both-before}
 
 -- what a node that doesn't tell it that it joins sends
 told-none : (node : Node) (b : Bool) (k : ℕ) → b ≡ false → at_port (told node b) k ≡ None
 told-none node b k e = ap (λ (c : Bool). at_port (told node c) k) e ∙ at_port-nothing (ports node) k
-
-false-and : (a b : Bool) → a ≡ false → (a && b) ≡ false
-false-and a b e = ap (λ (c : Bool). c && b) e
 
 module _ (net : Net) (ok : IsNetwork net) where
   -- whether a node joins at pulse q after the colouring
@@ -66,10 +63,10 @@ module _ (net : Net) (ok : IsNetwork net) where
   slot-none q v w is_vertex idle =
       ap (λ (node : Both Node Member × List (Option Wire)). at_port node.1 (port_to net v w)) (class-at q v is_vertex)
       ∙ told-none (coloured net ok v) (joining q v && nat_lt q (at net ok (cut net ok + q) v).0.beside.greatest) (port_to net v w)
-      (false-and (joining q v) (nat_lt q (at net ok (cut net ok + q) v).0.beside.greatest) idle)
+      (and_left (joining q v) (nat_lt q (at net ok (cut net ok + q) v).0.beside.greatest) idle)
 
   other-class : (q v : ℕ) → q ≢ (coloured net ok v).merged → joining q v ≡ false
-  other-class q v other = false-and ((coloured net ok v).merged == q) (not ((at net ok (cut net ok + q) v).0.beside.is_beside
+  other-class q v other = and_left ((coloured net ok v).merged == q) (not ((at net ok (cut net ok + q) v).0.beside.is_beside
       || came (inbox_from net (at net ok (cut net ok + q)) v))) (ne_eqb (coloured net ok v).merged q (λ e. other (sym e)))
 
   -- who is in stays in
@@ -122,7 +119,7 @@ module _ (net : Net) (ok : IsNetwork net) where
       idle-at q = elim (cases_Bool ((coloured net ok v).merged == q)) [
         | inl same ↦ let e : (coloured net ok v).merged ≡ q = (let t : ((coloured net ok v).merged == q) ≡ true = same in grind (arith, nat_tests)) in
             subst (λ (n : ℕ). joining n v ≡ false) e idle
-        | inr other ↦ false-and ((coloured net ok v).merged == q) (not ((at net ok (cut net ok + q) v).0.beside.is_beside
+        | inr other ↦ and_left ((coloured net ok v).merged == q) (not ((at net ok (cut net ok + q) v).0.beside.is_beside
             || came (inbox_from net (at net ok (cut net ok + q)) v))) other
       ]
 

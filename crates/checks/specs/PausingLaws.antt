@@ -15,7 +15,7 @@ use Rattle.sync_rounds.specs.SpreadLaws.{spread_laws}
 use Rattle.sync_rounds.specs.Words.{best_from}
 use Rattle.followed.specs.declared.said.Said.{Said}
 use Rattle.followed.specs.Followed.{Both, IsCut, IsSequel, followed}
-use Rattle.followed.specs.Lemmas.{at-more}
+use Rattle.followed.specs.RunLaws.{at-more}
 use Rattle.checks.specs.Pausing.{paused_from, pauses}
 
 abbrev pauses_cut : {B : Type 0} → IsCut (spread 3) (pauses {B = B})

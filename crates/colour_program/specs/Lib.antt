@@ -1,1 +1,2 @@
 pub mod ColoursText
+pub mod ColoursTextLaws

@@ -84,7 +84,8 @@ fn push_node(text: &mut Vec<u8>, phase: Phase, v: u32, node: &ColourNode) -> Res
 }
 
 impl ProgramText for Colouring {
-    ghost use Rattle.colour_program.specs.ColoursText.{colouring_lined, colouring_texts};
+    ghost use Rattle.colour_program.specs.ColoursText.{colouring_texts};
+    ghost use Rattle.colour_program.specs.ColoursTextLaws.{colouring_lined};
 
     ghost texts = { colouring_texts };
 

@@ -3,7 +3,7 @@ use Rattle.std.proofs.Common.{◌≡◌, ◌≢◌, ℕ, zero, suc, ◌+◌, ◌
 use Rattle.std.specs.Prelude.{Option, None, Ok, slice_index, if◌then◌else◌}
 use Rattle.node_api.specs.Program.{span}
 use Rattle.colour_rules.specs.declared.idle.IdlePulses.{IdlePulses}
-use Rattle.colour_rules.specs.Idle.{IsIdle, IsWaiting, no_pulses}
+use Rattle.colour_rules.specs.Idle.{IsIdle, IsWaiting}
 use Rattle.std.proofs.lemmas.Bool.Decides.{nat_tests}
 use Rattle.std.proofs.Math.Nat.{mul-le-mul_right}
 use native.Mathlib.Decide.{dec_lt}
@@ -114,7 +114,3 @@ hears node idle p slots waiting low high fine =
     rw w.2
     (ap (λ r. answered r (work_of node (Merge f s) slots)) none
     ∙ ap Ok (sym (waits-is node f s slots (nothing (ports node)) here gathers (sym wait) refl)))
-
--- no pulse is waited through
-pub waits-none : (node : Node) → IsWaiting node no_pulses
-waits-none node = record { steps = λ p low high. absurd (omega arith) }

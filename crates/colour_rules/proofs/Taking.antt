@@ -19,7 +19,7 @@ use Rattle.colour_rules.specs.Idle.{IsPassed}
 use Rattle.colour_rules.specs.Table.{is_merged}
 use Rattle.colour_rules.specs.Refusals.{Looked, and_id, first_refusal, port_rule}
 use Rattle.colour_rules.proofs.Reading.{Next, next-is, none-left, taken_in, with_chosen-fold}
-use Rattle.colour_rules.proofs.Walking.{looked-end, looked-first, looked-more, looked-to}
+use Rattle.colour_rules.proofs.Walking.{looked-end, looked-more, looked-to}
 
 -- a colour that is low enough, from a port of the forests merged so far, breaks no rule
 chosen-comes : (node : Node) (f s c : ℕ) (earlier : List ℕ) (role : Role) → 0 < s → c ≤ span node.sizes → is_merged f role ≡ true →
@@ -58,9 +58,6 @@ module _ (node : Node) (f : ℕ) (slots : List (Option Payload)) (same : length 
       let none = none-left slots mail.cursor mail here refl end in
       looked-to node (Merge f s) slots same mail.cursor (ports node) [] within (omega arith) (λ q low high. none q low (omega (arith, high, same)))
       (λ q low high. refl) (passed s some)
-
-  pub passed-first : IsPassed node f slots 0
-  passed-first s some = looked-first node (Merge f s) slots same
 
   -- so nothing is refused
   pub passed-fine : IsPassed node f slots (ports node) → (s : ℕ) → 0 < s → first_refusal node (Merge f s) slots ≡ None

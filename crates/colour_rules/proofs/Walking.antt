@@ -101,13 +101,6 @@ module _ (node : Node) (phase : Phase) (slots : List (Option Payload)) (same : l
     sym (append-nil heard) ∙ (ap (λ (rest : List (Option Payload)). heard ++ ids_in rest) (sym (drop_all (ports node) slots (omega arith))) ∙ looked.came),
   )
 
--- a payload that is no identifier adds nothing to those heard
-pub and_id-other : (heard : List ℕ) (payload : Payload) → ((id : ℕ) → payload ≡ Hello id → ⊥) → and_id heard (Some payload) ≡ heard
-and_id-other heard (Hello id) h = absurd (h id refl)
-and_id-other heard (Label f) h = refl
-and_id-other heard (Colour c) h = refl
-and_id-other heard (Chosen c) h = refl
-
 -- before the first port nothing is looked at
 pub looked-start : (node : Node) (phase : Phase) (slots : List (Option Payload)) (cursor : ℕ) → cursor ≡ 0 → Looked node phase slots cursor []
 looked-start node phase slots cursor start = subst (λ (k : ℕ). Looked node phase slots k []) (sym start) (record { rest = refl; came = refl })

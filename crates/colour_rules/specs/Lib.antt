@@ -5,6 +5,7 @@ pub mod Refusals
 pub mod Program
 pub mod Stored
 pub mod Words
+pub mod WordsLaws
 pub mod Idle
 pub mod Pulsed
 pub mod Taken

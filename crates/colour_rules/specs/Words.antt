@@ -1,10 +1,7 @@
 -- The text of a payload: a word for its kind, and its number.
-use Rattle.std.specs.Prelude.{◌≡◌, ℕ, ◌<◌, ◌^◌, ◌&&◌, if◌then◌else◌, nat_lt, nat_eq}
-use Rattle.std.specs.Prelude.{List, length, All, codes, Option, Some, None}
+use Rattle.std.specs.Prelude.{ℕ, ◌<◌, ◌^◌, ◌&&◌, if◌then◌else◌, nat_lt, nat_eq}
+use Rattle.std.specs.Prelude.{List, codes, Option, Some, None}
 use Rattle.std.specs.Cmp.Lexicographic.{pointwise}
-use Rattle.std.proofs.Common.{arith, rules}
-use Rattle.std.proofs.lemmas.Bool.Decides.{nat_tests}
-use Rattle.std.specs.Char.{IsAsciiAlphabetic}
 use Rattle.cole_vishkin.specs.declared.step.TheConstants.{IDENTIFIER_DIGITS}
 use Rattle.colour_rules.specs.declared.payload.Payload.{Payload}
 use Rattle.colour_rules.specs.declared.payload.Payload.TheVariants.{Hello, Label, Colour, Chosen}
@@ -38,18 +35,3 @@ payload_from word number =
     else if pointwise nat_eq word (codes "colour") && nat_lt number (2 ^ IDENTIFIER_DIGITS) then Some (Colour number)
     else if pointwise nat_eq word (codes "chosen") && nat_lt number (2 ^ 16) then Some (Chosen number)
     else None
-
--- each word is of letters
-pub words_are_letters : (payload : Payload) → (0 < length (word_in payload)) × All IsAsciiAlphabetic (word_in payload)
-words_are_letters (Hello id) = (omega arith, grind (arith, rules))
-words_are_letters (Label forest) = (omega arith, grind (arith, rules))
-words_are_letters (Colour colour) = (omega arith, grind (arith, rules))
-words_are_letters (Chosen colour) = (omega arith, grind (arith, rules))
-
--- the word and the number of a payload say it
-pub words_read_back : (payload : Payload)
-    → IsPayload payload → payload_from (word_in payload) (number_in payload) ≡ Some payload
-words_read_back (Hello id) h = grind (arith, nat_tests)
-words_read_back (Label forest) h = grind (arith, nat_tests)
-words_read_back (Colour colour) h = grind (arith, nat_tests)
-words_read_back (Chosen colour) h = grind (arith, nat_tests)

@@ -52,7 +52,7 @@ impl Payload {
 
 impl PayloadText for Payload {
     ghost use Rattle.colour_rules.specs.Words.{IsPayload, word_in, number_in, payload_from};
-    ghost use Rattle.colour_rules.specs.Words.{words_are_letters, words_read_back};
+    ghost use Rattle.colour_rules.specs.WordsLaws.{words_are_letters, words_read_back};
 
     ghost is_payload = { IsPayload };
 

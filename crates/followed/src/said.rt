@@ -18,7 +18,8 @@ pub trait WordsBeside<A: PayloadText>: PayloadText {
 }
 
 impl<A: PayloadText, B: WordsBeside<A>> PayloadText for Said<A, B> {
-    ghost use Rattle.followed.specs.Said.{is_apart, letters_beside, of_either, read_back_beside, read_first};
+    ghost use Rattle.followed.specs.Said.{is_apart, of_either, read_first};
+    ghost use Rattle.followed.specs.SaidLaws.{letters_beside, read_back_beside};
 
     ghost is_payload = { is_apart A.is_payload B.is_payload A.payload_of B.word_of B.number_of };
 

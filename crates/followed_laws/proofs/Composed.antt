@@ -1,6 +1,6 @@
 -- The run of a program that is followed is composed: up to the cut by `same_run`, and then pulse by pulse.
-use Rattle.std.proofs.Common.{◌≡◌, ℕ, zero, suc, ◌+◌, ◌-◌, ◌≤◌, List, [], ◌∷◌, refl, ap, ◌∙◌, arith}
-use Rattle.std.specs.Prelude.{map, Option, Result, Ok, Err}
+use Rattle.std.proofs.Common.{◌≡◌, ℕ, zero, suc, ◌+◌, ◌-◌, ◌≤◌, List, refl, ap, ◌∙◌, arith}
+use Rattle.std.specs.Prelude.{Option, Result, Ok, Err}
 use Rattle.interference.specs.Net.{Net, IsNetwork, IsVertex, degree_of, neighbour_of, neighbours, port_to}
 use Rattle.node_api.specs.Boxes.{at_port}
 use Rattle.node_api.specs.Program.{Program, sizes_of}
@@ -11,15 +11,8 @@ use Rattle.node_api.proofs.Runs.{node_at-more}
 use Rattle.followed.specs.declared.said.Said.{Said}
 use Rattle.followed.specs.Said.{said}
 use Rattle.followed.specs.Followed.{Both, IsCut, Sequel, beside_of, followed, keeping}
-use Rattle.followed.specs.Lemmas.{goes_on, same_run}
+use Rattle.followed.specs.RunLaws.{at_port-said, goes_on, same_run}
 use Rattle.followed_laws.specs.Composition.{IsComposition, cut_on, run_after, sequel_at}
-
--- what is said at a port
-pub at_port-said : {A B : Type 0} (slots : List (Option A)) (port : ℕ)
-    → at_port (map (said {A = A} {B = B}) slots) port ≡ said (at_port slots port)
-at_port-said [] port = refl
-at_port-said (slot ∷ slots) zero = refl
-at_port-said {B = B} (slot ∷ slots) (suc port) = at_port-said {B = B} slots port
 
 -- the nodes of two runs that send alike bring the same inbox
 pub same_inbox : {S T M : Type 0} (net : Net) → IsNetwork net → (a : ℕ → S × List (Option M)) (b : ℕ → T × List (Option M))

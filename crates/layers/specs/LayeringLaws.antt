@@ -15,14 +15,11 @@ use Rattle.node_api.specs.Run.{after, node_at, inbox_from}
 use Rattle.node_api.specs.declared.program.Refused.{Refused}
 use Rattle.node_api.proofs.Runs.{node_at-none, node_at-more, node_at-ports, length-inbox}
 use Rattle.node_api.proofs.Slots.{at_port-nothing}
+use Rattle.sync_rounds.specs.SpreadLaws.{either_length}
 use Rattle.layers.specs.declared.hops.Hops.{Hops}
 use Rattle.layers.specs.Layered.{Layered}
 use Rattle.layers.specs.Layering.{and_heard, heard, is_due, layered_after, layered_first, layering, next_from}
 use Rattle.layers.specs.Layering.{rule_broken, sends}
-
-either_length : {A : Type 0} (b : Bool) (n : ℕ) (x y : A) → length (cond b (replicate n x) (replicate n y)) ≡ n
-either_length true n x y = length-replicate n x
-either_length false n x y = length-replicate n y
 
 -- what is sent has a slot for each port
 length-sends : (p : ℕ) (s : Layered) → length (sends p s) ≡ s.degree

@@ -8,7 +8,8 @@ pub struct Hops(pub u32);
 
 impl PayloadText for Hops {
     ghost use Rattle.std.specs.Prelude.{codes, ◌<◌, ◌^◌};
-    ghost use Rattle.layers.specs.Words.{hops_from, hops_letters, hops_reads_back};
+    ghost use Rattle.layers.specs.Words.{hops_from};
+    ghost use Rattle.layers.specs.WordsLaws.{hops_letters, hops_reads_back};
 
     ghost is_payload = { λ x. x.0 < 2 ^ 32 };
 

@@ -38,7 +38,8 @@ fn push_to(text: &mut Vec<u8>, net: &Network, v: u32, port: u32) -> Result<(), A
 }
 
 impl NamedText for Layers {
-    ghost use Rattle.layers.specs.Texts.{layers_named, layers_words};
+    ghost use Rattle.layers.specs.Texts.{layers_words};
+    ghost use Rattle.layers.specs.TextsLaws.{layers_named};
 
     ghost words = { layers_words };
 

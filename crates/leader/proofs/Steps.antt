@@ -6,12 +6,9 @@ use Rattle.node_api.specs.Boxes.{nothing}
 use Rattle.leader.specs.Elector.{Elector}
 use Rattle.leader.specs.Election.{sends, sends_new}
 
--- before the last pulse it sends at all ports, and from it on at none
+-- before the last pulse it sends at all ports
 pub sends-early : (p : ℕ) (s : Elector) → p < s.last → sends p s ≡ replicate s.degree (Some (record { 0 = s.best }))
 sends-early p s early = grind (arith, nat_tests)
-
-pub sends-late : (p : ℕ) (s : Elector) → s.last ≤ p → sends p s ≡ nothing s.degree
-sends-late p s late = grind (arith, nat_tests)
 
 -- after pulse 0 it does so only if it heard a greater identifier
 pub sends-new : (p known : ℕ) (s : Elector) → known < s.best → sends_new p known s ≡ sends p s

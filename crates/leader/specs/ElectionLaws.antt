@@ -1,6 +1,6 @@
 -- The election keeps the laws of every program.
 use Rattle.std.proofs.Common.{◌≡◌, ℕ, zero, suc, ◌+◌, ◌≤◌, List, [], ◌∷◌, length, refl, ap, sym, subst, ◌∙◌}
-use Rattle.std.proofs.Common.{arith, Bool, true, false, cond, replicate}
+use Rattle.std.proofs.Common.{arith, Bool, true, false, cond}
 use Rattle.std.specs.Prelude.{Option, Some, None, Result, Ok, Err, IsOk, IfOk, nat_lt, max}
 use Rattle.std.proofs.lemmas.List.{length-replicate}
 use Rattle.std.proofs.lemmas.Bool.Decides.{nat_tests}
@@ -10,13 +10,10 @@ use Rattle.node_api.specs.Laws.{HasPorts, IsProgram, KeepsPorts}
 use Rattle.node_api.specs.Run.{after, node_at, inbox_from}
 use Rattle.node_api.specs.declared.program.Refused.{Refused}
 use Rattle.node_api.proofs.Runs.{node_at-none, node_at-more, node_at-ports}
+use Rattle.sync_rounds.specs.SpreadLaws.{either_length}
 use Rattle.leader.specs.declared.candidate.Candidate.{Candidate}
 use Rattle.leader.specs.Elector.{Elector}
 use Rattle.leader.specs.Election.{and_heard, elector_after, election, heard, next_from, sends}
-
-either_length : {A : Type 0} (b : Bool) (n : ℕ) (x y : A) → length (cond b (replicate n x) (replicate n y)) ≡ n
-either_length true n x y = length-replicate n x
-either_length false n x y = length-replicate n y
 
 -- what is sent has a slot for each port
 length-sends : (p : ℕ) (s : Elector) → length (sends p s) ≡ s.degree

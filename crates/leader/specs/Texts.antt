@@ -1,11 +1,8 @@
 -- The words of the election in texts.
-use Rattle.std.specs.Prelude.{ℕ, Bool, true, false, List, [], codes, if◌then◌else◌, nat_eq}
-use Rattle.std.proofs.Common.{refl}
+use Rattle.std.specs.Prelude.{ℕ, List, [], codes, if◌then◌else◌, nat_eq}
 use Rattle.interference.specs.Net.{Net, IsVertex, id_of}
-use Rattle.number_rows.specs.Feeds.{HasNoFeed}
 use Rattle.number_rows.specs.Row.{numbered}
-use Rattle.number_rows.proofs.Feeds.{no-feed-numbered}
-use Rattle.program_texts.specs.Named.{AreNamed, NamedTexts, texts_of}
+use Rattle.program_texts.specs.Named.{NamedTexts, texts_of}
 use Rattle.program_texts.specs.Texts.{ProgramTexts}
 use Rattle.leader.specs.Component.{IsGreatestReached}
 use Rattle.leader.specs.Elector.{Elector}
@@ -34,15 +31,3 @@ leader_words = record {
 -- all texts of the election
 abbrev pub leader_texts : ProgramTexts Elector
 leader_texts = texts_of election leader_words
-
--- no line feed is in them
-no-feed-elected : (own : Bool) → HasNoFeed (if own then codes " elected" else [])
-no-feed-elected true = refl
-no-feed-elected false = refl
-
-pub leader_named : AreNamed leader_words
-leader_named = record {
-  name = refl;
-  found = λ s. no-feed-numbered (codes " leader ") s.best refl;
-  more = λ net v s. no-feed-elected (nat_eq (id_of net v) s.best);
-}

@@ -9,7 +9,8 @@ pub struct Candidate(pub u128);
 impl PayloadText for Candidate {
     ghost use Rattle.std.specs.Prelude.{codes, ◌<◌};
     ghost use Rattle.interference.specs.Net.{id_bound};
-    ghost use Rattle.leader.specs.Words.{candidate_from, candidate_letters, candidate_reads_back};
+    ghost use Rattle.leader.specs.Words.{candidate_from};
+    ghost use Rattle.leader.specs.WordsLaws.{candidate_letters, candidate_reads_back};
 
     ghost is_payload = { λ x. x.0 < id_bound };
 

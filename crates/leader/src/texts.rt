@@ -8,7 +8,8 @@ use program_texts::NamedText;
 use std::alloc::AllocError;
 
 impl NamedText for Leader {
-    ghost use Rattle.leader.specs.Texts.{leader_named, leader_words};
+    ghost use Rattle.leader.specs.Texts.{leader_words};
+    ghost use Rattle.leader.specs.TextsLaws.{leader_named};
 
     ghost words = { leader_words };
 

@@ -26,7 +26,7 @@ use Rattle.colour_laws.proofs.Ports.{in_forest, same_forest}
 use Rattle.colour_laws.proofs.Sound.{stages_are_three}
 use Rattle.node_api.specs.First.{first_came}
 use Rattle.matching.specs.Knowing.{Wire, chooses, is_turn, offers, offered, takes, tells_free, told_free, told_taken, took, unless_matched}
-use Rattle.matching.specs.Lawful.{at, at-turn, turn-even, turn-odd}
+use Rattle.matching.specs.ProgramLaws.{at, at-turn, turn-even, turn-odd}
 use Rattle.node_api.proofs.Firsts.{comes-none, first-comes}
 
 -- the colour of a node in a forest

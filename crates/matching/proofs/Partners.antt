@@ -19,7 +19,7 @@ use Rattle.node_api.specs.First.{first_came}
 use Rattle.followed.specs.Followed.{Both}
 use Rattle.colour_rules.specs.Node.{Node}
 use Rattle.matching.specs.Knowing.{Wire}
-use Rattle.matching.specs.Lawful.{at, at-first, at-turn}
+use Rattle.matching.specs.ProgramLaws.{at, at-first, at-turn}
 use Rattle.node_api.proofs.Firsts.{first-comes}
 use Rattle.matching.proofs.OneTurn.{Turn, child, colour, one_turn}
 
@@ -28,7 +28,7 @@ abbrev pub ArePartners : Net → (ℕ → Option ℕ) → Type 0
 ArePartners net partner = (v k : ℕ) → IsVertex net v → partner v ≡ Some k →
     (k < degree_of net v) × (partner (neighbour_of net v k) ≡ Some (port_to net (neighbour_of net v k) v))
 
-none_unless : (x : Option ℕ) → ((k : ℕ) → x ≡ Some k → ⊥) → x ≡ None
+pub none_unless : (x : Option ℕ) → ((k : ℕ) → x ≡ Some k → ⊥) → x ≡ None
 none_unless None none = refl
 none_unless (Some k) none = absurd (none k refl)
 

@@ -1,4 +1,6 @@
 pub mod Words
+pub mod WordsLaws
 pub mod Knowing
-pub mod Lawful
+pub mod ProgramLaws
 pub mod Texts
+pub mod TextsLaws

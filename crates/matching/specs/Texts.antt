@@ -1,12 +1,9 @@
 -- The words of the matching in texts.
-use Rattle.std.specs.Prelude.{◌≡◌, ℕ, ◌<◌, Bool, true, false, List, [], codes, if◌then◌else◌, nat_lt, Option, Some}
+use Rattle.std.specs.Prelude.{◌≡◌, ℕ, ◌<◌, List, [], codes, if◌then◌else◌, nat_lt, Option, Some}
 use Rattle.std.specs.Prelude.{None}
-use Rattle.std.proofs.Common.{refl}
 use Rattle.interference.specs.Net.{Net, IsEdge, IsVertex, degree_of, neighbour_of, port_to}
-use Rattle.number_rows.specs.Feeds.{HasNoFeed}
 use Rattle.number_rows.specs.Row.{numbered}
-use Rattle.number_rows.proofs.Feeds.{no-feed-numbered}
-use Rattle.program_texts.specs.Named.{AreNamed, NamedTexts, texts_of}
+use Rattle.program_texts.specs.Named.{NamedTexts, texts_of}
 use Rattle.program_texts.specs.Texts.{ProgramTexts}
 use Rattle.followed.specs.Followed.{Both}
 use Rattle.colour_rules.specs.Node.{Node}
@@ -40,23 +37,3 @@ matching_words = record {
 -- all texts of the matching
 abbrev pub matching_texts : ProgramTexts (Both Node (Option ℕ))
 matching_texts = texts_of matching matching_words
-
--- no line feed is in them
-no-feed-partner : (partner : Option ℕ) → HasNoFeed (partner_text partner)
-no-feed-partner None = refl
-no-feed-partner (Some port) = no-feed-numbered (codes " partner ") port refl
-
-no-feed-to : (is_port : Bool) (w : ℕ) → HasNoFeed (if is_port then numbered (codes " to ") w else [])
-no-feed-to true w = no-feed-numbered (codes " to ") w refl
-no-feed-to false w = refl
-
-no-feed-towards : (net : Net) (v : ℕ) (partner : Option ℕ) → HasNoFeed (towards_text net v partner)
-no-feed-towards net v None = refl
-no-feed-towards net v (Some port) = no-feed-to (nat_lt port (degree_of net v)) (neighbour_of net v port)
-
-pub matching_named : AreNamed matching_words
-matching_named = record {
-  name = refl;
-  found = λ s. no-feed-partner s.beside;
-  more = λ net v s. no-feed-towards net v s.beside;
-}

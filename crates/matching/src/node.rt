@@ -133,7 +133,7 @@ impl Sequel<Colouring> for Turns {
     ghost use Rattle.colour_rules.specs.Program.{colouring};
     ghost use Rattle.colour_laws.proofs.Rounds.{rounds_are_program};
     ghost use Rattle.matching.specs.Knowing.{turns};
-    ghost use Rattle.matching.specs.Lawful.{turns_laws};
+    ghost use Rattle.matching.specs.ProgramLaws.{turns_laws};
 
     type Payload = Proposal;
 

@@ -14,8 +14,9 @@ pub enum Proposal {
 }
 
 impl PayloadText for Proposal {
-    ghost use Rattle.matching.specs.Words.{IsProposal, number_in, proposal_from, word_in, words_are_letters};
-    ghost use Rattle.matching.specs.Words.{words_read_back};
+    ghost use Rattle.matching.specs.Words.{IsProposal, number_in, proposal_from, word_in};
+    ghost use Rattle.matching.specs.WordsLaws.{words_are_letters};
+    ghost use Rattle.matching.specs.WordsLaws.{words_read_back};
 
     ghost is_payload = { IsProposal };
 
@@ -49,7 +50,7 @@ impl PayloadText for Proposal {
 }
 
 impl WordsBeside<Payload> for Proposal {
-    ghost use Rattle.matching.specs.Words.{words_apart};
+    ghost use Rattle.matching.specs.WordsLaws.{words_apart};
 
     ghost apart = { words_apart };
 }

@@ -34,7 +34,8 @@ fn push_to(text: &mut Vec<u8>, net: &Network, v: u32, port: u32) -> Result<(), A
 }
 
 impl SequelText<Colouring> for Turns {
-    ghost use Rattle.matching.specs.Texts.{matching_named, matching_words};
+    ghost use Rattle.matching.specs.Texts.{matching_words};
+    ghost use Rattle.matching.specs.TextsLaws.{matching_named};
 
     ghost words = { matching_words };
 

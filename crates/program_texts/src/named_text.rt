@@ -60,7 +60,8 @@ fn push_sizes(text: &mut Vec<u8>, net: &Network, last: u32) -> Result<(), AllocE
 }
 
 impl<P: NamedText> ProgramText for P {
-    ghost use Rattle.program_texts.specs.Named.{named_are_texts, texts_of};
+    ghost use Rattle.program_texts.specs.Named.{texts_of};
+    ghost use Rattle.program_texts.specs.NamedLaws.{named_are_texts};
 
     ghost texts = { texts_of P.program P.words };
 

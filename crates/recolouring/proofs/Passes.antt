@@ -10,7 +10,7 @@ use Rattle.node_api.specs.Run.{after, inbox_from, node_at, state_at}
 use Rattle.node_api.proofs.Runs.{node_at-more, node_at-none}
 use Rattle.followed.specs.Followed.{Both}
 use Rattle.followed.specs.Said.{said}
-use Rattle.followed.specs.Lemmas.{said-nothing, same_run}
+use Rattle.followed.specs.RunLaws.{said-nothing, same_run}
 use Rattle.node_api.proofs.Outboxes.{same-for_all}
 use Rattle.colour_rules.specs.declared.payload.Payload.{Payload}
 use Rattle.colour_rules.specs.Node.{Node}
@@ -23,7 +23,7 @@ use Rattle.colour_laws.proofs.Proper.{colours_proper}
 use Rattle.colour_laws.proofs.Starts.{colour_at_last}
 use Rattle.recolouring.specs.declared.anew.Anew.{Anew}
 use Rattle.recolouring.specs.Knowing.{Recoloured, Wire, recolouring, recolours}
-use Rattle.recolouring.specs.Lawful.{at, coloured, cut, one-more, recolours_cut, silent_pass}
+use Rattle.recolouring.specs.ProgramLaws.{at, coloured, cut, one-more, recolours_cut, silent_pass}
 use Rattle.recolouring.specs.Texts.{plan_of_passes}
 use Rattle.recolouring.proofs.Plans as plans
 use Rattle.recolouring.proofs.Run as run

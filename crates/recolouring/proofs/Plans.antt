@@ -24,7 +24,7 @@ use Rattle.node_api.specs.Boxes.{nothing}
 use Rattle.colour_laws.proofs.Expected.{IsForest}
 use Rattle.colour_laws.proofs.Forests.{has_forest}
 use Rattle.recolouring.specs.Knowing.{is_taken}
-use Rattle.recolouring.specs.Lawful.{at, cut}
+use Rattle.recolouring.specs.ProgramLaws.{at, cut}
 use Rattle.recolouring.proofs.Run as run
 
 among-left : (xs ys : List ℕ) (c : ℕ) → is_among xs c ≡ true → is_among (xs ++ ys) c ≡ true

@@ -18,13 +18,13 @@ use Rattle.node_api.proofs.Inboxes.{at_port-inbox}
 use Rattle.node_api.proofs.Runs.{length-inbox, node_at-ports}
 use Rattle.node_api.proofs.Slots.{at_port-nothing}
 use Rattle.followed.specs.Followed.{Both, beside_of}
-use Rattle.followed.specs.Lemmas.{kept_beside}
+use Rattle.followed.specs.RunLaws.{kept_beside}
 use Rattle.colour_rules.proofs.KeptPorts.{keeps}
 use Rattle.colour_rules.specs.Node.{Node, ports, up_to}
 use Rattle.colour_rules.specs.Program.{colouring}
 use Rattle.recolouring.specs.Knowing.{Recoloured, Wire, class_next, colour_after, entering, is_taken, is_turn, ready, recoloured, recolours}
 use Rattle.recolouring.specs.Knowing.{says, told, with_anew}
-use Rattle.recolouring.specs.Lawful.{at, at-pass, class-of, coloured, cut, has_greatest, ready-as, recolours_cut}
+use Rattle.recolouring.specs.ProgramLaws.{at, at-pass, class-of, coloured, cut, has_greatest, ready-as, recolours_cut}
 use Rattle.recolouring.proofs.Coming.{anew-from, anew-has, anew-keeps, number}
 
 turn-then : (colour greatest q : ℕ) → is_turn colour greatest q ≡ true → colour + q ≡ greatest

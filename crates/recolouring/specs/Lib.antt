@@ -1,5 +1,7 @@
 pub mod Words
+pub mod WordsLaws
 pub mod Knowing
 pub mod Stored
-pub mod Lawful
+pub mod ProgramLaws
 pub mod Texts
+pub mod TextsLaws

@@ -1,10 +1,8 @@
 -- The words of the colours that are chosen anew in texts.
 use Rattle.std.specs.Prelude.{◌≡◌, ◌≢◌, ℕ, zero, suc, ◌+◌, ◌<◌, ◌≤◌, [], Contains, codes}
-use Rattle.std.proofs.Common.{refl}
 use Rattle.interference.specs.Net.{Net, IsBarred, IsEdge, IsVertex, bars_of, bar_count_of, degree_of, neighbours}
 use Rattle.number_rows.specs.Row.{numbered}
-use Rattle.number_rows.proofs.Feeds.{no-feed-numbered}
-use Rattle.program_texts.specs.Named.{AreNamed, NamedTexts, texts_of}
+use Rattle.program_texts.specs.Named.{NamedTexts, texts_of}
 use Rattle.program_texts.specs.Texts.{ProgramTexts}
 use Rattle.node_api.specs.Run.{last_state}
 use Rattle.followed.specs.Followed.{Both}
@@ -46,11 +44,3 @@ recolouring_words again = record {
 -- all texts of the recolouring
 abbrev pub recolouring_texts : ℕ → ProgramTexts (Both Node Recoloured)
 recolouring_texts again = texts_of (recolouring again) (recolouring_words again)
-
--- no line feed is in them
-pub recolouring_named : (again : ℕ) → AreNamed (recolouring_words again)
-recolouring_named again = record {
-  name = refl;
-  found = λ s. no-feed-numbered (codes " channel ") (s.beside.colour + 1) refl;
-  more = λ net v s. refl;
-}

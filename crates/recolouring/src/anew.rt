@@ -10,7 +10,8 @@ pub struct Anew(pub u16);
 
 impl PayloadText for Anew {
     ghost use Rattle.std.specs.Prelude.{codes, ◌<◌, ◌^◌};
-    ghost use Rattle.recolouring.specs.Words.{anew_from, anew_letters, anew_reads_back};
+    ghost use Rattle.recolouring.specs.Words.{anew_from};
+    ghost use Rattle.recolouring.specs.WordsLaws.{anew_letters, anew_reads_back};
 
     ghost is_payload = { λ x. x.0 < 2 ^ 16 };
 
@@ -38,7 +39,7 @@ impl PayloadText for Anew {
 }
 
 impl WordsBeside<Payload> for Anew {
-    ghost use Rattle.recolouring.specs.Words.{anew_apart};
+    ghost use Rattle.recolouring.specs.WordsLaws.{anew_apart};
 
     ghost apart = { anew_apart };
 }

@@ -9,7 +9,8 @@ use number_rows::push_numbered;
 use std::alloc::AllocError;
 
 impl<const AGAIN: u8> SequelText<Colouring> for Recolours<AGAIN> {
-    ghost use Rattle.recolouring.specs.Texts.{recolouring_named, recolouring_words};
+    ghost use Rattle.recolouring.specs.Texts.{recolouring_words};
+    ghost use Rattle.recolouring.specs.TextsLaws.{recolouring_named};
 
     ghost words = { recolouring_words AGAIN };
 

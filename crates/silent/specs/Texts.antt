@@ -1,10 +1,8 @@
 -- The words of the program in texts.
 use Rattle.std.specs.Prelude.{◌≡◌, ℕ, List, [], codes}
-use Rattle.std.proofs.Common.{refl}
 use Rattle.interference.specs.Net.{Net, IsVertex}
 use Rattle.number_rows.specs.Row.{numbered}
-use Rattle.number_rows.proofs.Feeds.{no-feed-numbered}
-use Rattle.program_texts.specs.Named.{AreNamed, NamedTexts}
+use Rattle.program_texts.specs.Named.{NamedTexts}
 use Rattle.silent.specs.Knowing.{Known}
 
 -- ` silent N`
@@ -21,12 +19,4 @@ silent_words = record {
   found = found_text;
   more = λ net v s. [];
   Solves = HaveFound;
-}
-
--- the name is a word, and no line feed is in the others
-pub silent_named : AreNamed silent_words
-silent_named = record {
-  name = refl;
-  found = λ s. no-feed-numbered (codes " silent ") s.number refl;
-  more = λ net v s. refl;
 }

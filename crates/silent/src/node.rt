@@ -34,7 +34,7 @@ impl Silent {
 
 impl NodeProgram for Silent {
     ghost use Rattle.silent.specs.Knowing.{silent};
-    ghost use Rattle.silent.specs.Lawful.{silent_laws};
+    ghost use Rattle.silent.specs.ProgramLaws.{silent_laws};
 
     type Payload = Word;
 

@@ -8,7 +8,8 @@ pub struct Word(pub u32);
 
 impl PayloadText for Word {
     ghost use Rattle.std.specs.Prelude.{codes, ◌<◌, ◌^◌};
-    ghost use Rattle.silent.specs.Words.{word_from, word_letters, word_reads_back};
+    ghost use Rattle.silent.specs.Words.{word_from};
+    ghost use Rattle.silent.specs.WordsLaws.{word_letters, word_reads_back};
 
     ghost is_payload = { λ x. x.0 < 2 ^ 32 };
 

@@ -8,7 +8,8 @@ use program_texts::NamedText;
 use std::alloc::AllocError;
 
 impl NamedText for Silent {
-    ghost use Rattle.silent.specs.Texts.{silent_named, silent_words};
+    ghost use Rattle.silent.specs.Texts.{silent_words};
+    ghost use Rattle.silent.specs.TextsLaws.{silent_named};
 
     ghost words = { silent_words };
 

@@ -4,6 +4,7 @@ pub mod Delivery
 pub mod Greatest
 pub mod Spread
 pub mod Words
+pub mod WordsLaws
 pub mod SpreadLaws
 pub mod Reach
 pub mod Rests

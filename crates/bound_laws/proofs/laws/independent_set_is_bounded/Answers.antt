@@ -4,7 +4,7 @@ use Rattle.colour_laws.proofs.Choices.{colours_within}
 use Rattle.colour_laws.proofs.Forests.{has_forest, has_start}
 use Rattle.colour_laws.proofs.Starts.{colour_at_last}
 use Rattle.colour_laws.specs.Colours.{colours}
-use Rattle.independent_set.specs.Lawful.{coloured}
+use Rattle.independent_set.specs.ProgramLaws.{coloured}
 use Rattle.bound_laws.proofs.SetSent.{set-over}
 use Rattle.bound_laws.proofs.laws.independent_set_is_bounded.Goals as goal
 

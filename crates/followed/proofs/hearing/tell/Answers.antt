@@ -2,7 +2,7 @@ use Rattle.std.proofs.Common.{◌≡◌, ap, sym, ◌∙◌, refl}
 use Rattle.std.specs.Prelude.{map, length}
 use Rattle.node_api.specs.Boxes.{nothing}
 use Rattle.followed.specs.Said.{said}
-use Rattle.followed.specs.Lemmas.{said-nothing}
+use Rattle.followed.specs.RunLaws.{said-nothing}
 use Rattle.followed.proofs.hearing.tell.Goals as goal
 
 -- nothing is told of an outbox that is quiet

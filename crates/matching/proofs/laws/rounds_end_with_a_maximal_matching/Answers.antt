@@ -2,7 +2,7 @@ use Rattle.std.proofs.Common.{◌≡◌, ℕ, ◌+◌, ◌*◌, arith, subst}
 use Rattle.std.specs.Prelude.{None}
 use Rattle.interference.specs.Net.{Net, forest_count_of}
 use Rattle.colour_rules.specs.declared.phase.TheConstants.{FIRST_MERGE}
-use Rattle.matching.specs.Lawful.{at}
+use Rattle.matching.specs.ProgramLaws.{at}
 use Rattle.matching.proofs.Partners.{ArePartners, are_partners, no-free-edge}
 use Rattle.matching.proofs.laws.rounds_end_with_a_maximal_matching.Goals as goal
 

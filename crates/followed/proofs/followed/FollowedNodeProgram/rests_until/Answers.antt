@@ -1,7 +1,7 @@
 use Rattle.std.proofs.Common.{◌≡◌, arith, subst, sym}
 use Rattle.node_api.specs.Program.{RestsUntil}
 use Rattle.followed.specs.Followed.{Both, followed}
-use Rattle.followed.specs.Lemmas.{rests-early}
+use Rattle.followed.specs.RunLaws.{rests-early}
 use Rattle.followed.proofs.followed.FollowedNodeProgram.rests_until.Goals as goal
 
 pub returns : goal.returns

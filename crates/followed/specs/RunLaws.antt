@@ -24,7 +24,8 @@ pub said-nothing : {A B : Type 0} (n : ℕ) → map (said {A = A} {B = B}) (noth
 said-nothing zero = refl
 said-nothing {A = A} {B = B} (suc n) = ap (λ rest. None ∷ rest) (said-nothing {A = A} {B = B} n)
 
-at_port-said : {A B : Type 0} (slots : List (Option A)) (port : ℕ)
+-- what is said at a port
+pub at_port-said : {A B : Type 0} (slots : List (Option A)) (port : ℕ)
     → at_port (map (said {A = A} {B = B}) slots) port ≡ said (at_port slots port)
 at_port-said [] port = refl
 at_port-said (slot ∷ slots) zero = refl

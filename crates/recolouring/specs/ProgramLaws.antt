@@ -2,7 +2,7 @@
 use Rattle.std.proofs.Common.{◌≡◌, ℕ, suc, ◌+◌, ◌-◌, ◌*◌, ◌%◌, ◌≤◌, ◌&&◌, ◌==◌, Bool, true, false, List, length}
 use Rattle.std.proofs.Common.{◌∙◌, ap, arith, refl, subst}
 use Rattle.std.proofs.lemmas.List.{length-replicate}
-use Rattle.std.proofs.lemmas.Bool.{le-ltb}
+use Rattle.std.proofs.lemmas.Bool.{and_right, le-ltb}
 use Rattle.std.proofs.lemmas.Nat.{mod-mul-add}
 use Rattle.std.proofs.Math.Nat.{suc-mul}
 use Rattle.std.specs.Prelude.{if◌then◌else◌, nat_lt, Option, Some, None}
@@ -12,7 +12,7 @@ use Rattle.node_api.specs.Program.{sizes_of}
 use Rattle.node_api.specs.Run.{node_at, inbox_from, state_at}
 use Rattle.node_api.proofs.Runs.{node_at-ports}
 use Rattle.followed.specs.Followed.{Both, IsCut, IsSequel, beside_of}
-use Rattle.followed.specs.Lemmas.{at-more, kept_beside}
+use Rattle.followed.specs.RunLaws.{at-more, kept_beside}
 use Rattle.colour_rules.proofs.KeptPorts.{keeps}
 use Rattle.colour_rules.specs.Node.{Node, last, ports}
 use Rattle.colour_rules.specs.Program.{colouring}
@@ -22,10 +22,6 @@ use Rattle.recolouring.specs.Knowing.{recolouring, recolours, says, told, with_a
 length-told : (node : Node) (b : Bool) (c : ℕ) → length (told node b c) ≡ ports node
 length-told node true c = length-replicate (ports node) (Some (says c))
 length-told node false c = length-replicate (ports node) None
-
-no-and : (a b : Bool) → b ≡ false → (a && b) ≡ false
-no-and true b e = e
-no-and false b e = refl
 
 -- what the beginning of a pass leaves as it is
 pub ready-as : {A : Type 0} (f : Recoloured → A) (b : Bool) (s t : Recoloured) → f t ≡ f s
@@ -112,7 +108,7 @@ module _ (again : ℕ) (net : Net) (ok : IsNetwork net) where
       subst (λ (n : ℕ). (at n v).1 ≡ nothing (degree_of net v)) last_one
       (ap (λ (next : Both Node Recoloured × List (Option Wire)). next.1)
       (at-pass k (span_of net) v is_vertex (omega arith))
-      ∙ (ap (λ (b : Bool). told node b colour) (no-and turn (nat_lt (span_of net) s.greatest) late)
+      ∙ (ap (λ (b : Bool). told node b colour) (and_right turn (nat_lt (span_of net) s.greatest) late)
       ∙ ap (λ (n : ℕ). nothing n) (node_at-ports colouring net keeps (cut net ok) v).0))
 
 pub recolours_laws : (again : ℕ) → IsSequel colouring (recolours again)

@@ -15,7 +15,7 @@ use Rattle.forests.specs.declared.numbering.Role.{Role}
 use Rattle.forests.specs.declared.numbering.Role.TheVariants.{Unknown, Up, Down}
 use Rattle.followed.specs.Said.{told_by}
 use Rattle.followed.specs.Followed.{Both, IsCut, IsSequel, beside_of, with_beside}
-use Rattle.followed.specs.Lemmas.{at-more, said-nothing, same_run}
+use Rattle.followed.specs.RunLaws.{at-more, said-nothing, same_run}
 use Rattle.colour_rules.specs.declared.phase.TheConstants.{FIRST_MERGE}
 use Rattle.node_api.proofs.Outboxes.{same-for_all}
 use Rattle.colour_rules.specs.declared.payload.Payload.{Payload}
@@ -31,7 +31,8 @@ use Rattle.matching.specs.declared.proposal.Proposal.{Proposal}
 use Rattle.matching.specs.Knowing.{Wire, matching, offered, takes, tells_free, told_free, told_taken, took, turned}
 use Rattle.matching.specs.Knowing.{turns}
 
-either : {A : Type 0} (P : A → Type 0) (b : Bool) (x y : A) → P x → P y → P (if b then x else y)
+-- what holds of both branches holds of each
+pub either : {A : Type 0} (P : A → Type 0) (b : Bool) (x y : A) → P x → P y → P (if b then x else y)
 either P true x y h k = h
 either P false x y h k = k
 
