@@ -137,6 +137,14 @@ COMMANDS = (
         options=("root", "passes", "workers", "capacity", "turns"),
         words=("--workers", "2"),
     ),
+    Command(
+        "forestplay",
+        "alone",
+        TRIANGLE,
+        "node 1 pulse 30 channel 2|node 2 pulse 30 channel 3|node 3 pulse 30 channel 1|",
+        odd="p edge 2 1|b 1 2|e 2 1|",
+        options=("root", "passes"),
+    ),
 )
 PROGRAM_OF = {command.name: command.program for command in COMMANDS}
 PROGRAMS = ("forestplan", "forestplay")

@@ -194,6 +194,8 @@ REFUSED = [
     ("replay", "colouring", EDGE + "transcript 3 colouring 2|", "NotWhole line 3"),
     ("run", "layers --root 4", ROW, "NoRoot vertex 4"),
     ("run", "layers --root 1", NONE, "NoRoot vertex 1"),
+    ("alone", "layers --root 4", ROW, "NoRoot vertex 4"),
+    ("alone", "layers --root 1 --transcript", "p edge 2 0|i 1 5|i 2 5|", "N2 vertices 1 2"),
     ("rounds", "layers --root 9", "p edge 2 1|e 1 1|", "F6 line 2"),
     ("run", "layers --root 1", "p edge 2 0|i 1 5|i 2 5|", "N2 vertices 1 2"),
     # Two vertices of identifier 1 stay two of one identifier, whichever is the root.
@@ -267,7 +269,8 @@ def program_of(asked):
 
 class Programs(Case):
     def test_ends(self):
-        """By one worker, by three, in rounds, where nothing is added, and by the definition."""
+        """By one worker, by three, on one thread without workers, in rounds, where nothing is added, and by the
+        definition."""
         for asked, net, last, said in ENDS:
             ends = said.split("|") if said else []
             wanted = "".join(f"node {v} pulse {last} {end}|" for v, end in enumerate(ends, 1))
@@ -277,6 +280,9 @@ class Programs(Case):
                     play("run", asked, "--workers", workers, data=net),
                     (0, text(wanted), b""),
                 )
+            self.same(
+                f"alone {asked} on {net}", play("alone", asked, data=net), (0, text(wanted), b"")
+            )
             found = [re.sub(r" (to \d+|elected)$", "", end) for end in ends]
             if asked != "colouring":
                 done = play("rounds", asked, data=net)
@@ -331,6 +337,30 @@ class Programs(Case):
             fault = b"X1 line " + b"4\n" * (program in PLAIN)
             self.refusal(f"{program} without its name as {other}", done, 1, fault)
 
+    def test_transcripts_alone(self):
+        """What one thread writes down is a whole run with the same ends, which `replay` accepts, and the same each
+        time."""
+        for asked, net, last, said in ENDS:
+            program = asked.split()[0]
+            name = "2" if program == "colouring" else f"3 {program}"
+            status, run, errors = play("alone", asked, "--transcript", data=net)
+            head = f"transcript {name} {network_of(text(net)).nodes}\n".encode()
+            self.note(
+                f"transcript of {asked} on {net}",
+                (status, errors) == (0, b"") and run.startswith(head),
+                (status, run[:80], errors),
+            )
+            self.same(
+                f"transcript of {asked} on {net}, once more",
+                play("alone", asked, "--transcript", data=net),
+                (status, run, errors),
+            )
+            ends = said.split("|") if said else []
+            wanted = [f"node {v} pulse {last} {end}" for v, end in enumerate(ends, 1)]
+            status, state, errors = play("replay", asked, data=text(net) + run)
+            nodes = [line for line in state.decode().splitlines() if line.startswith("node ")]
+            self.same(f"{asked} on {net} replayed", (status, nodes, errors), (0, wanted, b""))
+
     def test_refused(self):
         for command, asked, data, fault in (
             *REFUSED,
@@ -354,7 +384,7 @@ class Programs(Case):
 
     def test_words(self):
         """Only one program takes each option, given once."""
-        for command in ("events", "replay", "rounds", "run"):
+        for command in ("events", "replay", "rounds", "run", "alone"):
             for words, said in WRONG:
                 done = called(PLAY, command, *words.split())
                 self.refusal(f"{command} {words}", done, 2, said.encode())

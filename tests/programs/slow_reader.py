@@ -181,4 +181,5 @@ ANSWERS = {
     "replay": replay,
     "rounds": rounds,
     "run": run,
+    "alone": run,
 }

@@ -7,19 +7,19 @@ use Rattle.clap.specs.Walk.{Row, Text, rows_after}
 use Rattle.clap.specs.Simple.{Shape, built}
 use Rattle.run_options.specs.declared.Options.{Options}
 use Rattle.command_line.specs.Asked.{FoundNamesNoProgram, HasEntered, IsPlayInRange, IsRefusal, MayDecline, choice_of, play_by, play_named, play_request_of}
-use Rattle.command_line.specs.Asked.{played, run_of}
+use Rattle.command_line.specs.Asked.{alone_of, played, run_of}
 use Rattle.command_line.specs.Line.{line}
 use Rattle.command_line.specs.NodePrograms.{NamesNoProgram, given_program, passed_program, passes_of, root_of, rooted_program_with, shown_of}
 use Rattle.command_line.specs.declared.declined.Declined.{Declined}
 use Rattle.command_line.specs.declared.declined.Declined.TheVariants as given
 use Rattle.command_line.specs.declared.executable.Executable.TheVariants.{Forestplay}
 use Rattle.command_line.specs.declared.play_request.Play.{Play}
-use Rattle.command_line.specs.declared.play_request.Play.TheVariants.{Events, Replay, Rounds, Run}
+use Rattle.command_line.specs.declared.play_request.Play.TheVariants.{Alone, Events, Replay, Rounds, Run}
 use Rattle.command_line.specs.declared.play_request.PlayRequest.{PlayRequest}
 use Rattle.command_line.specs.declared.programs.NodeProgramName.{NodeProgramName}
 use Rattle.command_line.proofs.Declining.{taken}
 use Rattle.command_line.proofs.Lines.{Holds, one}
-use Rattle.command_line.proofs.Played.{HasWord, play_found, play_rules, run_found, run_rules}
+use Rattle.command_line.proofs.Played.{HasWord, alone_found, alone_rules, play_found, play_rules, run_found, run_rules}
 
 abbrev IsGood : Option PlayRequest → Type 0
 IsGood asked = (request : PlayRequest) × (asked ≡ Some request) × IsPlayInRange request.play
@@ -56,12 +56,20 @@ run_has_request s rules names words none =
     let run : Option Options → Option PlayRequest = λ given. option_and_then (λ o. played (Run o (shown_of rows)) rows) given in
     subst (λ asked. Is asked rows) (sym (names rows ∙ ap run options.1)) (by_word (Run options.0 (shown_of rows)) rows found.0 options.2)
 
+alone_has_request : (s : Shape) → s.rules ≡ alone_rules → ((rows : List Row) → play_named s.name rows ≡ alone_of rows) → Holds IsKnown s
+alone_has_request s rules names words none =
+    let rows = rows_after s.rules [] words in
+    subst (λ asked. Is asked rows) (sym (names rows)) (by_word (Alone (shown_of rows)) rows (alone_found s words rules none) tt)
+
 all_known : AllByRecursion (Holds IsKnown) (built (line Forestplay)).subs
 all_known = (
   play_has_request _ Events refl tt (λ rows. refl),
   (
     play_has_request _ Replay refl tt (λ rows. refl),
-    (play_has_request _ Rounds refl tt (λ rows. refl), (run_has_request _ refl (λ rows. refl), tt)),
+    (
+      play_has_request _ Rounds refl tt (λ rows. refl),
+      (run_has_request _ refl (λ rows. refl), (alone_has_request _ refl (λ rows. refl), tt)),
+    ),
   ),
 )
 

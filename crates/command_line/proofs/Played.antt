@@ -7,7 +7,7 @@ use Rattle.clap.specs.Simple.{Shape, filled, filled_from, help_rule}
 use Rattle.clap.specs.Walk.{Row, Rule, Text, first_of, has_row, nothing_held, rows_after, settled, walk, with_default}
 use Rattle.run_options.specs.Ranges.{AreInRange}
 use Rattle.run_options.specs.declared.Options.{Options}
-use Rattle.command_line.specs.Line.{play_command, run_command}
+use Rattle.command_line.specs.Line.{alone_command, play_command, run_command}
 use Rattle.command_line.specs.NodePrograms.{passes_rule, program_rule, root_rule, transcript_rule}
 use Rattle.command_line.specs.RunOptions.{options_of}
 use Rattle.command_line.proofs.Defaults.{default_comes, default_keeps, row_found}
@@ -15,12 +15,15 @@ use Rattle.command_line.proofs.Passing.{AllPassed, Expected}
 use Rattle.command_line.proofs.RunOptions.{has_capacity, has_turns, has_workers, keep, parser_at, three, with_options}
 use Rattle.command_line.proofs.Walked.{level_all}
 
--- the rules of a command that plays a program, once it is built; and those of one that runs it
+-- the rules of a command that plays a program, once it is built; and those of the two that run it
 abbrev pub play_rules : List Rule
 play_rules = filled_from 1 ((play_command (codes "events")).top.rules ++ help_rule ∷ [])
 
 abbrev pub run_rules : List Rule
 run_rules = filled_from 1 (run_command.top.rules ++ help_rule ∷ [])
+
+abbrev pub alone_rules : List Rule
+alone_rules = filled_from 1 (alone_command.top.rules ++ help_rule ∷ [])
 
 play_expected : AllByRecursion (Expected parser_at) play_rules
 play_expected = ((refl, refl, inl (refl, refl)), ((refl, refl, inl (refl, refl)), ((refl, refl, inl (refl, refl)), ((refl, refl, inr (inl refl)), tt))))
@@ -40,6 +43,15 @@ run_expected = (
         ),
       ),
     ),
+  ),
+)
+
+alone_expected : AllByRecursion (Expected parser_at) alone_rules
+alone_expected = (
+  (refl, refl, inl (refl, refl)),
+  (
+    (refl, refl, inl (refl, refl)),
+    ((refl, refl, inl (refl, refl)), ((refl, refl, inr (inr (refl, refl, refl))), ((refl, refl, inr (inl refl)), tt))),
   ),
 )
 
@@ -70,6 +82,23 @@ play_found s words is none =
     (default_keeps (filled help_rule) (codes "program") passed
     (default_keeps (filled passes_rule) (codes "program") two
     (default_keeps (filled root_rule) (codes "program") one (default_comes (filled program_rule) before refl)))) in
+    word_in rows all has
+
+pub alone_found : (s : Shape) (words : List Text) → s.rules ≡ alone_rules → level_fault s [] nothing_held words false [] ≡ []
+    → HasWord (rows_after s.rules [] words)
+alone_found s words is none =
+    let rows = rows_after s.rules [] words in
+    let before = (settled s.rules (walk s.rules [] nothing_held words).held).rows in
+    let all : AllPassed parser_at rows = level_all parser_at s (subst (AllByRecursion (Expected parser_at)) (sym is) alone_expected) words none in
+    let one = with_default before (filled program_rule) in
+    let two = with_default one (filled root_rule) in
+    let passed = with_default two (filled passes_rule) in
+    let shown = with_default passed (filled transcript_rule) in
+    let has : has_row (codes "program") rows ≡ true = subst (λ rules. has_row (codes "program") (fold with_default before rules) ≡ true) (sym is)
+    (default_keeps (filled help_rule) (codes "program") shown
+    (default_keeps (filled transcript_rule) (codes "program") passed
+    (default_keeps (filled passes_rule) (codes "program") two
+    (default_keeps (filled root_rule) (codes "program") one (default_comes (filled program_rule) before refl))))) in
     word_in rows all has
 
 -- a run has its options besides

@@ -18,7 +18,7 @@ use Rattle.command_line.specs.declared.declined.Declined.TheVariants as declined
 use Rattle.command_line.specs.declared.executable.Executable.{Executable}
 use Rattle.command_line.specs.declared.executable.Executable.TheVariants.{Forestplan, Forestplay}
 use Rattle.command_line.specs.declared.play_request.Play.{Play}
-use Rattle.command_line.specs.declared.play_request.Play.TheVariants.{Events, Replay, Rounds, Run}
+use Rattle.command_line.specs.declared.play_request.Play.TheVariants.{Alone, Events, Replay, Rounds, Run}
 use Rattle.command_line.specs.declared.play_request.PlayRequest.{PlayRequest}
 use Rattle.command_line.specs.declared.programs.NodeProgramName.{NodeProgramName}
 use Rattle.command_line.specs.declared.request.Request.{Request}
@@ -51,6 +51,10 @@ played play rows = option_map (play_by play) (program_of rows)
 abbrev pub run_of : List Row → Option PlayRequest
 run_of rows = option_and_then (λ options. played (Run options (shown_of rows)) rows) (options_of rows)
 
+-- the same of a run on one thread, which has no options of its own
+abbrev pub alone_of : List Row → Option PlayRequest
+alone_of rows = played (Alone (shown_of rows)) rows
+
 -- what the command of a name asks `forestplay` for, given the values of its options; each command is a line
 abbrev pub play_named : Text → List Row → Option PlayRequest
 play_named name rows =
@@ -58,6 +62,7 @@ play_named name rows =
     else if bytes_eq name (codes "replay") then played Replay rows
     else if bytes_eq name (codes "rounds") then played Rounds rows
     else if bytes_eq name (codes "run") then run_of rows
+    else if bytes_eq name (codes "alone") then alone_of rows
     else None
 
 -- a run of a program has options in range

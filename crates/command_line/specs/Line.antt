@@ -54,13 +54,21 @@ play_command name = with_passes (with_root (with_program (new_app name)))
 abbrev pub run_command : App
 run_command = with_transcript (with_run_options (play_command (codes "run")))
 
+-- the one that runs the nodes on one thread, which has none of those
+abbrev pub alone_command : App
+alone_command = with_transcript (play_command (codes "alone"))
+
+-- the commands for lessons in which the nodes have no common clock
+abbrev pub with_run_commands : App → App
+with_run_commands program = with_subcommand (with_subcommand program run_command.top) alone_command.top
+
 -- the commands for lessons, each a line
 abbrev pub with_play_commands : App → App
 with_play_commands program =
     let with_events : App = with_subcommand program (play_command (codes "events")).top in
     let with_replay : App = with_subcommand with_events (play_command (codes "replay")).top in
     let with_rounds : App = with_subcommand with_replay (play_command (codes "rounds")).top in
-    with_subcommand with_rounds run_command.top
+    with_run_commands with_rounds
 
 -- the whole command line of an executable
 abbrev pub line : Executable → App

@@ -287,10 +287,10 @@ pub const FORESTPLAY: Help = Help {
     long_about: "Plays what nodes do to find a channel plan, for lessons.
 
 The program reads a graph from standard input, whose vertices are the nodes, and
-after it, except for `rounds` and `run`, what happens; it writes where this leads.
-A fault of the input is one line on standard error, a refused command line is
-several, and standard output then stays empty. If a write fails, standard output
-holds a beginning of the answer.
+after it, except for `rounds`, `run` and `alone`, what happens; it writes where
+this leads. A fault of the input is one line on standard error, a refused command
+line is several, and standard output then stays empty. If a write fails, standard
+output holds a beginning of the answer.
 
 With --program NAME the nodes of any command run another program:
   colouring        finds the channel of each node, as `forestplan plain` prints
@@ -510,4 +510,31 @@ prints
   node 1 pulse 2 layer 2 by 0 to 2
   node 2 pulse 2 layer 1 by 1 to 3
   node 3 pulse 2 layer 0",
+};
+
+pub const ALONE: Help = Help {
+    about: "Runs nodes on one thread, and prints where they end",
+    long_about: "Runs nodes on one thread, and prints where they end.
+
+The nodes are those of `forestplay run`, without a common clock, and each knows the
+wires of its neighbours alone. One thread plays their events: in a round each node
+in turn makes a pulse, takes a wire from each neighbour and puts one for it, as far
+as it can. A round in which no node can do anything is the last. This run is proved
+to end, with the states that the rounds end with. With --transcript it prints what
+each node did, in a run with another order. Two calls print the same bytes.",
+    format: "Input: a graph in the DIMACS format, as `p edge NODES EDGES` and then `e V W`.
+
+Output: a text like that of `forestplay run`, with --transcript or without it.
+`forestplay replay` accepts such a transcript after the graph, with the same
+--program, --root and --passes.
+
+It keeps every wire that was put, so it takes more memory than `forestplay run`; and
+in each round it looks at every node.
+
+Example: three nodes in a row
+  printf 'p edge 3 2\\ne 1 2\\ne 2 3\\n' | forestplay alone --program leader
+prints
+  node 1 pulse 3 leader 3
+  node 2 pulse 3 leader 3
+  node 3 pulse 3 leader 3 elected",
 };

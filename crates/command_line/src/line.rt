@@ -2,9 +2,10 @@
 
 ghost use Rattle.std.specs.Prelude.{◌≡◌, IfOk};
 ghost use Rattle.clap.specs.Words.{app_of, new_app, with_subcommand};
-ghost use Rattle.command_line.specs.Line.{IsLocal, line, plan_command, play_command, run_command, transcript_command};
-ghost use Rattle.command_line.specs.Line.{without_commands, with_network_commands, with_plan_commands};
-ghost use Rattle.command_line.specs.Line.{with_play_commands, with_worker_commands};
+ghost use Rattle.command_line.specs.Line.{IsLocal, alone_command, line, plan_command, play_command, run_command};
+ghost use Rattle.command_line.specs.Line.{transcript_command, without_commands, with_network_commands};
+ghost use Rattle.command_line.specs.Line.{with_plan_commands, with_play_commands, with_run_commands};
+ghost use Rattle.command_line.specs.Line.{with_worker_commands};
 ghost use Rattle.command_line.specs.RunOptions.{with_edition, with_run_options};
 
 use crate::executable::Executable;
@@ -153,6 +154,27 @@ fn run_command<'a>(alloc: Global) -> Result<Command<'a>, AllocError>
     with_transcript(alloc, run)
 }
 
+// The command for lessons that runs the nodes on one thread.
+fn alone_command<'a>(alloc: Global) -> Result<Command<'a>, AllocError>
+    ensures shape { IfOk result (λ c. app_of c ≡ alone_command) }
+    ensures local { IfOk result IsLocal }
+{
+    let alone = play_command(alloc, "alone", help::ALONE)?;
+    with_transcript(alloc, alone)
+}
+
+// The commands for lessons in which the nodes have no common clock: on worker threads, and on one thread.
+fn with_run_commands<'a>(alloc: Global, program: Command<'a>) -> Result<Command<'a>, AllocError>
+    requires { IsLocal program }
+    ensures shape { IfOk result (λ c. app_of c ≡ with_run_commands (app_of program.entry)) }
+    ensures local { IfOk result IsLocal }
+{
+    let run = run_command(alloc)?;
+    let program = with_command(program, run)?;
+    let alone = alone_command(alloc)?;
+    with_command(program, alone)
+}
+
 // The commands for lessons.
 fn with_play_commands<'a>(alloc: Global, program: Command<'a>) -> Result<Command<'a>, AllocError>
     requires { IsLocal program }
@@ -162,8 +184,7 @@ fn with_play_commands<'a>(alloc: Global, program: Command<'a>) -> Result<Command
     let program = with_play_command(alloc, program, "events", help::EVENTS)?;
     let program = with_play_command(alloc, program, "replay", help::REPLAY)?;
     let program = with_play_command(alloc, program, "rounds", help::ROUNDS)?;
-    let run = run_command(alloc)?;
-    with_command(program, run)
+    with_run_commands(alloc, program)
 }
 
 /// The whole command line of an executable.

@@ -2,7 +2,7 @@
 
 ghost use Rattle.std.specs.Prelude.{◌≡◌, Some, IfOk, IfErr, map};
 ghost use Rattle.clap.specs.Words.{found_of, rows_of, subcommand_rows_of};
-ghost use Rattle.command_line.specs.Asked.{IsPlayInRange, IsRefusal, MayDecline, choice_of, play_named};
+ghost use Rattle.command_line.specs.Asked.{IsPlayInRange, IsRefusal, MayDecline, alone_of, choice_of, play_named};
 ghost use Rattle.command_line.specs.Asked.{play_request_of, played, run_of};
 
 use crate::declined::{Declined, matches_of};
@@ -36,6 +36,8 @@ pub enum Play {
     Rounds,
     /// What nodes come to that worker threads run without a common clock.
     Run(Options, Shown),
+    /// What nodes come to that one thread runs without a common clock.
+    Alone(Shown),
 }
 
 /// What `forestplay` is asked for.
@@ -63,6 +65,13 @@ fn run_of(matches: &ArgMatches<'_>) -> Option<PlayRequest>
     played(matches, Play::Run(options, shown))
 }
 
+fn alone_of(matches: &ArgMatches<'_>) -> Option<PlayRequest>
+    ensures { result ≡ alone_of (rows_of (found_of matches.now)) }
+{
+    let shown = shown_of(matches);
+    played(matches, Play::Alone(shown))
+}
+
 fn play_named(name: &str, matches: &ArgMatches<'_>) -> Option<PlayRequest>
     ensures { result ≡ play_named name.now (rows_of (found_of matches.now)) }
 {
@@ -71,6 +80,7 @@ fn play_named(name: &str, matches: &ArgMatches<'_>) -> Option<PlayRequest>
         "replay" => played(matches, Play::Replay),
         "rounds" => played(matches, Play::Rounds),
         "run" => run_of(matches),
+        "alone" => alone_of(matches),
         _ => None,
     }
 }

@@ -1,8 +1,8 @@
 -- What an event writes down, what it leaves on the links, and which events of other vertices it makes possible.
-use Rattle.std.proofs.Common.{◌≡◌, ◌∙◌, ◌⊎◌, inl, inr, ⊎_elim, ℕ, suc, ◌+◌, ◌-◌, ◌<◌, ◌≤◌, List, [], ◌∷◌, ◌++◌, Option, Some, None}
+use Rattle.std.proofs.Common.{◌≡◌, ◌∙◌, ◌⊎◌, inl, inr, ⊎_elim, ℕ, suc, ◌+◌, ◌-◌, ◌<◌, List, [], ◌∷◌, ◌++◌, Option, Some, None}
 use Rattle.std.proofs.Common.{arith, get_or, length, refl, sym, ap, subst}
 use Rattle.std.specs.Prelude.{IsTrue, max, option_map, slice_index_or}
-use Rattle.std.proofs.lemmas.Bool.{cases_eq, cases_lt}
+use Rattle.std.proofs.lemmas.Bool.{cases_eq}
 use Rattle.std.proofs.lemmas.List.{get_or-set_other, length-append}
 use Rattle.interference.specs.Net.{Net, IsNetwork, IsVertex, degree_of, neighbour_of, back_port_of}
 use Rattle.interference.proofs.Neighbours.{at-back_port, same-port}
@@ -19,7 +19,7 @@ use Rattle.entries.specs.declared.rows.StampedRow.{StampedRow}
 use Rattle.event_machine.specs.declared.event.Event.{Event}
 use Rattle.event_machine.specs.declared.event.Event.TheVariants.{Pulse, Put, Take}
 use Rattle.event_machine.specs.State.{Link, State, link_at, link_to, node_of, set_link, set_node, sent_of}
-use Rattle.event_machine.specs.Events.{Exists, Possible, Ready, Steps}
+use Rattle.event_machine.specs.Events.{Possible, Ready, Steps}
 use Rattle.event_machine.proofs.LinkTable.{link_other, link_same}
 use Rattle.event_machine.proofs.NetKept.{NetKept}
 use Rattle.net_core.specs.Rows.{next_wire, row_of}

@@ -1,10 +1,10 @@
 -- The stamp of an event that is still to come, behind one row more.
-use Rattle.std.proofs.Common.{◌≡◌, ◌∙◌, ℕ, zero, suc, ◌<◌, ◌≤◌, List, [], ◌∷◌, ◌++◌, append-nil, arith, length, refl, sym, ap, subst, ⊎_elim, if◌then◌else◌}
+use Rattle.std.proofs.Common.{◌≡◌, ◌∙◌, ℕ, zero, suc, ◌<◌, ◌≤◌, List, [], ◌∷◌, ◌++◌, append-nil, arith, length, sym, ap, subst, ⊎_elim, if◌then◌else◌}
 use Rattle.std.specs.Prelude.{All, Bool, true, false, ◌&&◌, ◌==◌, slice_index_or}
 use Rattle.std.proofs.lemmas.List.{get_or_at, length-map, map-append}
 use Rattle.std.proofs.lemmas.List.Elements.{All-cons, All-head, All-nil, All-tail}
 use Rattle.interference.specs.Net.{Net, neighbour_of}
-use Rattle.alpha_core.specs.StampedWires.{stamped, stamps_of}
+use Rattle.alpha_core.specs.StampedWires.{stamps_of}
 use Rattle.alpha_core.specs.declared.stamped.Stamped.{Stamped}
 use Rattle.alpha_core.specs.declared.wire.Wire.{Wire}
 use Rattle.entries.specs.Rows.{stamped_entry, stamped_row, without_vertex}

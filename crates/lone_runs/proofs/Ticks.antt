@@ -1,7 +1,7 @@
 -- Attempts, turns and ticks. The plan: an event of a node puts the stamps of its other events above its own (`made`), and an attempt that made
 -- none leaves the event no stamp in this tick (`misplaced`); so after a tick no event that is possible has its stamp, and a tick that made none was
 -- the last (`tick_none`).
-use Rattle.std.proofs.Common.{◌≡◌, ◌∙◌, ◌⊎◌, inl, inr, ⊎_elim, ℕ, zero, suc, ◌+◌, ◌<◌, ◌≤◌, List, [], ◌∷◌, ◌++◌, ◌-◌, Ok, map, length}
+use Rattle.std.proofs.Common.{◌≡◌, ◌∙◌, inl, inr, ⊎_elim, ℕ, zero, suc, ◌+◌, ◌<◌, ◌≤◌, List, [], ◌∷◌, ◌++◌, ◌-◌, Ok, map, length}
 use Rattle.std.proofs.Common.{replicate, arith, get_or, refl, sym, ap, subst}
 use Rattle.std.specs.Prelude.{All}
 use Rattle.std.proofs.lemmas.Bool.{cases_eq, cases_order}

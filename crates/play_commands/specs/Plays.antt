@@ -25,7 +25,7 @@ use Rattle.command_line.specs.declared.programs.Passes.{Passes}
 use Rattle.command_line.specs.declared.programs.Passes.TheVariants.{One, Three, Two}
 use Rattle.command_line.specs.declared.programs.Shown.TheVariants as shown
 use Rattle.command_line.specs.declared.play_request.Play.{Play}
-use Rattle.command_line.specs.declared.play_request.Play.TheVariants.{Events, Replay, Rounds, Run}
+use Rattle.command_line.specs.declared.play_request.Play.TheVariants.{Alone, Events, Replay, Rounds, Run}
 use Rattle.independent_set.specs.Knowing.{independent_set}
 use Rattle.independent_set.specs.Texts.{independent_set_texts}
 use Rattle.layers.specs.Layering.{layering}
@@ -33,6 +33,7 @@ use Rattle.layers.specs.Texts.{layers_texts, layers_texts_from}
 use Rattle.layers.specs.declared.layer.TheConstants.{ROOT_ID}
 use Rattle.leader.specs.Election.{election}
 use Rattle.leader.specs.Texts.{leader_texts}
+use Rattle.lone_answers.specs.Transcripts.{IsLoneTranscript}
 use Rattle.matching.specs.Knowing.{matching}
 use Rattle.matching.specs.Texts.{matching_texts}
 use Rattle.recolouring.specs.Knowing.{recolouring}
@@ -51,12 +52,15 @@ module _ {S M E : Type 0} (program : Program S M E) (texts : ProgramTexts S) (pa
   IsGoodPlay (Run options shown.States) input answer = IsEndsAnswer program texts root input answer
   IsGoodPlay (Run options shown.Transcript) input answer =
       IsProgramTranscript program payloads texts edition.Two root input answer
+  IsGoodPlay (Alone shown.States) input answer = IsEndsAnswer program texts root input answer
+  IsGoodPlay (Alone shown.Transcript) input answer = IsLoneTranscript program texts payloads root input answer
 
   -- the fault of an input, a line for each; the options of a command line are never out of range
   abbrev pub IsFaultPlay : Play → List ℕ → PlanFault → Type 0
   IsFaultPlay Events input fault = IsFaultOfEvents program root input fault
   IsFaultPlay Replay input fault = IsFaultOfReplay program payloads texts root input fault
   IsFaultPlay Rounds input fault = IsFaultOfText root input fault
+  IsFaultPlay (Alone show) input fault = IsFaultOfText root input fault
   IsFaultPlay (Run options show) input fault = IsFaultOfWorkers root options input fault × (fault ≢ Pool BadOptions)
 
   -- the bytes that nodes may answer, or the fault

@@ -17,6 +17,7 @@ use independent_set::IndependentSet;
 use layers::laws::rounds_end_with_the_distances_from_a_root;
 use layers::{Layers, ROOT_ID};
 use leader::Leader;
+use lone_answers::{alone_bytes, alone_transcript_bytes};
 use matching::Matching;
 use program_texts::ProgramText;
 use recolouring::Recolouring;
@@ -56,6 +57,8 @@ fn play_bytes<P: ProgramText, T: Threads + Wait + Sync>(
             Edition::Two,
             &OpenGate,
         ),
+        Play::Alone(Shown::States) => alone_bytes::<P>(alloc, input, root),
+        Play::Alone(Shown::Transcript) => alone_transcript_bytes::<P>(alloc, input, root),
     }
 }
 

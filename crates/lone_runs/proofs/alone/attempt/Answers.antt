@@ -1,4 +1,4 @@
-use Rattle.std.proofs.Common.{◌+◌, ◌<◌, arith, subst}
+use Rattle.std.proofs.Common.{arith, subst}
 use Rattle.interference.specs.Net.{IsNetwork}
 use Rattle.event_machine.specs.Events.{Possible}
 use Rattle.lone_runs.proofs.Events.{one_event, impossible}

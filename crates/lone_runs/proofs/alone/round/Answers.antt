@@ -1,4 +1,4 @@
-use Rattle.std.proofs.Common.{◌+◌, ap, sym, subst, ◌∙◌, arith}
+use Rattle.std.proofs.Common.{ap, sym, subst, ◌∙◌, arith}
 use Rattle.interference.specs.Net.{IsNetwork, count_of}
 use Rattle.lone_runs.specs.Went.{Went}
 use Rattle.lone_runs.proofs.Events.{at_end, at_most, round_more, stuck_end, then_went}

@@ -1,4 +1,4 @@
-use Rattle.std.proofs.Common.{◌∙◌, ◌+◌, ap, arith, subst}
+use Rattle.std.proofs.Common.{◌∙◌, ap, arith, subst}
 use Rattle.interference.specs.Net.{IsNetwork}
 use Rattle.alpha_core.proofs.PortLists.{can-below}
 use Rattle.alpha_laws.proofs.Runs.{runs}

@@ -1,6 +1,6 @@
 -- The plan: of the four exits the first three leave rows and state, and the event has no place in this tick (`none`, `misplaced`, `stuck`); the last
 -- makes it (`made`).
-use Rattle.std.proofs.Common.{◌≡◌, ◌++◌, ◌∷◌, [], refl, subst, sym}
+use Rattle.std.proofs.Common.{◌++◌, ◌∷◌, [], refl, subst, sym}
 use Rattle.interference.specs.Net.{IsNetwork}
 use Rattle.entries.specs.declared.rows.StampedRow.{StampedRow}
 use Rattle.net_core.specs.Whole.{IsStampedReplay}

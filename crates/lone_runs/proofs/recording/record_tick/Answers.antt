@@ -1,4 +1,4 @@
-use Rattle.std.proofs.Common.{◌≡◌, ◌∙◌, ap, arith, refl, subst, sym}
+use Rattle.std.proofs.Common.{◌∙◌, ap, arith, refl, subst, sym}
 use Rattle.interference.specs.Net.{IsNetwork, count_of}
 use Rattle.lone_runs.specs.Ticks.{IsBeforeTick}
 use Rattle.lone_runs.specs.Went.{Went}

@@ -1,6 +1,5 @@
-use Rattle.std.proofs.Common.{◌≡◌, ◌||◌, ◌∙◌, ap, arith, subst, sym}
+use Rattle.std.proofs.Common.{◌||◌, ◌∙◌, ap, arith, subst, sym}
 use Rattle.interference.specs.Net.{degree_of}
-use Rattle.lone_runs.specs.Recorded.{IsRecorded}
 use Rattle.lone_runs.specs.Went.{Went}
 use Rattle.lone_runs.proofs.Events.{both_false, then_went}
 use Rattle.lone_runs.proofs.Ticks.{own_all, own_first, own_more, turn_over}

@@ -1,0 +1,32 @@
+-- The transcript of a run on one thread.
+use Rattle.std.specs.Prelude.{◌≡◌, ℕ, List, Option}
+use Rattle.interference.specs.Net.{Net, IsNetwork, count_of}
+use Rattle.node_api.specs.Program.{Program}
+use Rattle.entries.specs.declared.rows.StampedRow.{StampedRow}
+use Rattle.event_machine.specs.State.{State}
+use Rattle.net_core.specs.Whole.{IsWholeReplay}
+use Rattle.program_texts.specs.Texts.{ProgramTexts}
+use Rattle.transcripts.specs.TranscriptText.{stamped_row_text, text_of}
+use Rattle.wire_texts.specs.PayloadTexts.{PayloadTexts}
+use Rattle.answers.specs.Answers.{ReadsAs}
+use Rattle.answers.specs.Roots.{OfRooted}
+use Rattle.answers.specs.declared.root.Root.{Root}
+use Rattle.byte_functions.specs.Transcripts.{stamped_edition}
+
+-- The text has these words of its edition, and rows that are a whole replay: the event machine plays them in their
+-- order, each has the stamp that the counter of its node gives it, and in the end every node is drained and every link
+-- empty.
+pub record IsRecordText {S M E : Type 0} (program : Program S M E) (payloads : PayloadTexts M) (words : List ℕ)
+    (net : Net) (text : List ℕ) : Type 0 where
+  pub rows : List (StampedRow M)
+  pub last : State S M
+  pub is_replay : IsWholeReplay program net rows last
+  pub is_text : text ≡ text_of words (stamped_row_text payloads) (count_of net) rows
+
+-- the answer is the transcript of a whole run on the network that the input describes, with the root that is given, if
+-- there is one; with stamps, and with the program's name if it is named
+abbrev pub IsLoneTranscript : {S M E : Type 0} → Program S M E → ProgramTexts S → PayloadTexts M → Option Root → List ℕ
+    → List ℕ → Type 0
+IsLoneTranscript program texts payloads root input answer =
+    ReadsAs input
+    (OfRooted root (λ net. IsNetwork net × IsRecordText program payloads (stamped_edition texts) net answer))

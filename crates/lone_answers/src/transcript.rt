@@ -1,0 +1,65 @@
+//! The transcript of nodes that one thread ran.
+
+ghost use Rattle.std.specs.Prelude.{◌≡◌, ◌++◌, IfOk, IfErr};
+ghost use Rattle.transcripts.specs.TranscriptText.{first_line_of, stamped_row_text, text_of};
+ghost use Rattle.wire_texts.specs.PayloadTexts.{payload_texts};
+ghost use Rattle.answers.specs.Answers.{IsFaultOfText};
+ghost use Rattle.byte_functions.specs.Transcripts.{stamped_edition};
+ghost use Rattle.lone_answers.specs.Transcripts.{IsLoneTranscript};
+
+use answers::{PlanFault, Root, network_of_text};
+use entries::StampedRow;
+use interference::Memory;
+use lone_runs::record_alone;
+use program_texts::ProgramText;
+use std::alloc::{AllocError, Global};
+use transcripts::{push_named_line, push_stamped_line, push_stamped_row};
+
+// Appends the first line of a program's transcript with stamps.
+fn push_edition_line<P: ProgramText>(text: &mut Vec<u8>, count: u32) -> Result<(), AllocError>
+    ensures { IfOk result (λ _. text.new.items ≡ text.old.items ++ first_line_of (stamped_edition P.texts) count) }
+{
+    if P::is_named() {
+        push_named_line(text, P::name(), count)
+    } else {
+        push_stamped_line(text, count)
+    }
+}
+
+// The transcript of so many nodes with these rows.
+fn text_of_rows<P: ProgramText>(
+    alloc: Global,
+    count: u32,
+    rows: &[StampedRow<P::Payload>],
+) -> Result<Vec<u8>, Memory>
+    ensures text { IfOk result (λ text. text.items ≡ text_of (stamped_edition P.texts)
+        (stamped_row_text (payload_texts P.Payload.PayloadText.own)) count rows.now) }
+{
+    let mut text = Vec::new(alloc);
+    push_edition_line::<P>(&mut text, count)?;
+    for row in rows {
+        push_stamped_row(&mut text, row)?;
+    }
+    Ok(text)
+}
+
+/// The transcript of a run of a program, on this thread, on the network that a DIMACS text describes: what each node
+/// put, took and did until its last pulse, in the order of the stamps and then of the vertices. It has edition 2, or 3
+/// if the program is named, and `replay_bytes` of `answers` accepts it. If a root is given, the network is that with
+/// this root. The call returns, and two calls give the same transcript.
+///
+/// # Errors
+/// As of `alone_bytes`.
+pub fn alone_transcript_bytes<P: ProgramText>(
+    alloc: Global,
+    input: &[u8],
+    root: Option<Root>,
+) -> Result<Vec<u8>, PlanFault>
+    ensures ok { IfOk result (λ text. IsLoneTranscript P.program P.texts (payload_texts P.Payload.PayloadText.own)
+        root input.now text.items) }
+    ensures fault { IfErr result (IsFaultOfText root input.now) }
+{
+    let network = network_of_text(alloc, input, root)?;
+    let rows = record_alone::<P>(alloc, &network)?;
+    Ok(text_of_rows::<P>(alloc, network.nodes(), rows.as_slice())?)
+}
