@@ -42,10 +42,10 @@ these rounds, pulse by pulse, and of a larger network how the rounds end. With
 which they end wrong.
 
 With --without it leaves rules out, and writes a list of events that goes wrong, with
-as few takes and pulses as there can be (and puts, with --puts), or `not broken`. For
-a rule of the rounds it looks at the rounds of NETWORK; without NETWORK, for a
-smallest network on which they go wrong. Rules of a program that goes on where the
-colouring ends are left out with --program.
+as few takes and pulses as there can be, or `not broken`. For a rule of the rounds it
+looks at the rounds of NETWORK; without NETWORK, for a smallest network on which they
+go wrong. Rules of a program that goes on where the colouring ends are left out with
+--program.
 """
 
 MORE_HELP = f"""\
@@ -129,9 +129,6 @@ def command_line() -> ArgumentParser:
         action="store_true",
         help="take a safe or a close that comes next on its link at once and alone: far fewer states",
     )
-    words.add_argument(
-        "--puts", action="store_true", help="count puts as events of their own, made at any time"
-    )
     words.add_argument("--json", action="store_true", help="write what was found for a program")
     words.add_argument(
         "--networks",
@@ -183,9 +180,9 @@ def refused_together(given: Namespace) -> str:
 def refused_of_rounds(given: Namespace) -> str:
     if why := unknown_to(given.program, given.without):
         return why
-    if given.list or given.puts or given.reduce:
+    if given.list or given.reduce:
         rules = ",".join(OF_SCHEDULES)
-        return f"the rounds have no events: --list, --puts and --reduce are for the rules {rules}"
+        return f"the rounds have no events: --list and --reduce are for the rules {rules}"
     return ""
 
 
@@ -293,7 +290,6 @@ def searched(given: Namespace, net: Network, program: Program) -> Space:
             net,
             given.without,
             given.limit,
-            given.puts,
             False,
             progress if show else None,
             given.reduce,
@@ -324,13 +320,12 @@ def whole_text(given: Namespace, name: str, space: Space) -> str:
     )
     pulses = sum(node.pulse for node in space.nodes(space.ends[0]).values())
     rest = space.depth[space.ends[0]] - pulses
-    kinds = f"{rest // 2:,} puts, {rest // 2:,} takes" if space.puts else f"{rest:,} takes"
     found = [results_words(space.nodes(s)) for s in space.ends]
     ends = "one end" if len(found) == 1 else f"{len(found)} ends"
     return as_text(
         [
             f"{what}: {space.count:,} states, {len(space.target):,} steps{schedules}",
-            f"each has {rest + pulses:,} events: {kinds} and {pulses:,} pulses",
+            f"each has {rest + pulses:,} events: {rest:,} takes and {pulses:,} pulses",
             "each pulse had the round's inbox, and something was possible until all was done",
             REDUCED if space.reduce else distances_words(space),
             f"{ends}: {' or '.join(dict.fromkeys(found))}",

@@ -3,10 +3,10 @@
     space = Space(net, without=("safes",), limit=200_000)
 
 `net` is a network of the definitions, and `program` what its nodes run. A put is made as soon as it can be, so that a
-state has no wires that wait to be put; `puts=True` counts puts apart, as events of their own. `without` has rules of
-rules.OF_SCHEDULES. With a rule left out the search ends at the first event that goes wrong, which a shortest list of
-events leads to; `beyond=True` goes on, from wherever the program doesn't refuse. If there are more than `limit` states
-it ends there, and `is_cut`: states from `expanded` on have no steps.
+state has no wires that wait to be put, and no event is a put. `without` has rules of rules.OF_SCHEDULES. With a rule
+left out the search ends at the first event that goes wrong, which a shortest list of events leads to; `beyond=True`
+goes on, from wherever the program doesn't refuse. If there are more than `limit` states it ends there, and `is_cut`:
+states from `expanded` on have no steps.
 
 With `reduce`, a safe or a close that comes next on its link is taken at once and alone, which leaves most states out
 (see `alone`). What each pulse finds, what is refused, and the ends stay; the number of schedules, shortest lists, how
@@ -18,8 +18,9 @@ far neighbours are apart and how much a link holds don't.
     space.count           how many states there are; they are numbered from 0, the start, by width
     space.depth[s]        the least number of events that lead to state s
     space.steps(s)        [(event, target)], the events possible in state s; target is None if the event is refused
-    space.events[e]       an Event: kind (take, pulse, put), v, port, w (the neighbour there), wire (in words), place
-                          (how many wires of the link it overtakes); str(event) is its line for `forestplay events`
+    space.events[e]       an Event: kind (take, pulse; put in a list of `with_puts`), v, port, w (the neighbour there),
+                          wire (in words), place (how many wires of the link it overtakes); str(event) is its line for
+                          `forestplay events`
     space.nodes(s)        {v: Node}: pulse, stage (asks, safe, ready, last, whole), waits (what it waits for, as (wire,
                           w)), wrong (it has made a pulse with another inbox than the round's), colour (merged so far)
                           and phase, of the colouring alone, and result (what it has found so far, in words)
@@ -83,19 +84,12 @@ class Space:
         net,
         without=(),
         limit=1_000_000,
-        puts=False,
         beyond=False,
         progress=None,
         reduce=False,
         program=Colouring,
     ):
-        self.net, self.without, self.limit, self.puts, self.beyond = (
-            net,
-            tuple(without),
-            limit,
-            puts,
-            beyond,
-        )
+        self.net, self.without, self.limit, self.beyond = net, tuple(without), limit, beyond
         self.reduce, self.program = reduce, program
         self.asks_for_messages = issubclass(program, OwnNode) and asks_for_messages(program)
         self.rounds = Rounds(net, program)
@@ -118,14 +112,12 @@ class Space:
     # What a node can do.
 
     def after(self, a, node):
-        """(number of the node's value, wires that go on its links by slot), its out-lists being put unless puts are
-        apart."""
+        """(number of the node's value, wires that go on its links by slot), its out-lists being put."""
         gone = []
-        if not self.puts:
-            for w, port in zip(self.ports[self.vertices[a]], node.ports):
-                if port.out:
-                    gone.append((self.slot[self.vertices[a], w], tuple(port.out)))
-                    port.out = []
+        for w, port in zip(self.ports[self.vertices[a]], node.ports):
+            if port.out:
+                gone.append((self.slot[self.vertices[a], w], tuple(port.out)))
+                port.out = []
         return self.locals[a].number(node, node.key()), tuple(gone)
 
     def pulse(self, a, i):
@@ -147,7 +139,7 @@ class Space:
         return *self.after(a, node), None
 
     def once(self, made, *key):
-        """What a pulse, a take or a put makes, worked out once; the keys of the three differ in form."""
+        """What a pulse or a take makes, or wires on a link, worked out once; the keys of the three differ in form."""
         if key not in self.made:
             self.made[key] = made(*key)
         return self.made[key]
@@ -168,8 +160,6 @@ class Space:
                 )
             )
         for p, (w, c) in enumerate(zip(self.ports[v], arriving)):
-            if node.ports[p].out:
-                moves.append(self.put_move(a, i, p))
             wires = self.contents[c]
             for place in range(len(wires) if "fifo" in self.without else min(1, len(wires))):
                 j, gone, fault = self.once(self.take, a, i, p, wires[place])
@@ -178,20 +168,12 @@ class Space:
                 moves.append(Move(e, j, self.slot[w, v], rest, gone, fault))
         return moves
 
-    def put_move(self, a, i, p):
-        v, node = self.vertices[a], self.locals[a][i].copied()
-        w, wire = self.ports[v][p], node.ports[p].out.pop(0)
-        e = self.events.number(Event("put", v, p, w, wire_words(wire), 0))
-        return Move(
-            e, self.locals[a].number(node, node.key()), None, 0, ((self.slot[v, w], (wire,)),), None
-        )
-
     def alone(self, moves):
         """With `reduce`, the take of a safe or a close that comes next on its link, if a node has one among its moves.
 
         Such a take sends nothing. It stays possible, with the same effect, whatever else happens first: others only add
-        to the end of the link, and at its node a pulse, a put, or a take from another link neither needs what it
-        changes to be as it was nor makes it impossible. So each list of events can be changed into one in which it
+        to the end of the link, and at its node a pulse or a take from another link neither needs what it changes to be
+        as it was nor makes it impossible. So each list of events can be changed into one in which it
         comes first, by exchanging neighbours that don't depend on each other, and what each pulse finds and whatever
         is refused stays as it is. Without `safes` or `fifo` that isn't so. (A take that is refused isn't meant.)
         """
@@ -309,13 +291,13 @@ class Space:
         return self.said[key]
 
     def messages(self, state):
-        """(sender, receiver, payload) by identifier, ascending, of what is sent and not yet read: in an out-list, on
-        its link, or taken for this pulse's inbox or the next."""
+        """(sender, receiver, payload) by identifier, ascending, of what is sent and not yet read: on its link, or taken
+        for this pulse's inbox or the next."""
         name, found = self.net.identifiers, []
         for a, v in enumerate(self.vertices):
             for w, port in zip(self.ports[v], self.locals[a][state[a]].ports):
                 on_link = self.contents[state[self.slot[v, w]]]
-                sent = [wire[2] for wire in (*port.out, *on_link) if wire[0] == "Payload"]
+                sent = [wire[2] for wire in on_link if wire[0] == "Payload"]
                 came = [slot for slot in (port.present, port.early) if slot is not None]
                 found += [(name[v], name[w], payload) for payload in sent]
                 found += [(name[w], name[v], payload) for payload in came]
@@ -449,8 +431,6 @@ class Space:
 
     def with_puts(self, events):
         """The events with the puts between them, each only as a take needs its wire."""
-        if self.puts:
-            return list(events)
         sent, held, put = (
             {link: [] for link in self.links},
             {link: [] for link in self.links},

@@ -447,7 +447,7 @@ class OwnAlgorithms(Case):
 
     def test_messages(self):
         """One token walks along a row: held, or under way; a second one is found at once."""
-        status, text, _ = self.told(TOKEN, "--puts", network="path3")
+        status, text, _ = self.told(TOKEN, network="path3")
         self.note("one token", status == 0 and text.startswith("every schedule of path3"), text)
         twice = TOKEN.replace(
             "[None] * (me.degree - 1) + [", "[('token', pulse)] * (me.degree - 1) + ["

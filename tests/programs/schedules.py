@@ -6,7 +6,6 @@ import gc
 import os
 import random
 from collections import Counter
-from itertools import product
 
 from lab.definitions.colours import colours
 from lab.definitions.nodes import NetState, last_pulse
@@ -48,11 +47,8 @@ TRIAL = [
     ("triangle", {}, 16473, 50723),
     ("row of four", {}, 41421, 141961),
     ("ring of four", {}, 171815, 688891),
-    ("two", {"puts": True}, 641, 1056),
-    ("path", {"puts": True}, 16537, 47009),
     ("path", {"reduce": True}, 1642, 2373),
     ("triangle", {"reduce": True}, 4620, 7683),
-    ("two", {"puts": True, "reduce": True}, 573, 784),
 ]
 
 
@@ -112,16 +108,14 @@ def keys_of(space, states):
 
 
 def reduced_rows():
-    """(network, rules left out, whether puts are steps)."""
+    """(network, rules left out)."""
     rules_of_two = (), ("early",), ("acks",), ("acks", "early")
     for nodes, edges in ((nodes, edges) for nodes in (1, 2, 3) for edges in all_of(nodes)):
-        yield from (
-            (Network(nodes, edges), *more)
-            for more in (product(rules_of_two, (False, True)) if nodes < 3 else [((), False)])
-        )
+        for without in rules_of_two if nodes < 3 else [()]:
+            yield Network(nodes, edges), without
     for net in (Network(3, [(1, 2), (2, 3)], {1: 9, 2: 200, 3: 5}, {2: [1]}), net_of("path")):
-        yield from ((net, without, False) for without in rules_of_two[:3])
-    yield net_of("row of four"), (), False
+        yield from ((net, without) for without in rules_of_two[:3])
+    yield net_of("row of four"), ()
 
 
 def shown(state, v):
@@ -220,7 +214,6 @@ REFUSED = [
     (["examples/two.col", "--without", "safes,digit"], "can't be left out together"),
     (["examples/two.col", "--without", "x"], "`x` is no rule"),
     (["examples/two.col", "--limit", "0"], "0 is no number from 1 to"),
-    (["--without", "digit", "--puts"], "the rounds have no events"),
     (["--without", "safes"], "NETWORK is missing"),
     (["--without", "partner"], "only --program matching has the rules partner,last"),
     (
@@ -274,7 +267,7 @@ class Schedules(Case):
     def end_rows(self, name, space):
         """Every schedule has the number of events that the formula says, less the puts if these aren't counted."""
         events, wires = count_of_events(space.net)
-        wanted = events - (0 if space.puts else wires)
+        wanted = events - wires
         levels = all(
             space.depth[t] == space.depth[s] + 1
             for s in range(space.count)
@@ -289,8 +282,8 @@ class Schedules(Case):
         self.same(f"end of {name}", ends, [colours(space.net)])
 
     def test_formulas(self):
-        for name in ("alone", "apart", "barred", "two", "path", "star"):
-            self.end_rows(f"{name}, puts apart", Space(net_of(name), puts=True, limit=MOST))
+        for name in ("alone", "apart", "barred", "star"):
+            self.end_rows(name, Space(net_of(name), limit=MOST))
 
     def test_walks(self):
         """A hundred random walks, each state beside the definitions."""
@@ -317,18 +310,17 @@ class Schedules(Case):
     def test_reduced(self):
         """With `reduce` the same goes wrong, the ends are the same states, and every state is one of the whole
         search."""
-        for net, without, puts in reduced_rows():
+        for net, without in reduced_rows():
             whole, less = (
-                Space(net, without, MOST, puts, beyond=bool(without), reduce=it)
-                for it in (False, True)
+                Space(net, without, MOST, bool(without), reduce=it) for it in (False, True)
             )
             self.same(
-                f"{net.edges} without {without}, puts apart: {puts}",
+                f"{net.edges} without {without}",
                 (set(less.faults.values()), keys_of(less, less.ends)),
                 (set(whole.faults.values()), keys_of(whole, whole.ends)),
             )
             self.note(
-                f"states of {net.edges} without {without}, puts apart: {puts}",
+                f"states of {net.edges} without {without}",
                 keys_of(less, range(less.count)) <= keys_of(whole, range(whole.count))
                 and less.count <= whole.count - bool(net.edges),
                 (less.count, whole.count),
@@ -354,9 +346,8 @@ class Schedules(Case):
 
     def test_broken(self):
         for name, without, what, count, fault in BROKEN:
-            (status, said, _), (_, listed, _), (_, apart, _) = (
-                self.explored(name, "--without", without, *more)
-                for more in ([], ["--list"], ["--puts"])
+            (status, said, _), (_, listed, _) = (
+                self.explored(name, "--without", without, *more) for more in ([], ["--list"])
             )
             lines, first = listed.splitlines(), said.split("\n")[0]
             rest = sum(not line.startswith("put ") for line in lines)
@@ -370,9 +361,6 @@ class Schedules(Case):
                 f"the list of {name} without {without}",
                 [line.split(":")[0] for line in said.splitlines()[1 : 1 + len(lines)]],
                 lines,
-            )
-            self.same(
-                f"{name} without {without}, puts apart", apart.split(": ")[0], first.split(": ")[0]
             )
             got = called(PLAY, "events", data=list_of(name, lines))
             self.same(
@@ -390,9 +378,10 @@ class Schedules(Case):
     def test_whole_lists(self):
         """One whole list of each network, by the program; and its end beside `plain`."""
         events, wires = count_of_events(net_of("two"))
-        apart = self.explored("two", "--puts")[1]
-        wanted = f"\neach has {events} events: {wires} puts, {wires} takes and {events - 2 * wires} pulses\n"
-        self.note("what explore says of two, puts apart", wanted in apart, apart)
+        said = self.explored("two")[1]
+        pulses = events - 2 * wires
+        wanted = f"\neach has {wires + pulses} events: {wires} takes and {pulses} pulses\n"
+        self.note("what explore says of two", wanted in said, said)
         for name in ("alone", "apart", "two", "path", "triangle"):
             listed, said = (self.explored(name, *more)[1] for more in (["--list"], []))
             status, out, _ = called(PLAY, "events", data=list_of(name, listed.splitlines()))
@@ -415,10 +404,9 @@ class Schedules(Case):
     def test_not_broken(self):
         """On links that keep the order, acknowledgements aren't needed; and nothing is broken if no rule is left
         out."""
-        for puts, states in ((False, 536), (True, 2061)):
-            space = Space(net_of("two"), without=("acks",), limit=MOST, puts=puts)
-            good = not space.faults and len(space.ends) == 1 and space.count == states
-            self.note(f"two without acks, puts apart: {puts}", good, (space.count, space.faults))
+        space = Space(net_of("two"), without=("acks",), limit=MOST)
+        good = not space.faults and len(space.ends) == 1 and space.count == 536
+        self.note("two without acks", good, (space.count, space.faults))
         beyond = Space(net_of("two"), without=("safes",), beyond=True, limit=MOST)
         # As many as a search found that compared nodes field by field.
         self.same("states beyond it", (beyond.count, len(beyond.target)), (1631, 4113))
