@@ -1,8 +1,8 @@
-"""Pictures of plans and rounds, read back: marks, hues and numbers beside lab/definitions."""
-import itertools
+"""Pictures of plans and the player's page, read back: marks, hues and numbers beside lab/definitions. Those of forests,
+rounds and bits are looked at as they are stored; here is which forests and columns are drawn."""
 import re
 
-from lab.definitions.colours import bit, colours
+from lab.definitions.colours import colours
 from lab.definitions.nodes import last_pulse
 from lab.definitions.rounds import FIRST_MERGE, Rounds, merge_step
 from lab.networks.named import network_bytes
@@ -12,21 +12,16 @@ from tests.pictures.base import APART, BARRED, PictureCase
 from tests.pictures.marks import (
     centre,
     data_of,
-    ends,
     marks,
-    nearest,
     numbered,
     pairs_joined,
     parsed,
     texts,
-    title,
     titles,
     words,
 )
 
 CHANNELS = ["#0072B2", "#E69F00", "#009E73", "#F0E442", "#CC79A7", "#56B4E9", "#D55E00", "#444444"]
-COLOURS = ["#004488", "#997700", "#994455", "#6699CC", "#EECC66", "#EE99AA"]
-INK = "#1B1B1B"
 
 NETWORKS = examples() | {
     "path2": network_bytes("path2"),
@@ -34,17 +29,6 @@ NETWORKS = examples() | {
     "barred petersen": BARRED,
 }
 QUEEN = example("queen5_5")
-OF_ROUNDS = (
-    "petersen",
-    "triangle",
-    "star",
-    "four_cycle",
-    "path",
-    "chain6",
-    "drops",
-    "barred",
-    "barred petersen",
-)
 PLAYED = {name: NETWORKS[name] for name in ("triangle", "petersen", "barred", "two")} | {
     "one": b"p edge 1 0\n",
     "all joined": network_bytes("complete8"),
@@ -86,50 +70,9 @@ def order_of(places):
     return [sorted(places, key=lambda v: places[v][axis]) for axis in (0, 1)]
 
 
-def parents_in(net, f):
-    return {v: net.parent(f, v) for v in net.vertices if net.parent(f, v)}
-
-
-def in_forest(parents, v):
-    """Whether an edge of the forest ends at a vertex."""
-    return v in parents or v in parents.values()
-
-
-def joined(arrows, places):
-    """The vertex at which each arrow ends, by the one at which it begins."""
-    found = {}
-    for start, end in map(ends, arrows):
-        child = nearest(places, start)
-        others = {v: place for v, place in places.items() if v != child}
-        found[child] = nearest(others, end)
-    return dict(sorted(found.items()))
-
-
-def square(colour, is_in_forest):
-    """The square of one of six colours."""
-    return "colour" if is_in_forest else "alone", COLOURS[colour], str(colour)
-
-
-def strip_mark(column, colour, is_in_forest):
-    """The square of a colour in a column of the rounds, of which the first has identifiers: those are grey, as are
-    colours of more than one digit."""
-    if column and colour < 6:
-        return square(colour, is_in_forest)
-    digits = max(1, colour.bit_length())
-    level = 235 - min(140, 7 * digits)
-    mark = "alone" if column and not is_in_forest else "colour"
-    said = str(colour) if colour < 1000 else f"{digits}d"
-    return mark, f"#{level:02X}{level:02X}{level:02X}", said
-
-
 def turns_in(facts, f):
     """The three-colour and the old colour of each vertex in a merge."""
     return {v: (facts.colours[f][12][v], facts.merged[f][v]) for v in facts.network.vertices}
-
-
-def backwards(value, digits):
-    """The binary digits of a number, the last one first."""
-    return f"{value:0{digits}b}"[::-1]
 
 
 def colours_after(facts, p):
@@ -161,45 +104,14 @@ class Maps(PictureCase):
             if len(given) == len(plan):
                 row("the places given", order_of(places), order_of(given))
 
-    def test_forests(self):
-        for name, network in NETWORKS.items():
-            count = network_of(network).forest_count
-            self.forests_rows(name, network, range(min(count, 6)))
-        self.forests_rows("queen5_5", QUEEN, range(4, 10), "--forest", "4..9")
-
-    def forests_rows(self, name, network, kept, *options):
-        facts, root = Rounds(network_of(network)), parsed(self.drawn("forests", network, *options))
-        above, below = marks(root, "forest"), marks(root, "merged")
-        row = self.rows_of(f"forests of {name}")
-        row("those drawn", [*map(title, above)], [f"forest {f}" for f in kept])
-        for f, *groups in zip(kept, above, below):
-            self.forest_rows(f"forest {f} of {name}", facts, f, *groups)
-
-    def forest_rows(self, name, facts, f, above, below):
-        """The colours and parents of a forest, and the plan after its merge."""
-        net, parents = facts.network, parents_in(facts.network, f)
-        row = self.rows_of(name)
-        squares = [
-            square(c, in_forest(parents, v)) for v, c in sorted(facts.colours[f][12].items())
-        ]
-        row("squares", numbered(above, "colour", "alone"), squares)
-        arrows = marks(above, "arrow")
-        # Of more than 40 vertices an arrow may be nearer to another vertex than to its own.
-        if net.nodes <= 40:
-            places = dict(zip(net.vertices, map(centre, marks(above, "colour", "alone"))))
-            row("an arrow from each child to its parent", joined(arrows, places), parents)
-        after = circles("channel", facts.merged[f + 1])
-        row("channels after its merge", numbered(below, "channel"), after)
-
     def test_rounds(self):
-        for name in OF_ROUNDS:
-            self.rounds_rows(name, NETWORKS[name], range(network_of(NETWORKS[name]).forest_count))
+        self.rounds_rows("petersen", NETWORKS["petersen"], range(3))
         for forests, options in (([0], ()), ([1], ("--forest", 1)), ([4, 5], ("--forest", "4..5"))):
             self.rounds_rows("queen5_5", QUEEN, forests, *options)
 
     def rounds_rows(self, name, network, drawn, *options):
         facts, root = Rounds(network_of(network)), parsed(self.drawn("rounds", network, *options))
-        net, left = facts.network, marks(root, "colours")
+        net = facts.network
         row = self.rows_of(f"rounds of {name}")
         row("its forests", titles(root, "colours"), [f"forest {f}" for f in drawn])
         says = any(text.startswith("Here forest") for text in texts(root))
@@ -209,49 +121,6 @@ class Maps(PictureCase):
         if sum(every) > 40:
             every = [len({*turns_in(facts, f).values()}) for f in drawn]
         row("columns of its merges", len(words(root, "old")), sum(every))
-        for f, colours_of, choices in zip(drawn, left, marks(root, "choices")):
-            self.strip_rows(f"rounds of {name}, forest {f}", facts, f, colours_of, choices)
-
-    def strip_rows(self, name, facts, f, colours_of, choices):
-        """A forest of the rounds: its colours pulse by pulse, and who chooses before whom."""
-        parents, turn = parents_in(facts.network, f), turns_in(facts, f)
-        row = self.rows_of(name)
-        squares = [
-            strip_mark(column, colours[v], in_forest(parents, v))
-            for v in turn
-            for column, colours in enumerate(facts.colours[f].values())
-        ]
-        row("squares", numbered(colours_of, "colour", "alone"), squares)
-        for mark in ("choice", "after"):
-            row(mark, numbered(choices, mark), circles(mark, facts.merged[f + 1]))
-        xs = dict(zip(turn, (centre(mark)[0] for mark in marks(choices, "choice"))))
-        pairs = itertools.permutations(xs, 2)
-        wrong = [(v, w) for v, w in pairs if (xs[v] < xs[w]) != (turn[v] < turn[w])]
-        row("who chooses first", wrong, [])
-
-    def test_bits(self):
-        for name, v in (("petersen", 6), ("queen5_5", 5), ("star", 1), ("long_names", 1)):
-            net = network_of(NETWORKS[name])
-            for f in range(net.forest_count):
-                if net.parent(f, v):
-                    root = parsed(self.drawn("bits", NETWORKS[name], "--vertex", v, "--forest", f))
-                    self.bits_rows(f"bits of {name}, forest {f}", net, f, v, root)
-
-    def bits_rows(self, name, net, f, v, root):
-        w, before = net.parent(f, v), net.identifiers
-        for p, pair in enumerate(marks(root, "pair"), 2):
-            after, boxes = bit(net, f, before), marks(pair, "digit", "ringed")
-            digits = max(1, before[v].bit_length(), before[w].bit_length())
-            row = self.rows_of(f"{name}, pulse {p}")
-            shown = "".join("01"[mark.get("fill") == INK] for mark in boxes)
-            row("digits", shown, backwards(before[v], digits) + backwards(before[w], digits))
-            ringed = [at for at, mark in enumerate(boxes) if mark.get("class") == "ringed"]
-            following = [int(said.split(" = ")[-1]) for said in words(pair, "next")]
-            if p < 6:
-                place = after[v] >> 1
-                row("the ring", ringed, [place, digits + place])
-                row("the next number", following, [after[v]])
-            before = after
 
     def test_players(self):
         for name, network in PLAYED.items():

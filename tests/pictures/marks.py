@@ -103,42 +103,26 @@ def pairs_joined(root, name, places):
     )
 
 
-def shapes(root, turn=1, shift=0):
-    """(element, shape) of all that is drawn in a picture but lines, where it is seen; a shape is a box and a radius
-    that is added around it: left, top, right, bottom, radius."""
-    for element in root:
-        moves = element.get("transform", "")
-        by = (
-            complex(*map(float, re.findall(r"translate\(([-\d.]+)[ ,]([-\d.]+)\)", moves)[0]))
-            if moves
-            else 0
-        )
-        turned, moved = turn * (-1j if "rotate(-90)" in moves else 1), shift + turn * by
-        if corners := corners_of(element):
-            one, other = (moved + turned * complex(*corner) for corner in corners)
-            (left, right), (top, bottom) = sorted((one.real, other.real)), sorted(
-                (one.imag, other.imag)
-            )
-            yield element, (left, top, right, bottom, float(element.get("r", 0)))
-        yield from shapes(element, turned, moved)
+def shapes(root):
+    """(element, shape) of all that is drawn in a picture but lines; a shape is a box and a radius that is added around
+    it: left, top, right, bottom, radius."""
+    for element in root.iter():
+        if box := box_of(element):
+            yield element, (*box, float(element.get("r", 0)))
 
 
-def corners_of(element):
-    """Two corners of a text or a square, or twice the middle of a circle; None of what is neither."""
+def box_of(element):
+    """The box of a text or a square, or the middle of a circle; None of what is neither."""
     if element.tag == f"{SVG}text" and element.text:
         x, y, size = (number(element, key) for key in ("x", "y", "font-size"))
         wide = LETTER * size * len(element.text)
         left = x - {"middle": 0.5, "end": 1}.get(element.get("text-anchor"), 0) * wide
-        return (left, y - 0.75 * size), (left + wide, y + 0.02 * size)
+        return left, y - 0.75 * size, left + wide, y + 0.02 * size
     if element.tag == f"{SVG}circle":
-        return 2 * [centre(element)]
+        return 2 * centre(element)
     if element.tag == f"{SVG}rect" and element.get("class"):
-        (x, y), wide, high = (
-            centre(element),
-            number(element, "width") / 2,
-            number(element, "height") / 2,
-        )
-        return (x - wide, y - high), (x + wide, y + high)
+        left, top = number(element, "x"), number(element, "y")
+        return left, top, left + number(element, "width"), top + number(element, "height")
     return None
 
 

@@ -36,6 +36,8 @@ SAID = [
         "neighbours are never more than one pulse apart",
     ),
     ("overview star64 --transcript {short64} --pulses 0..100", b"", "101 pulses, too many"),
+    ("forests queen5_5 --forest 4..9", b"", "Here forests 4 to 9 of 0 to 11"),
+    ("bits petersen --vertex 6 --forest 1", b"", "node 6 and its parent 9 in forest 1"),
     ("schedules star4", b"", "Here are those after 0 to 23 of 336 events."),
     ("results drops --program recolouring", b"", "2 channels; before there were 3."),
     ("why barred --vertex 1 --text", b"", "\n  channel 1 is barred at it\n"),
