@@ -15,7 +15,6 @@ forestlab picture results examples/drops.col --program recolouring -o docs/pictu
 forestlab picture bits examples/petersen.col --vertex 6 -o docs/pictures/petersen-bits.svg
 forestlab picture bits examples/long_names.col -o docs/pictures/long_names-bits.svg
 forestlab picture run examples/chain6.col --pulses 3..5 --transcript examples/chain6_slow.transcript -o docs/pictures/chain6_slow-spacetime.svg
-forestlab picture overview examples/chain6.col --transcript examples/chain6_slow.transcript -o docs/pictures/chain6_slow-overview.svg
 forestlab picture watch examples/chain6.col examples/chain6_slow.transcript -o docs/pictures/chain6_slow-watch.html
 forestlab picture schedules examples/two.col -o docs/pictures/two-schedules.svg
 forestlab picture schedules examples/two.col --without safes -o docs/pictures/two-without-safes.svg

@@ -22,7 +22,6 @@ from lab.pictures import (
     broken_picture,
     forests_picture,
     map_picture,
-    overview_picture,
     plan_picture,
     player_page,
     program_picture,
@@ -97,11 +96,6 @@ class Source:
     def rounds(self):
         return rounds_of(self.network, self.program)
 
-    def window(self, pulses, usual=None):
-        """The pulses of a run that are drawn: those asked for, or else the `usual` first ones."""
-        last = self.program.last_pulse(self.network)
-        return window_of(self.network.name, last, pulses, usual)
-
     def run(self, until=None, is_wrong_drawn=False):
         """The run of a transcript; with `until`, as far as the pulses up to that one depend on it."""
         text = self.text("transcript")
@@ -130,16 +124,12 @@ def draw_why(of, vertex, in_words):
 
 
 def draw_run(of, pulses, only, wrong, stopped):
-    shown = of.window(pulses, 3)
+    last = of.program.last_pulse(of.network)
+    shown = window_of(of.network.name, last, pulses, 3)
     run = of.run(None if wrong else shown[1], wrong)
     if run.wrong and not pulses:
         shown = wrong_run.usual_pulses(run)
     return run_picture.draw(run, shown, only, wrong, stopped)
-
-
-def draw_overview(of, pulses):
-    shown = of.window(pulses)
-    return overview_picture.draw(of.run(shown[1]), shown)
 
 
 def draw_watch(of, pulses):
@@ -233,17 +223,7 @@ KINDS = {
         "forestlab picture run examples/chain6.col --pulses 3..5 --transcript \\\n"
         "    examples/chain6_slow.transcript > chain6_slow-spacetime.svg",
         draw_run,
-        (12, "overview"),
-        of_programs=True,
-    ),
-    "overview": Kind(
-        "The pulses of a run without a clock, from beginning to end.",
-        "Of a run of more than 100 pulses the first 40, or others with --pulses; of a long text only what they\n"
-        "depend on is read, and checked.",
-        "forestlab picture overview examples/petersen.col > petersen-overview.svg\n"
-        "  forestlab picture overview examples/queen5_5.col --pulses 100..139 > queen5_5-overview.svg",
-        draw_overview,
-        (100, "--pulses"),
+        (12, "watch"),
         of_programs=True,
     ),
     "player": Kind(
@@ -263,7 +243,7 @@ KINDS = {
         "  forestlab picture watch examples/chain6.col slow.transcript > slow.html\n"
         "  forestlab picture watch examples/chain6.col slow.transcript examples/chain6_slow.transcript > two.html",
         draw_watch,
-        (40, "overview"),
+        (40, "a smaller network"),
         of_programs=True,
     ),
     "schedules": Kind(
@@ -292,7 +272,7 @@ KINDS = {
 
 
 # The kinds that draw a text of a form, which an option may name.
-OF_PLAN, OF_RUN = ("plan",), ("run", "overview")
+OF_PLAN, OF_RUN = ("plan",), ("run",)
 
 HELP = (
     "Draws plans, rounds and runs, as SVG on standard output; the last two kinds draw\n"
@@ -308,10 +288,10 @@ NETWORK is a file in the DIMACS format, - for standard input, as in
 lines `c at V X Y` place its vertices, y growing downwards; they count if each vertex has one. Else up to six
 are on a circle, and more are laid out by their edges. Vertices that would overlap
 are drawn smaller, and those still too near are pushed apart. Comment lines
-`c name V NAME` name them, in plan, player, run and overview.
+`c name V NAME` name them, in plan, player and run.
 
-Without a stored text, run, overview and watch draw what the built program writes,
-and plan, too, if it is built. All else is worked out by the definitions in
+Without a stored text, run and watch draw what the built program writes, and plan,
+too, if it is built. All else is worked out by the definitions in
 Python, which are tested and not proved.
 
 Status: 0 done, 1 not drawn (one line on standard error says why), 2 the command

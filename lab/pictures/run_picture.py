@@ -33,8 +33,8 @@ class Window:
             run.network.vertices,
             pulses,
         )
-        self.top, self.row, self.size, self.over = top, row, min(15, row), min(30, 0.4 * row)
-        self.left = left_of(run.network, self.size)
+        self.top, self.row, self.over = top, row, min(30, 0.4 * row)
+        self.left = left_of(run.network)
         if not any(self.first in ticks for ticks in run.ticks.values()):
             raise Wrong(f"{run.name}: no node begins pulse {self.first}")
         self.ends = {
@@ -78,13 +78,9 @@ class Window:
         ]
 
 
-def left_of(network, size):
+def left_of(network):
     """Where the lines of nodes begin: to the left are their numbers and names."""
-    names = [
-        text_width(short_name(network, v), min(10, size))
-        for v in network.vertices
-        if v in network.names
-    ]
+    names = [text_width(short_name(network, v), 10) for v in network.names if v in network.vertices]
     return LEFT + max(names, default=-6) + 6
 
 
@@ -103,7 +99,7 @@ def draw(run, shown, kinds=None, is_wrong_drawn=False, stopped=None):
         window.stop - window.start,
         "steps of time side by side",
         MOST_STEPS,
-        "fewer pulses (--pulses A..B), or overview",
+        "fewer pulses (--pulses A..B)",
     )
     first, last = window.first, window.last
     wrong = wrapped(said_of(run, stopped), window.width - 40, 12.5 * BOLD) if is_wrong_drawn else []
@@ -116,10 +112,7 @@ def draw(run, shown, kinds=None, is_wrong_drawn=False, stopped=None):
         if set(kinds) == set(KINDS)
         else " and ".join(f"{NAMES[kind]}s" for kind in kinds)
     )
-    svg.heading(
-        f"{run.name}: {said}, pulses {first} to {last} of {run.last}",
-        time_words(run, ", so every arrow points right"),
-    )
+    svg.heading(f"{run.name}: {said}, pulses {first} to {last} of {run.last}", time_words(run))
     legend(svg, kinds)
     svg.clip("window", window.left - 8, 0, window.width - window.left - 8, window.bottom + 62)
     draw_bands(svg, window)
@@ -151,29 +144,28 @@ def draw(run, shown, kinds=None, is_wrong_drawn=False, stopped=None):
     return svg.document()
 
 
-def time_words(run, behind=""):
-    """What the place of an event from left to right is; `behind` ends the sentence."""
+def time_words(run):
+    """What the place of an event from left to right is."""
     if run.is_stamped:
         return (
             "Time is the transcript's stamps, by Lamport's clock: one more than the node's last, and of a take also "
-            f"than the put's{behind}. It is not real time."
+            "than the put's, so every arrow points right. It is not real time."
         )
     return (
         "No clock was kept. An event stands as far right as the longest chain of events that lead to it (found by "
-        f"replaying){behind}."
+        "replaying), so every arrow points right."
     )
 
 
 def draw_lines(svg, window):
     """A line for each node, and to the left its number and its name."""
-    size = window.size
     for v in window.nodes:
         y = window.y(v)
-        svg.line(window.left - 6, y, window.width - 16, y, "#8A8A8A", 1 if size > 13 else 0.6)
-        svg.text(window.left - 14, y + 0.36 * size, v, size, INK, "end", bold=True)
+        svg.line(window.left - 6, y, window.width - 16, y, "#8A8A8A", 1)
+        svg.text(window.left - 14, y + 5.4, v, 15, INK, "end", bold=True)
         if name := short_name(window.network, v):
-            x = window.left - 18 - text_width(window.network.nodes, size) * BOLD
-            svg.note(x, y + 3.6, name, min(10, size), "end", mark="vertex-name")
+            x = window.left - 18 - text_width(window.network.nodes, 15) * BOLD
+            svg.note(x, y + 3.6, name, 10, "end", mark="vertex-name")
 
 
 def legend(svg, kinds):

@@ -13,8 +13,6 @@ from lab.wrong import Wrong, wrong_line
 # Texts of more lines are read only as far as the pulses that are drawn may depend on them: a pulse of a node depends on
 # the next ones of its neighbours, and so on.
 LONG_TEXT = 100_000
-# Above MOST_READABLE pulses a band or bar is too narrow to be followed; USUAL are drawn of a run that has more.
-MOST_READABLE, USUAL = 100, 40
 # How many steps of time a pulse of the rounds takes.
 OF_ROUND = 100
 
@@ -79,10 +77,9 @@ class Run:
         return run
 
 
-def window_of(name, greatest, asked, usual=None, what="pulses"):
-    """The first and the last pulse to be drawn, if the run has them: those asked for, or else the `usual` first ones;
-    by default all, or of a long run USUAL."""
-    usual = usual or (USUAL if greatest > MOST_READABLE else greatest + 1)
+def window_of(name, greatest, asked, usual, what="pulses"):
+    """The first and the last pulse to be drawn, if the run has them: those asked for, or else the `usual` first
+    ones."""
     first, last = asked or (0, min(greatest, usual - 1))
     if not 0 <= first <= last <= greatest:
         raise Wrong(f"{name}: {what} {first} to {last} are not among 0 to {greatest}")

@@ -134,7 +134,7 @@ class Run:
         last."""
         reached = [max(during) for during in self.at_pulse.values()]
         if pulses:
-            window_of(self.name, min(self.last, *reached), pulses)
+            window_of(self.name, min(self.last, *reached), pulses, 1)
         self.is_too_long = not pulses and len(every) > MOST_ENTRIES
         if self.is_too_long:
             pulses = 0, max(0, min(reached) - 1)

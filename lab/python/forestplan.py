@@ -39,39 +39,37 @@ class Refused(ValueError):
 
 class _Answer:
     """What a program wrote (`text`) of what it read (`network`), in which nodes have numbers and channels count from 1.
-    A notebook shows its picture: the first of `kinds`, or the second if the network has more than `most` lines.
-    """
+    A notebook shows its picture, of a `kind`, with an `option` for the text."""
 
     network = text = ""
 
     def _repr_svg_(self):
-        kind = self.kinds[self.network.count("\n") > self.most]
         with tempfile.NamedTemporaryFile("w", suffix=".txt") as file:
             file.write(self.text)
             file.flush()
             words = [self.option, file.name] if self.option else []
-            words = ["picture", kind, "-", *words, "--title", "graph"]
+            words = ["picture", self.kind, "-", *words, "--title", "graph"]
             return _lab(words, self.network) or None
 
 
 class Plan(_Answer, dict):
     """{node: channel}."""
 
-    option, kinds, most = "--plan", ("plan", "plan"), 1200
+    option, kind = "--plan", "plan"
 
 
 class Rounds(_Answer, list):
     """A `Pulse` for each pulse: `messages` has a `Message` each, and `states` (node, words) of what a node came to, its
     colours counted from 0."""
 
-    option, kinds, most = "", ("rounds", "rounds"), 0
+    option, kind = "", "rounds"
 
 
 class Transcript(_Answer, list):
     """An `Entry` for each event of a run: `kind` is pulse, put or take; `wire` has the words of what was put or taken,
     and `other` is the neighbour, or for a pulse its number."""
 
-    option, kinds, most = "--transcript", ("run", "overview"), 150
+    option, kind = "--transcript", "run"
 
 
 def plan(G, bars=None, licence=None, workers=None):

@@ -15,8 +15,6 @@ from itertools import product
 
 NETWORKS = "triangle path petersen drops barred chain6 four_cycle star queen5_5 two".split()
 PICTURES = "map plan results forests rounds bits why player schedules".split()
-# Kinds that draw a run, of one thread: two runs of several threads differ.
-OF_RUN = ("overview", "run")
 OPTIONS = {"why": "--vertex 2"}
 PROGRAMS = "leader layers matching independent-set recolouring".split()
 POLICIES = "random slow-link slow-node fast-node bursts newest oldest".split()
@@ -54,8 +52,8 @@ def of_networks():
             yield f"forestlab picture {kind} {file} {OPTIONS.get(kind, '')}".strip()
         yield f"forestlab simulate {file} --seed 5 | forestlab picture watch {file} -"
         made = f"forestplan transcript --workers 1 < {file}"
-        for kind in OF_RUN:
-            yield f"{made} | forestlab picture {kind} {file} --transcript -"
+        # Two runs of several threads differ.
+        yield f"{made} | forestlab picture run {file} --transcript -"
         yield f"forestlab network tell {file}"
         yield f"forestlab explore {file}"
         yield f"{made} | forestlab transcript check {file} -"
@@ -71,7 +69,7 @@ def others():
         for kind in ("results", "rounds", "player"):
             yield f"forestlab picture {kind} {words}"
         made = f"forestplay run --transcript --workers 1 --program {program} < examples/{name}.col"
-        yield f"{made} | forestlab picture overview {words} --transcript -"
+        yield f"{made} | forestlab picture run {words} --transcript -"
     for rule in RULES:
         for name in ("triangle", "path", "two"):
             yield f"forestlab explore examples/{name}.col --without {rule}"

@@ -21,7 +21,7 @@ BARRED = (
     )
 )
 # The form of the text that a kind draws.
-FORM = {"plan": "plan", "run": "transcript", "overview": "transcript"}
+FORM = {"plan": "plan", "run": "transcript"}
 
 
 def painter(*words, data=b""):

@@ -38,7 +38,7 @@ NETWORKS = examples() | {
 }
 # The kinds, each with the number of nodes up to which it is drawn here.
 OF_ROUNDS = {"map": 40, "plan": 100, "results": 40, "forests": 40, "rounds": 25}
-OF_RUNS = dict.fromkeys(("run", "overview"), 10)
+OF_RUNS = {"run": 10}
 OTHERS = (
     ("schedules", "two"),
     ("schedules", "path", "--columns", "0..20"),
@@ -131,7 +131,6 @@ class Layout(PictureCase):
         for kind, mark, text, wanted in (
             ("plan", "number", None, labels),
             ("run", "vertex-name", run, 2 * names),
-            ("overview", "vertex-name", run, names),
         ):
             root = parsed(self.drawn(kind, NAMED, text=text))
             self.same(f"names in {kind}", words(root, mark), wanted)

@@ -7,10 +7,9 @@ from xml.etree import ElementTree
 from lab.definitions.colours import plan_text
 from lab.networks.network_text import network_of
 from tests.cases import example, examples
-from tests.pictures.base import APART, FORM, SEED, PictureCase, painter, transcript
+from tests.pictures.base import APART, SEED, PictureCase, painter, transcript
 from tests.programs.made_transcripts import made_transcript, merged_text, transcript_text
 
-OF_RUNS = [kind for kind, form in FORM.items() if form == "transcript"]
 PLAN_OF_PETERSEN = plan_text(network_of(example("petersen")))
 RUN_OF_APART = transcript(APART, "refused")
 RUN_OF_TRIANGLE = transcript(example("triangle"), "refused")
@@ -23,19 +22,11 @@ FILES = {
     "run": RUN_OF_APART,
     "plan": PLAN_OF_PETERSEN,
     "short1": b"transcript 2 1\n",
-    "short64": b"transcript 1 64\n",
 }
 # Words of a call, the text on standard input, and what is in the picture.
 SAID = [
     ("--help", b"", "forestlab picture plan - <"),
     ("plan - --plan {plan}", example("petersen"), "Channel plan of this network"),
-    ("overview star64 --transcript {short64}", b"", "pulses 0 to 39 of 204"),
-    (
-        "overview star64 --transcript {short64} --pulses 0..99",
-        b"",
-        "neighbours are never more than one pulse apart",
-    ),
-    ("overview star64 --transcript {short64} --pulses 0..100", b"", "101 pulses, too many"),
     ("forests queen5_5 --forest 4..9", b"", "Here forests 4 to 9 of 0 to 11"),
     ("bits petersen --vertex 6 --forest 1", b"", "node 6 and its parent 9 in forest 1"),
     ("schedules star4", b"", "Here are those after 0 to 23 of 336 events."),
@@ -103,7 +94,7 @@ REFUSED = [
             ("12..12", "forests 0 to 11"),
         )
     ),
-    ("overview star64 --transcript - --pulses 1..2", FILES["short64"], 1, "no node"),
+    ("run star12 --transcript - --pulses 1..2", b"transcript 1 12\n", 1, "no node"),
     ("plan - --plan -", b"", 1, "standard input has one text"),
     ("watch {net} a b c", b"", 1, "a page has room for two runs"),
     ("watch {net} {run} --pulses 3..99", b"", 1, "pulses 3 to 99 are not among 0"),
@@ -113,8 +104,7 @@ REFUSED = [
     ("plan petersen --plan -", b"", 1, "(C6)"),
     ("plan petersen --plan -", PLAN_OF_PETERSEN.replace(b"3 1", b"3 2"), 1, "share channel"),
     *(
-        (f"{kind} {{net}} --transcript {{run}} --pulses {pulses}", b"", 1, "among 0 to 30\n")
-        for kind in OF_RUNS
+        (f"run {{net}} --transcript {{run}} --pulses {pulses}", b"", 1, "among 0 to 30\n")
         for pulses in ("3..2", "0..31")
     ),
 ]
@@ -141,14 +131,13 @@ class Pictures(PictureCase):
         """A transcript of edition 2 is drawn as the same entries without stamps are, but for what the caption says of
         time."""
         entries = made_transcript(random.Random(SEED), network_of(APART), 4)
-        for kind in OF_RUNS:
-            wanted, got = (
-                self.drawn(kind, APART, text=text_of(5, entries)).split("\n")
-                for text_of in (transcript_text, merged_text)
-            )
-            others = [line for line in got if line not in wanted]
-            self.same(f"{kind}: as many marks", len(got), len(wanted))
-            self.note(kind, len(others) == 1 and "Lamport's clock" in others[0], others[:3])
+        wanted, got = (
+            self.drawn("run", APART, text=text_of(5, entries)).split("\n")
+            for text_of in (transcript_text, merged_text)
+        )
+        others = [line for line in got if line not in wanted]
+        self.same("as many marks", len(got), len(wanted))
+        self.note("time alone", len(others) == 1 and "Lamport's clock" in others[0], others[:3])
 
     def test_places(self):
         network = re.sub(rb"(?m)^c at .*\n", b"", example("petersen"))

@@ -4,13 +4,11 @@ from itertools import product
 from unittest import mock
 
 from lab.definitions.nodes import last_pulse
-from lab.networks.named import network_bytes
 from lab.networks.network_text import network_of
 from lab.pictures import transcripts
 from tests.cases import example
 from tests.pictures.base import PictureCase, transcript
-from tests.pictures.counted import fields_of
-from tests.pictures.marks import SVG, ends, marks, parsed, texts, title, words
+from tests.pictures.marks import SVG, ends, marks, parsed, title, words
 from tests.programs.made_transcripts import entries_of
 
 WIRES = ("payload", "ack", "safe", "close")
@@ -31,24 +29,6 @@ def ticks_of(root):
     for (x, y), _ in map(ends, marks(root, "tick")):
         ticks.setdefault(y + 10, []).append(x)
     return dict(sorted(ticks.items()))
-
-
-def times_of(network, text):
-    """When each node begins each pulse, by its stamp; pulse 0 is there at the start."""
-    times = {(v, 0): 0 for v in network_of(network).neighbours}
-    for stamp, v, kind, *more in fields_of(text):
-        if kind == "pulse":
-            times[int(v), int(more[0])] = int(stamp)
-    return times
-
-
-def ticks_between(root, low, high):
-    """The vertex and the time of each tick, if the first one is at one time and the last one at another."""
-    ticks = [ends(mark)[0] for mark in marks(root, "tick")]
-    rows = {y: v for v, y in enumerate(sorted({y for _, y in ticks}), 1)}
-    left, right = min(ticks)[0], max(ticks)[0]
-    scale = (high - low) / (right - left)
-    return sorted((rows[y], low + round((x - left) * scale)) for x, y in ticks)
 
 
 class Runs(PictureCase):
@@ -91,43 +71,23 @@ class Runs(PictureCase):
 
     def test_runs(self):
         """The lower half of some pulses is the same for each run."""
-        for name in ("triangle", "petersen", "ring14"):
-            network, lower = network_bytes(name), set()
-            last = last_pulse(network_of(network))
-            for seed, some in ((1, (3, 7)), (4, (last - 3, last))):
-                label, text = f"{name}, made {seed}", transcript(network, seed, seed)
-                for window in (None, some):
-                    self.overview_rows(label, network, text, window)
-                options = pulses((2, 5)) + ["--only", "payload"]
-                if name != "ring14":
-                    picture = self.drawn("run", network, *options, text=text)
-                    lower.add(picture[picture.index('<g class="lower"') :])
-            self.same(f"lower halves of {name}", len(lower), int(name != "ring14"))
-
-    def overview_rows(self, name, network, text, window=None):
-        """All pulses, or some, and of more than 100 the first 40: their ticks and the next pulse's, as far apart as
-        their times; other pulses' ticks are grey."""
-        last, times = last_pulse(network_of(network)), times_of(network, text)
-        first, final = window or (0, last if last <= 100 else 39)
-        root = parsed(self.drawn("overview", network, *pulses(window), text=text))
-        row = self.rows_of(f"overview of {name}, pulses {first} to {final}")
-        wanted = sorted((v, times[v, p]) for v, p in times if first <= p <= final + 1)
-        low, high = (of(time for _, time in wanted) for of in (min, max))
-        row("ticks at their times", ticks_between(root, low, high), wanted)
-        others = [time for (_, p), time in times.items() if not first <= p <= final + 1]
-        grey = [time for time in others if low <= time <= high]
-        row("grey ticks", len(marks(root, "outside")), len(grey))
-        row("its title", f": pulses {first} to {final} of {last}," in texts(root)[0], True)
+        for name in ("triangle", "petersen"):
+            network, lower = example(name), set()
+            options = pulses((2, 5)) + ["--only", "payload"]
+            for seed in (1, 4):
+                picture = self.drawn("run", network, *options, text=transcript(network, seed, seed))
+                lower.add(picture[picture.index('<g class="lower"') :])
+            self.same(f"lower halves of {name}", len(lower), 1)
 
     def test_long(self):
         """Of a long text only what the pulses that are drawn depend on is read."""
         network = example("petersen")
         text = transcript(network, "long")
         with mock.patch.object(transcripts, "LONG_TEXT", 1000):
-            wanted = self.drawn("overview", network, "--pulses", "0..3", text=text)
+            wanted = self.drawn("run", network, "--pulses", "0..3", text=text)
             for pulse, is_read in ((2, True), (30, False)):
                 wrong = text.replace(b" safe %d\n" % pulse, b" safe 99\n", 1)
-                done = self.called("overview", network, "--pulses", "0..3", text=wrong)
+                done = self.called("run", network, "--pulses", "0..3", text=wrong)
                 refused = b"WrongWire" in done[2]
                 row = self.rows_of(f"a long text with a mistake in pulse {pulse}")
                 row("refused", refused, is_read)

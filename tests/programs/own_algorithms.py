@@ -507,7 +507,6 @@ class OwnAlgorithms(Case):
         for kind, name in (
             ("rounds", "petersen"),
             ("run", "chain6"),
-            ("overview", "chain6"),
             ("schedules", "two"),
             ("player", "petersen"),
         ):

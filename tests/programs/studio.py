@@ -525,12 +525,11 @@ class Answers(Server):
         asked = {"network": "p edge 2 1\ne 1 2\n", "policy": "random", "seed": "1"}
         two = {"program": "recolouring passes 2"}
         text = self.answer("run", **two, **asked)["answer"]["text"]
-        for kind in ("run", "overview"):
-            got = self.answer("picture", kind=kind, transcript=text, **two, **asked)
-            self.note(f"{kind} of two passes", "</svg>" in got.get("answer", ""), got)
-            self.note(f"{kind}: its last pulse", " of 22" in got.get("answer", ""), got)
-            got = self.answer("picture", kind=kind, transcript=text, program="recolouring", **asked)
-            self.note(f"{kind}: it is no run of one", "wrong" in got, got)
+        got = self.answer("picture", kind="run", transcript=text, **two, **asked)
+        self.note("run of two passes", "</svg>" in got.get("answer", ""), got)
+        self.note("its last pulse", " of 22" in got.get("answer", ""), got)
+        got = self.answer("picture", kind="run", transcript=text, program="recolouring", **asked)
+        self.note("it is no run of one", "wrong" in got, got)
 
 
 class Ends(Server):

@@ -54,7 +54,7 @@ DRAWN = (
 )
 # The kind and options, the text, the status, and what is said.
 REFUSED = (
-    *((kind, GREETED + more, 1, " line 9: ") for kind in ("run", "overview") for more, _ in ROWS),
+    *(("run", GREETED + more, 1, " line 9: ") for more, _ in ROWS),
     *((f"run --wrong --stopped {v}", GREETED, 1, f"two has no vertex {v}") for v in (0, 3)),
     ("run --stopped 1", GREETED, 2, "--stopped is for --wrong"),
     *(

@@ -246,9 +246,8 @@ const KINDS = {
   forests: "The forests, and each merge.",
   rounds: "A row for each node; of the colouring, for each node of each forest.",
   bits: "One node above its parent, digit by digit.", why: "What decided the channel of the chosen node.",
-  run: "Space and time of the run of the tab No clock.",
-  overview: "The pulses of that run."};
-const OF_RUN = ["run", "overview"], OF_NODE = ["why", "bits"];
+  run: "Space and time of the run of the tab No clock."};
+const OF_RUN = ["run"], OF_NODE = ["why", "bits"];
 // Those that draw any program.
 const OF_PROGRAM = ["results", "rounds", ...OF_RUN];
 let kind = "forests";
