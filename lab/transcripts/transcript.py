@@ -137,12 +137,6 @@ def command_line() -> ArgumentParser:
         )
         if name == "check":
             command.add_argument(
-                "--order",
-                action="store_true",
-                help="instead of that line print the transcript in the order found, in which it is a "
-                "run line by line; with stamps as it is",
-            )
-            command.add_argument(
                 "--json", action="store_true", help="write the verdict for a program"
             )
         add_output(command)
@@ -160,14 +154,12 @@ def texts_of(given: Namespace) -> tuple[Network, bytes, bytes, Program]:
     return net, data, bytes_at(given.transcript), program_asked("transcript", given, net)
 
 
-def checked(given: Namespace) -> str | bytes:
-    """The verdict on a transcript that is right, or its entries in order."""
+def checked(given: Namespace) -> str:
+    """The verdict on a transcript that is right."""
     net, _, text, program = texts_of(given)
-    made, said = whole_run(net, text, program)
+    _, said = whole_run(net, text, program)
     if why := wrong_end(net, program):
         raise WrongEntry(None, "NotRight", f"{said}, whose nodes find what isn't right: {why}")
-    if given.order:
-        return in_order(made, text)
     return (json.dumps({"right": True, "words": said}) if given.json else said) + "\n"
 
 

@@ -396,7 +396,7 @@ class Transcripts(Case):
             )
 
     def test_checker(self):
-        """The checker as a command: from a file, from standard input, in the order found, and refused."""
+        """The checker as a command: from a file, from standard input, and refused."""
         whole, wrong = EDGE_RUN, b"transcript 1 2\n1 take 2 close\n"
         network, transcript = self.file("edge.col", text(EDGE)), self.file("edge.transcript", whole)
         why = "node 1 takes close from 2, and 2 never puts it (is the text cut?)"
@@ -404,20 +404,11 @@ class Transcripts(Case):
         for words, data, wanted in (
             ([network, transcript], b"x", (0, EDGE_WHOLE.encode() + b"\n", b"")),
             ([network], whole, (0, EDGE_WHOLE.encode() + b"\n", b"")),
-            (["--order", network], wrong, (1, b"", f"line 2: LinkEmpty: {why}\n".encode())),
+            ([network], wrong, (1, b"", f"line 2: LinkEmpty: {why}\n".encode())),
             ([transcript + "x"], b"", (1, b"", nowhere)),
             ([network, transcript + "x"], b"", (1, b"", nowhere)),
         ):
             self.same(f"check {words}", check(*words, data=data), wanted)
-        status, ordered, fault = check("--order", network, data=whole)
-        self.same(
-            "an order that is a run", (status, fault, said_by(text(EDGE), ordered)), (0, b"", None)
-        )
-        self.same(
-            "its lines are the transcript's",
-            sorted(ordered.split(b"\n")),
-            sorted(whole.split(b"\n")),
-        )
         for data in (
             b"",
             whole,
@@ -437,7 +428,7 @@ class Transcripts(Case):
         for words, wanted in (
             ([], 2),
             ([network, transcript, "x"], 2),
-            (["--orders", network], 2),
+            (["--order", network], 2),
             ([self.folder], 1),
             ([network, self.folder], 1),
         ):
