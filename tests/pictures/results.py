@@ -1,4 +1,5 @@
-"""Pictures of what nodes have found, read off their marks; each result is worked by hand."""
+"""Pictures of what nodes have found, read off their marks; each result is worked by hand. Those of matching, of the
+independent set and of recolouring are stored."""
 from lab.pictures.palette import INK
 from tests.cases import example
 from tests.pictures.base import PictureCase
@@ -22,29 +23,6 @@ POINTING = (
 # By program and network: what the titles say of the nodes, what is beside them, which edges are chosen, how many of
 # them are arrows, which nodes are filled, and a sentence.
 DRAWN = [
-    # In the forest of a row node 3 is the parent of 2, and 2 of 1. The turn of 3 comes first, so node 1 is left over.
-    (
-        "matching",
-        ROW,
-        ["partner none", "partner 1", "partner 0"],
-        ["partner none"],
-        [(2, 3)],
-        0,
-        [],
-        "1 edge of 2.",
-    ),
-    ("independent-set", ROW, ["in", "out", "in"], ["out"], [], 0, [1, 3], "2 of 3 nodes."),
-    # The plan of a triangle is 2 3 1. Node 2 has the greatest channel and chooses first, then 1, then 3.
-    (
-        "recolouring",
-        TRIANGLE,
-        ["channel 2", "channel 1, was channel 3", "channel 3, was channel 1"],
-        ["1", "2 was 3", "3 was 1"],
-        [],
-        0,
-        [],
-        "3 channels.",
-    ),
     (
         "colouring",
         TRIANGLE,
@@ -89,7 +67,6 @@ class Results(PictureCase):
             row("arrows", len(tips), arrows)
             row("filled", [v for v, group in groups.items() if marks(group, "filled")], filled)
             row("said", said in text, True)
-            row("what filled means", "filled: `in`" in text, program == "independent-set")
 
     def test_the_player_draws_the_same(self):
         """Partners; and channels in the circles, of a program whose nodes have some."""

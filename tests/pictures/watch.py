@@ -1,12 +1,8 @@
-"""Tests of `forestlab picture watch`.
-
-What is read here is the page's table. It is compared with the transcript's own lines, counted: a node waits for the
-acknowledgements of the payloads that it put and hasn't had, and so on. Nothing comes from lab/pictures."""
+"""Tests of `forestlab picture watch`: what is read here is the page's table. What a node waits for, has and keeps after
+each entry is in the stored page."""
 from unittest import mock
 
-from lab.definitions.colours import colours
 from lab.definitions.nodes import last_pulse
-from lab.definitions.rounds import Rounds
 from lab.networks.network_text import network_of
 from lab.pictures import watch_page
 from lab.pictures.watch_page import Run, Steps, steps_of_text
@@ -14,19 +10,12 @@ from lab.schedules.policies import Policy
 from lab.schedules.simulate import Player, text_of_run
 from tests.cases import example
 from tests.pictures.base import PictureCase, transcript
-from tests.pictures.counted import fields_of, played
 from tests.pictures.marks import data_of
 
 
-def shown_by(look):
-    """A node's pulse, what it waits for, what it has, and what it keeps early, as the page has them."""
-    return [look["p"], look["w"], sorted(look["h"]), sorted(look["k"])]
-
-
-def known_by(node):
-    """The same by the lines of the run so far."""
-    has, early = node.payloads(node.pulse), node.early()
-    return [node.pulse, node.waits(), sorted(has), sorted(early)]
+def fields_of(text):
+    """Of each entry its stamp, its vertex, its kind and further words."""
+    return [line.split(" ") for line in text.decode().splitlines()[1:]]
 
 
 def stamps_of(wires):
@@ -40,33 +29,12 @@ class Watch(PictureCase):
         paths = [self.file(f"run{at}", text) for at, text in enumerate(texts)]
         return self.drawn("watch", example(name), *paths, *options)
 
-    def test_rows(self):
-        """The page's rows are the text's lines, and what a node is after each is what its lines say."""
-        for name in ("two", "triangle", "barred", "star", "petersen"):
-            text, net = transcript(example(name), f"watch {name}"), network_of(example(name))
-            page, lines = self.page(name, text), fields_of(text)
-            run, wrong, last, since = data_of(page)["runs"][0], [], {}, {}
-            nodes = played(example(name), text)
-            for (stamp, v, look, _), line, node in zip(run["rows"], lines, nodes):
-                look = run["looks"][look]
-                if [str(stamp), str(v)] != line[:2] or shown_by(look) != known_by(node):
-                    wrong.append((line, look))
-                last[v] = look
-                if look["c"]:
-                    since.setdefault(v, node.pulse)
-            row = self.rows_of(f"rows of {name}")
-            row("as many as lines", len(run["rows"]), len(lines))
-            row("those that are wrong", wrong[:3], [])
-            turns = Rounds(net).turns
-            row("since when it has a channel", since, {v: turns[0, v] for v in net.vertices})
-            plan = {v: (look["c"] - 1, bool(look["e"])) for v, look in last.items()}
-            row("the plan", plan, {v: (colour, True) for v, colour in colours(net).items()})
-            self.assertNotRegex(page, r"(src|href)=|https?://(?!www\.w3\.org/2000/svg)|@[A-Z]+@")
-
     def test_pulses(self):
         """Of some pulses what is before them comes from the rows that aren't shown."""
         text = transcript(example("petersen"), "pulses")
-        (whole,) = data_of(self.page("petersen", text))["runs"]
+        page = self.page("petersen", text)
+        self.assertNotRegex(page, r"(src|href)=|https?://(?!www\.w3\.org/2000/svg)|@[A-Z]+@")
+        (whole,) = data_of(page)["runs"]
         part = data_of(self.page("petersen", text, options=["--pulses", "3..5"]))
         (run,) = part["runs"]
         row = self.rows_of("pulses 3 to 5")
