@@ -120,19 +120,12 @@ def kept(function: Callable, program: Any) -> Any:
 
 
 class Rounds:
-    """The synchronous run of a program: `inbox[v, p]` of each vertex and pulse from 1, the last pulse, and what each
-    node has found after it."""
+    """The synchronous run of a program: `inbox[v, p]` of each vertex and pulse from 1."""
 
     def __init__(self, net, program=Colouring):
-        self.net, self.last = net, program.last_pulse(net)
         self.ports, self.inbox = net.neighbours, {}
-        for p, nodes, inboxes, _ in synchronous_pulses(net, program):
+        for p, _, inboxes, _ in synchronous_pulses(net, program):
             self.inbox |= {(v, p): inbox for v, inbox in inboxes.items()}
-        self.results = {v: node.result() for v, node in nodes.items()}
-        # Of the colouring alone.
-        self.colours = {
-            v: node.merged if program is Colouring else None for v, node in nodes.items()
-        }
 
     def fault(self, v, p, inbox):
         """How an inbox differs from the round's, at the first port at which it does; None if it doesn't."""

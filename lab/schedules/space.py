@@ -22,9 +22,8 @@ far neighbours are apart and how much a link holds don't.
                           wire (in words), place (how many wires of the link it overtakes); str(event) is its line for
                           `forestplay events`
     space.nodes(s)        {v: Node}: pulse, stage (asks, safe, ready, last, whole), waits (what it waits for, as (wire,
-                          w)), wrong (it has made a pulse with another inbox than the round's), colour (merged so far)
-                          and phase, of the colouring alone, and result (what it has found so far, in words)
-    space.wires(s)        {(v, w): [wire, ..]}, what each link holds, in words, the one that comes next first
+                          w)), wrong (it has made a pulse with another inbox than the round's), colour (merged so far,
+                          of the colouring alone) and result (what it has found so far, in words)
     space.ends            the states in which nothing is possible
     space.faults          {(s, e): what goes wrong in words}, e being the event's number in steps(s); and {(s, None):
                           words} for a state in which nothing is possible though some node waits, or of which the file
@@ -46,12 +45,11 @@ from collections import Counter, namedtuple
 
 from lab.definitions.nodes import Colouring, Refused, wire_words
 from lab.definitions.own_program import OwnNode, asks_for_messages, what_is_wrong
-from lab.definitions.rounds import phase_words
 from lab.schedules.ruled_node import Rounds, RuledNode
 
 REFUSED = 2**32 - 1
 
-Node = namedtuple("Node", "pulse stage waits wrong colour phase result")
+Node = namedtuple("Node", "pulse stage waits wrong colour result")
 # An event that is possible: its number, the node's value after it or None, the link that it takes from or None, what
 # that holds then, the wires that go on links by slot, and what goes wrong.
 Move = namedtuple("Move", "event value link rest gone fault")
@@ -71,11 +69,10 @@ class Numbered(list):
 
     def number(self, thing, key=None):
         """The number of a thing, which is new if no equal one, or none of its key, is there."""
-        key = thing if key is None else key
-        if key not in self.places:
-            self.places[key] = len(self)
+        found = self.places.setdefault(thing if key is None else key, len(self))
+        if found == len(self):
             self.append(thing)
-        return self.places[key]
+        return found
 
 
 class Space:
@@ -93,7 +90,7 @@ class Space:
         self.reduce, self.program = reduce, program
         self.asks_for_messages = issubclass(program, OwnNode) and asks_for_messages(program)
         self.rounds = Rounds(net, program)
-        self.vertices, self.ports, self.last = net.vertices, self.rounds.ports, self.rounds.last
+        self.vertices, self.ports, self.last = net.vertices, net.neighbours, program.last_pulse(net)
         self.links = [(v, w) for v in self.vertices for w in self.ports[v]]
         self.slot = {link: k for k, link in enumerate(self.links, len(self.vertices))}
         self.arriving = [[self.slot[w, v] for w in self.ports[v]] for v in self.vertices]
@@ -213,8 +210,8 @@ class Space:
         return self.contents.number(self.contents[c] + wires)
 
     def search(self, progress):
-        start = self.start()
-        self.states, self.number = [start], {start: 0}
+        self.states = Numbered()
+        self.states.number(self.start())
         self.depth, self.from_state, self.from_event = (
             array("I", [0]),
             array("I", [0]),
@@ -304,10 +301,8 @@ class Space:
         return sorted((v, w, (word.lower(), number)) for v, w, (word, number) in found)
 
     def reached(self, state, s, e):
-        t = self.number.get(state)
-        if t is None:
-            t = self.number[state] = len(self.states)
-            self.states.append(state)
+        t = self.states.number(state)
+        if t == len(self.depth):
             self.depth.append(self.depth[s] + 1)
             self.from_state.append(s)
             self.from_event.append(e)
@@ -353,9 +348,10 @@ class Space:
         }
 
     def node_words(self, v, node):
-        p, (stage, waits) = node.pulse_number, self.stage_of(v, node)
         colour = node.program.merged if self.program is Colouring else None
-        return Node(p, stage, waits, node.wrong, colour, self.phase(p), node.program.result())
+        return Node(
+            node.pulse_number, *self.stage_of(v, node), node.wrong, colour, node.program.result()
+        )
 
     def stage_of(self, v, node):
         """How far a node is in its pulse, and the wires for which it waits there."""
@@ -369,15 +365,6 @@ class Space:
             return "ready", []
         waits = [(f"safe {p}", w) for w, port in ports if not port.safe]
         return ("safe" if waits else "ready"), waits
-
-    def phase(self, p):
-        return phase_words(self.net, p) if self.program is Colouring else ""
-
-    def wires(self, s):
-        return {
-            link: [wire_words(wire) for wire in self.contents[self.states[s][k]]]
-            for link, k in self.slot.items()
-        }
 
     @property
     def farthest(self):
