@@ -1,70 +1,25 @@
 """Pictures of rounds without a rule: the words beside what `forestlab explore` prints, what is red in a merge beside
-the rounds of ruled_rounds.py (tests/programs/schedules.py compares these with nodes that hear and send), and the ends
-of other programs by hand. What else the smallest networks show is in the stored pictures."""
+the rounds of ruled_rounds.py (tests/programs/schedules.py compares these with nodes that hear and send), and in the
+ends of other programs by hand. What the smallest networks show is in the stored pictures."""
 from lab.definitions.rounds import Rounds
 from lab.networks.network_text import network_of
 from lab.schedules import rules
-from lab.schedules.ruled_rounds import RuledRounds, smallest_wrong
+from lab.schedules.ruled_rounds import RuledRounds
 from tests import TOP
 from tests.cases import example, said_by
 from tests.pictures.base import PictureCase, painter
-from tests.pictures.marks import SVG, centre, marks, nearest, pairs_joined, parsed, texts, titles
+from tests.pictures.marks import SVG, centre, marks, nearest, pairs_joined, parsed, texts
 
 LONG_ROW = b"p edge 9 5\ne 1 2\ne 2 3\ne 3 4\ne 4 5\ne 5 9\n"
-BOTH_IN = ["in", "in"], ["in", "out"], [(1, 2)], [1, 2]
-# By rule: the program, a network (none: its smallest), what its nodes have found without the rule and with all, and the
-# edges and the nodes that are red. tests/programs/sequels.py says why.
+# By rule: the program, a network (none: its smallest), and the edges and the nodes that are red.
+# tests/programs/sequels.py says why, and what the nodes find.
 ENDS = {
-    "partner": (
-        "matching",
-        None,
-        ["partner 0", "partner 1", "partner 0"],
-        ["partner none", "partner 1", "partner 0"],
-        [(1, 2)],
-        [1, 2],
-    ),
-    "last": (
-        "matching",
-        LONG_ROW,
-        [
-            "partner none",
-            "partner 0",
-            "partner 1",
-            "partner 0",
-            "partner 1",
-            *["partner none"] * 3,
-            "partner 0",
-        ],
-        [
-            "partner 0",
-            "partner 0",
-            "partner 1",
-            "partner 0",
-            "partner 1",
-            *["partner none"] * 3,
-            "partner 0",
-        ],
-        [(1, 2)],
-        [1, 2],
-    ),
-    "class": ("independent-set", None, *BOTH_IN),
-    "beside": ("independent-set", None, *BOTH_IN),
-    "bars": (
-        "recolouring",
-        None,
-        ["channel 1, was channel 2", "channel 2, was channel 1"],
-        ["channel 2", "channel 1"],
-        [],
-        [1],
-    ),
-    "anew": (
-        "recolouring",
-        None,
-        ["channel 1", "channel 1, was channel 2"],
-        ["channel 2, was channel 1", "channel 1, was channel 2"],
-        [(1, 2)],
-        [1, 2],
-    ),
+    "partner": ("matching", None, [(1, 2)], [1, 2]),
+    "last": ("matching", LONG_ROW, [(1, 2)], [1, 2]),
+    "class": ("independent-set", None, [(1, 2)], [1, 2]),
+    "beside": ("independent-set", None, [(1, 2)], [1, 2]),
+    "bars": ("recolouring", None, [], [1]),
+    "anew": ("recolouring", None, [(1, 2)], [1, 2]),
 }
 
 
@@ -90,9 +45,6 @@ class Broken(PictureCase):
         return root, *marks(root, "without"), *marks(root, "with")
 
     def test_broken(self):
-        for rule in rules.OF_ROUNDS:
-            rounds, *_ = smallest_wrong([rule])
-            self.rule_rows(f"without {rule}", rounds, "--without", rule)
         for name, rule in (("petersen", "pair"), ("disk100", "children"), ("queen5_5", "earlier")):
             rounds = RuledRounds(network_of(example(name)), [rule])
             words = [f"examples/{name}.col", "--without", rule]
@@ -116,13 +68,10 @@ class Broken(PictureCase):
         self.same(
             "all of them", set(ENDS), {rule for of in rules.OF_SEQUELS.values() for rule in of}
         )
-        for rule, (program, network, *found, edges, nodes) in ENDS.items():
+        for rule, (program, network, edges, nodes) in ENDS.items():
             net = [self.file("net.col", network)] if network else []
             root, *groups = self.picture_of("--program", program, "--without", rule, *net)
             row = self.rows_of(f"{program} without {rule}")
-            for group, ends in zip(groups, found):
-                wanted = [f"node {v}: {end}" for v, end in enumerate(ends, 1)]
-                row(f"what nodes find {group.get('class')}", titles(group, "vertex"), wanted)
             circles = [mark.find(f"{SVG}circle") for mark in marks(groups[0], "vertex")]
             places = {v: centre(circle) for v, circle in enumerate(circles, 1)}
             row("red edges", pairs_joined(root, "wrong", places), edges)
