@@ -147,7 +147,3 @@ class Rounds:
         return (v, f) in self.parents or any(
             self.parents.get((w, f)) == v for w in self.network.neighbours[v]
         )
-
-    def edges_of(self, f):
-        """(child, parent) of forest f, by child."""
-        return [(v, self.parents[v, f]) for v in self.network.vertices if (v, f) in self.parents]

@@ -4,10 +4,10 @@ on where the colouring ends, what its nodes have found at their last pulse. What
 from functools import partial
 
 from lab.definitions.nodes import Colouring
-from lab.pictures.forests_picture import PANEL, Panel
 from lab.pictures.map_picture import box_of, draw_map
 from lab.pictures.marks import colour_square
 from lab.pictures.palette import INK, PAPER, SOFT, WRONG
+from lab.pictures.panel import PANEL, Panel
 from lab.pictures.program_rounds import ProgramRounds
 from lab.pictures.results_picture import draw_chosen, found_in, legend
 from lab.pictures.rounds_picture import COLUMN, LEFT, ROW, SQUARE, draw_rows, place_of

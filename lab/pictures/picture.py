@@ -20,7 +20,6 @@ from lab.networks.plan_text import read_plan
 from lab.pictures import (
     bits_picture,
     broken_picture,
-    forests_picture,
     map_picture,
     plan_picture,
     player_page,
@@ -183,20 +182,13 @@ KINDS = {
         (400, "simulate, whose transcript ends in the same"),
         of_programs=True,
     ),
-    "forests": Kind(
-        "Each forest with its three colours, and the plan after each merge.",
-        "Of more than six forests the first six, or others with --forest.",
-        "forestlab picture forests examples/four_cycle.col > four_cycle-forests.svg",
-        lambda of, forests: forests_picture.draw(of.rounds(), forests),
-        (400, "a smaller network"),
-    ),
     "rounds": Kind(
         "The colours of each node in each forest, and when it chooses which channel.",
         "A row for each node of each forest: without --forest the first forests, as many as have 40 rows\n"
         "together, and with it at most 400 rows.",
         "forestlab picture rounds examples/triangle.col > triangle-rounds.svg",
         draw_rounds,
-        (100, "forests"),
+        (100, "player"),
         of_programs=True,
     ),
     "bits": Kind(
@@ -352,10 +344,9 @@ def add_rules(kind, name):
 
 def add_parts(kind, name):
     """The options that say which part of the rounds or of a run is drawn."""
-    if name in ("forests", "rounds"):
+    if name == "rounds":
         said = "these forests alone, or one, as 2, counted from 0"
         add_pulses(kind, "--forest", said, "forests")
-    if name == "rounds":
         add_pulses(kind, "--pulses", "these pulses alone, of another program")
     if name == "bits":
         kind.add_argument("--forest", type=int, metavar="F", help="one forest, counted from 0")

@@ -16,7 +16,7 @@ from lab.studio.asked import MOST_ROUNDS, network_asked, program_asked, rules_as
 from lab.studio.judges import plan_of, rounds_of, verdict_on
 from lab.wrong import Wrong
 
-KINDS = (*OF_PLAN, "results", "forests", "rounds", "bits", "why", *OF_RUN)
+KINDS = (*OF_PLAN, "results", "rounds", "bits", "why", *OF_RUN)
 
 
 def plan(asked, _tell):

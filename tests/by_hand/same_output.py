@@ -14,7 +14,7 @@ from concurrent.futures import ThreadPoolExecutor
 from itertools import product
 
 NETWORKS = "triangle path petersen drops barred chain6 four_cycle star queen5_5 two".split()
-PICTURES = "map plan results forests rounds bits why player schedules".split()
+PICTURES = "map plan results rounds bits why player schedules".split()
 OPTIONS = {"why": "--vertex 2"}
 PROGRAMS = "leader layers matching independent-set recolouring".split()
 POLICIES = "random slow-link slow-node fast-node bursts newest oldest".split()

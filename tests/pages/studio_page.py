@@ -36,7 +36,7 @@ SHOWN = (
     "example=petersen&tab=run&seed=7&at=8.5&other=newest.2",
     "example=triangle&tab=adversary&slow=1-3&dare=apart",
     "example=petersen&tab=check&plan=1_1",
-    "example=petersen&tab=pictures&kind=forests",
+    "example=petersen&tab=pictures&kind=rounds",
 )
 # The controls above the network and below it that are cut off, or lie over another one.
 UNSEEN = """(() => { const all = Array.from(document.querySelectorAll('nav button, .tools > *, #time > *'))

@@ -37,7 +37,7 @@ NETWORKS = examples() | {
     "barred petersen": BARRED,
 }
 # The kinds, each with the number of nodes up to which it is drawn here.
-OF_ROUNDS = {"map": 40, "plan": 100, "results": 40, "forests": 40, "rounds": 25}
+OF_ROUNDS = {"map": 40, "plan": 100, "results": 40, "rounds": 25}
 OF_RUNS = {"run": 10}
 OTHERS = (
     ("schedules", "two"),
@@ -90,7 +90,7 @@ class Layout(PictureCase):
         for name, network in NETWORKS.items():
             nodes = len(network_of(network).neighbours)
             for kind, most in (OF_ROUNDS | OF_RUNS).items():
-                if nodes <= most and not (nodes == 1 and kind in ("forests", "rounds")):
+                if nodes <= most and not (nodes == 1 and kind == "rounds"):
                     self.layout_rows(kind, name)
         for kind, name, *options in OTHERS:
             self.layout_rows(kind, name, *options)

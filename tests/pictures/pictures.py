@@ -27,7 +27,6 @@ FILES = {
 SAID = [
     ("--help", b"", "forestlab picture plan - <"),
     ("plan - --plan {plan}", example("petersen"), "Channel plan of this network"),
-    ("forests queen5_5 --forest 4..9", b"", "Here forests 4 to 9 of 0 to 11"),
     ("bits petersen --vertex 6 --forest 1", b"", "node 6 and its parent 9 in forest 1"),
     ("schedules star4", b"", "Here are those after 0 to 23 of 336 events."),
     ("results drops --program recolouring", b"", "2 channels; before there were 3."),
@@ -55,7 +54,7 @@ REFUSED = [
     ("run x --pulses 3..", b"", 2, "a number, or two, as 3..5"),
     ("run x --only hello", b"", 2, "some of payload,ack,safe,"),
     ("bits x --vertex y", b"", 2, "invalid int value"),
-    ("forests x --forest a", b"", 2, "a number"),
+    ("rounds x --forest a", b"", 2, "a number"),
     ("broken", b"", 2, "--without"),
     ("broken x --without safes", b"", 2, "some of "),
     ("schedules two --without safe", b"", 2, "safes"),
@@ -83,17 +82,10 @@ REFUSED = [
     ("schedules two --columns 3..2", b"", 1, "0 to 104"),
     ("schedules star4 --columns 0..109", b"", 1, "at most 108 events"),
     ("schedules star4 --columns 0..108", b"", 1, "use fewer events"),
-    *((f"{kind} {{one}}", b"", 1, "has no edge") for kind in ("forests", "rounds", "bits")),
+    *((f"{kind} {{one}}", b"", 1, "has no edge") for kind in ("rounds", "bits")),
     ("why {one} --vertex 1", b"", 1, "no message decided"),
     ("why triangle --vertex 4", b"", 1, "has no vertex 4"),
-    *(
-        (f"forests queen5_5 --forest {asked}", b"", 1, said)
-        for asked, said in (
-            ("0..6", "at most 6 forests side by side"),
-            ("3..12", "forests 0 to 11"),
-            ("12..12", "forests 0 to 11"),
-        )
-    ),
+    *((f"rounds queen5_5 --forest {asked}", b"", 1, "0 to 11") for asked in ("3..12", "12..12")),
     ("run star12 --transcript - --pulses 1..2", b"transcript 1 12\n", 1, "no node"),
     ("plan - --plan -", b"", 1, "standard input has one text"),
     ("watch {net} a b c", b"", 1, "a page has room for two runs"),

@@ -17,7 +17,7 @@ CALLS = {
     "channels": ["1", "6", "11"],
     "explore": [os.path.join(TOP, "examples", "two.col")],
     "network": ["path", "3"],
-    "picture": ["forests", TRIANGLE],
+    "picture": ["rounds", TRIANGLE],
 }
 
 

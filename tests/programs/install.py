@@ -23,7 +23,7 @@ from tests.tools import need
 LIMIT = 600
 NAMES = [*PROGRAMS, "forestlab"]
 # Stored pictures that version 0.5 drew, of kinds that there are no more.
-OF_NO_KIND = {"petersen-automaton.svg", "petersen-tally.svg"}
+OF_NO_KIND = {"petersen-automaton.svg", "petersen-tally.svg", "four_cycle-forests.svg"}
 BUILD = [sys.executable, os.path.join(TOP, "build")]
 ENVIRONMENT = dict(os.environ, COLUMNS="80")
 

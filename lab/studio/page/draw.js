@@ -243,14 +243,13 @@ by("file").onchange = () => { if (by("file").files[0]) openFile(by("file").files
 // The tab Pictures: what the command `picture` draws.
 const KINDS = {
   plan: "The plan.", results: "What the nodes have found at the end.",
-  forests: "The forests, and each merge.",
   rounds: "A row for each node; of the colouring, for each node of each forest.",
   bits: "One node above its parent, digit by digit.", why: "What decided the channel of the chosen node.",
   run: "Space and time of the run of the tab No clock."};
 const OF_RUN = ["run"], OF_NODE = ["why", "bits"];
 // Those that draw any program.
 const OF_PROGRAM = ["results", "rounds", ...OF_RUN];
-let kind = "forests";
+let kind = "rounds";
 function askPicture() {
   all("#kinds button").forEach(one => one.setAttribute("aria-pressed", one.dataset.kind === kind));
   by("kindsaid").textContent = KINDS[kind];

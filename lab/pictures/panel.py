@@ -1,15 +1,11 @@
-"""The forest sheet: one column a forest; above, its edges and three colours; below, the channels once it is merged."""
-from lab.definitions.rounds import LAST_COLOUR
+"""A small map of a network: a forest's edges and colours, or the channels once some forests are merged."""
 from lab.pictures.marks import LARGE, Map, alone_chip, by_size, channel_circle, colour_square
 from lab.pictures.palette import INK, PAPER, WRONG
 from lab.pictures.places import OF_SQUARES, box_height, places_of
-from lab.pictures.rounds_picture import left_out_of
-from lab.pictures.svg import Svg, text_width
-from lab.words import counted
-from lab.wrong import at_most
+from lab.pictures.svg import text_width
 
-MOST_COLUMNS, PANEL, SPACE, LEFT, TOP = 6, 250, 26, 20, 140
-FAINT, BEFORE, LEGEND = "#E6E6E6", "#9A9A9A", 640
+PANEL = 250
+FAINT, BEFORE = "#E6E6E6", "#9A9A9A"
 
 
 class Panel(Map):
@@ -69,68 +65,3 @@ def style_of(forest, last, now):
     if forest > last:
         return FAINT, 1
     return (INK, 1.8) if forest == now else (BEFORE, 1.3)
-
-
-def merged_words(forest, forests):
-    if forest == forests - 1:
-        return "all merged: the plan"
-    return f"merged: forests 0 to {forest}" if forest else "merged: forest 0"
-
-
-def draw(rounds, asked=None):
-    """The forests A to B that are asked for; else the first ones, as many as have room beside each other."""
-    network, forests = rounds.network, list(rounds.asked_forests(asked, MOST_COLUMNS))
-    at_most(
-        "forests", len(forests), "forests side by side", MOST_COLUMNS, "--forest A..B with fewer"
-    )
-    panel, three, lines = (
-        Panel(network),
-        rounds.pulses[LAST_COLOUR].colours,
-        left_out_of(rounds, forests),
-    )
-    upper = TOP + 18 * len(lines)
-    lower, width = upper + panel.height + 54, len(forests) * (PANEL + SPACE) - SPACE + 2 * LEFT
-    svg = Svg(max(width, LEGEND), lower + panel.height + 22, f"Forests of {network.name}")
-    parted = f"{counted(len(network.edges), 'edge')} in {counted(rounds.forests, 'forest')}"
-    svg.heading(f"{network.name}: {parted}; merged, they are the plan", *lines)
-    legend(svg, 52 + 18 * len(lines))
-    for column, forest in enumerate(forests):
-        left = (svg.width - width) / 2 + LEFT + column * (PANEL + SPACE)
-        parents = dict(rounds.edges_of(forest))
-        title(svg, left, upper, f"forest {forest}", counted(len(parents), "edge"))
-        with svg.group("forest", f"forest {forest}"):
-            panel.colours(
-                svg, left, upper, parents, {v: three[v, forest] for v in network.vertices}
-            )
-        title(svg, left, lower, merged_words(forest, rounds.forests))
-        with svg.group("merged", f"after forest {forest}"):
-            panel.channels(
-                svg, left, lower, rounds.forest_of, forest, forest, rounds.merged[forest + 1]
-            )
-    return svg.document()
-
-
-def legend(svg, y):
-    for colour in range(3):
-        colour_square(svg, 28 + 18 * colour, y, 7.5, colour, mark="legend")
-    channel_circle(svg, 302, y, 8, 1, mark="legend")
-    svg.arrow(492, y, 516, y, INK, 1.8, 8)
-    alone_chip(svg, 28, y + 22, 6, 1)
-    for x, colour in ((292, INK), (412, BEFORE), (540, FAINT)):
-        svg.line(x, y + 22, x + 18, y + 22, colour, 1.8)
-    for x, down, words in (
-        (80, 0, "square: the colour in this forest"),
-        (316, 0, "circle: the channel so far"),
-        (524, 0, "to the parent"),
-        (80, 22, "no edge in this forest"),
-        (316, 22, "merged now"),
-        (436, 22, "merged before"),
-        (564, 22, "other edges"),
-    ):
-        svg.note(x, y + down + 4, words)
-
-
-def title(svg, left, top, text, under=None):
-    svg.label(left + PANEL / 2, top - 26, text, 13)
-    if under:
-        svg.note(left + PANEL / 2, top - 11, under, 10.5, "middle")
