@@ -1,11 +1,8 @@
-"""The rounds of any program as pictures need them, pulse by pulse: by its definition (lab/definitions/programs.py), or
-of a text (docs/claim/FORMATS.md) that is, line by line, the rounds of its network."""
-from itertools import zip_longest
-
+"""The rounds of any program as pictures need them, pulse by pulse, by its definition (lab/definitions/programs.py)."""
 from lab.definitions.nodes import Colouring, synchronous_pulses
 from lab.definitions.own_program import OwnNode, check_repeats, what_is_wrong
 from lab.definitions.rounds import Pulse, Rounds, puts_of
-from lab.wrong import Wrong, wrong_line
+from lab.wrong import Wrong
 
 # Rounds of more steps of nodes than this take minutes to work out.
 MOST_STEPS = 2_000_000
@@ -62,13 +59,3 @@ def least_wires(network, program):
 def is_own(program):
     """Whether no proved program runs a program: it is from a file."""
     return issubclass(program, OwnNode)
-
-
-def read_rounds(text, name, network, program):
-    """The rounds of any program, if the text has them line by line, or its first line that is wrong."""
-    rounds, lines = rounds_of(network, program), text.removesuffix("\n").split("\n")
-    for number, (line, due) in enumerate(zip_longest(lines, rounds.lines()), 1):
-        if line != due:
-            said = ("no line" if one is None else f"`{one[:60]}`" for one in (line, due))
-            raise wrong_line(name, number, f", and the rounds of {network.name} have ".join(said))
-    return rounds

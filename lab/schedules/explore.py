@@ -6,6 +6,7 @@ import json
 import sys
 from collections import Counter
 from collections.abc import Collection, Iterator
+from functools import partial
 from typing import NamedTuple
 
 from lab.definitions.nodes import Program
@@ -91,12 +92,6 @@ def rules_of(text: str) -> list[str]:
     return list(dict.fromkeys(words))
 
 
-def networks_of(text: str) -> int:
-    if not text.isascii() or not text.isdigit() or not 1 <= int(text) <= MOST_NETWORKS:
-        raise argparse.ArgumentTypeError(f"a number from 1 to {MOST_NETWORKS:,}")
-    return int(text)
-
-
 def command_line() -> ArgumentParser:
     words = parser_of("explore", "[NETWORK] [options]", HELP, MORE_HELP)
     words.add_argument(
@@ -132,7 +127,7 @@ def command_line() -> ArgumentParser:
     words.add_argument("--json", action="store_true", help="write what was found for a program")
     words.add_argument(
         "--networks",
-        type=networks_of,
+        type=partial(count, most=MOST_NETWORKS),
         metavar="N",
         help="play the rounds of a file on N networks by chance, and ask its `right`",
     )

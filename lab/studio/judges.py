@@ -3,15 +3,16 @@ Both give the same; `OPENED["is_proved"]` says which it is."""
 import re
 
 from lab.definitions.colours import plan_text
-from lab.definitions.nodes import Colouring, NetState, Refused, entry_words, make
+from lab.definitions.nodes import NetState, Refused, entry_words, make
 from lab.definitions.programs import program_words
 from lab.networks.plan_text import clashes
 from lab.definitions.rounds import Rounds
-from lab.pictures.program_rounds import is_own, read_rounds
+from lab.pictures.program_rounds import is_own
 from lab.programs import called
 from lab.studio.asked import OPENED
 from lab.transcripts.check import whole_run
 from lab.transcripts.reading import Wrong as WrongEntry, read
+from lab.words import as_text
 from lab.wrong import Wrong
 
 MOST_TEXT = 64 << 20
@@ -43,12 +44,11 @@ def plan_of(network, text):
 
 
 def rounds_of(network, text):
-    """The rounds of the colouring."""
-    if OPENED["is_proved"]:
-        return read_rounds(
-            text_from("forestplay", ["rounds"], text), "the rounds", network, Colouring
-        )
-    return Rounds(network)
+    """The rounds of the colouring, which those of the proved program have to be."""
+    rounds = Rounds(network)
+    if OPENED["is_proved"] and text_from("forestplay", ["rounds"], text) != as_text(rounds.lines()):
+        raise Wrong("the rounds of forestplay aren't those of the definitions")
+    return rounds
 
 
 def verdict_on(network, text, plan):

@@ -440,7 +440,7 @@ class OwnAlgorithms(Case):
         for words, status, said in (
             (["--networks", "9", "--program", self.file("flood.py", FLOOD)], 1, "has none"),
             (["two", "--networks", "9", "--program", path], 2, "without NETWORK"),
-            (["--networks", "0", "--program", path], 2, "a number from 1 to"),
+            (["--networks", "0", "--program", path], 2, "no number from 1 to"),
             (["two", "--connected"], 2, "--connected is for --networks"),
         ):
             self.refusal(" ".join(words[:2]), said_by("explore", *words), status, said)
