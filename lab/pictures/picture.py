@@ -263,8 +263,8 @@ KINDS = {
 }
 
 
-# The kinds that draw a text of a form, which an option may name.
-OF_PLAN, OF_RUN = ("plan",), ("run",)
+# The form of the text that a kind draws, which an option of this name may have.
+FORM = {"plan": "plan", "run": "transcript"}
 
 HELP = (
     "Draws plans, rounds and runs, as SVG on standard output; the last two kinds draw\n"
@@ -303,16 +303,13 @@ def numbers(text):
 
 def add_texts(kind, name):
     """The texts that a kind draws, and what a run is to be of."""
-    for kinds, form in ((OF_PLAN, "plan"), (OF_RUN, "transcript")):
-        if name in kinds:
-            said = f"a stored {form} text, or - for standard input"
-            kind.add_argument(
-                f"--{form}", dest="stored", action="append", metavar="FILE", help=said
-            )
+    if form := FORM.get(name):
+        said = f"a stored {form} text, or - for standard input"
+        kind.add_argument(f"--{form}", dest="stored", action="append", metavar="FILE", help=said)
     if name == "watch":
         said = "a stored run, or two of them"
         kind.add_argument("stored", nargs="*", metavar="TRANSCRIPT", help=said)
-    if name in (*OF_RUN, "watch"):
+    if name in ("run", "watch"):
         add_pulses(kind, "--pulses", "these pulses alone")
 
 

@@ -17,7 +17,7 @@ from typing import Any, NamedTuple
 from lab.definitions.colours import at_parent, bit, first_colours, merged, other_than, shift
 from lab.definitions.independent_set import IndependentSet
 from lab.definitions.matching import Matching
-from lab.definitions.nodes import Colouring, Program, synchronous_run
+from lab.definitions.nodes import DROPPED, Colouring, Program, synchronous_run
 from lab.definitions.recolouring import Recolouring
 from lab.network import Edge, Network
 from lab.schedules.rules import OF_FORESTS
@@ -68,9 +68,7 @@ class RuledRounds:
             + [at_parent(net, f, c, v)] * ("parent" not in without)
             for v in c
         }
-        return {
-            v: other_than(*taken[v]) if c[v] == {8: 5, 10: 4, 12: 3}[pulse] else c[v] for v in c
-        }
+        return {v: other_than(*taken[v]) if c[v] == DROPPED[pulse] else c[v] for v in c}
 
     def next_merged(self, f):
         net, old = self.net, self.merged[-1]

@@ -8,7 +8,7 @@ from lab.networks.plan_text import read_plan
 from lab.pictures import broken_picture, player_page, why_picture
 from lab.definitions.rounds import Rounds
 from lab.pictures.pages import net_of
-from lab.pictures.picture import OF_PLAN, OF_RUN, Source, Text, drawing
+from lab.pictures.picture import Source, Text, drawing
 from lab.pictures.program_rounds import ProgramRounds
 from lab.schedules.ruled_rounds import ruled, smallest_wrong
 from lab.schedules.rules import OF_PROGRAMS
@@ -16,7 +16,7 @@ from lab.studio.asked import MOST_ROUNDS, network_asked, program_asked, rules_as
 from lab.studio.judges import plan_of, rounds_of, verdict_on
 from lab.wrong import Wrong
 
-KINDS = (*OF_PLAN, "results", "rounds", "bits", "why", *OF_RUN)
+KINDS = "plan", "results", "rounds", "bits", "why", "run"
 
 
 def plan(asked, _tell):
@@ -125,9 +125,9 @@ def picture(asked, _tell):
     kind, network, texts = asked["kind"], network_asked(asked), []
     if kind not in KINDS:
         raise Wrong(f"there is no picture {kind}")
-    if kind in OF_PLAN:
+    if kind == "plan":
         texts = [Text("the plan", plan_of(network, asked["network"]))]
-    if kind in OF_RUN:
+    if kind == "run":
         texts = [Text("the run", str(asked["transcript"]))]
     pulses = tuple(int(pulse) for pulse in asked.get("pulses") or ()) or None
     return drawing(

@@ -5,6 +5,7 @@ import random
 from lab.definitions.colours import plan_text
 from lab.networks.network_text import network_of
 from lab.pictures import picture
+from lab.pictures.picture import FORM
 from tests.cases import Case, example, in_process
 from tests.programs.made_transcripts import made_transcript, merged_text
 
@@ -20,8 +21,6 @@ BARRED = (
         for channel in bars
     )
 )
-# The form of the text that a kind draws.
-FORM = {"plan": "plan", "run": "transcript"}
 
 
 def painter(*words, data=b""):

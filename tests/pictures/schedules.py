@@ -8,7 +8,7 @@ from lab.networks.network_text import network_of
 from lab.schedules.space import Space
 from tests.cases import example
 from tests.pictures.base import PictureCase
-from tests.pictures.marks import SVG, centre, ends, marks, parsed, texts, title
+from tests.pictures.marks import SVG, centre, ends, marks, parsed, title
 
 NETWORKS = {name: example(name) for name in ("two", "path", "triangle")}
 
@@ -16,10 +16,6 @@ NETWORKS = {name: example(name) for name in ("two", "path", "triangle")}
 @functools.cache
 def space_of(name, without=(), beyond=False):
     return Space(network_of(NETWORKS[name]), without, beyond=beyond)
-
-
-def plain(words):
-    return words.replace("`", "").replace("‘", "").replace("’", "")
 
 
 def columns_of(root, mark):
@@ -96,11 +92,3 @@ class Schedules(PictureCase):
         row("the bold run is one", gaps_in(bold), [])
         if not without:
             row("as long as the window", len(bold), high - low)
-        elif not window:
-            self.broken_rows(row, space, root, bold, columns)
-
-    def broken_rows(self, row, space, root, bold, columns):
-        (s, e), said = next(iter(space.faults.items()))
-        last = space.depth[s] + (e is not None)
-        row("a shortest run is bold", (len(bold), bold[-1][1][0]), (last, columns[-1]))
-        row("what goes wrong", plain(said) in plain(" ".join(texts(root))), True)
