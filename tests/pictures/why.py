@@ -1,22 +1,17 @@
 """Tests of `forestlab picture why`.
 
-The channel of the triangle's node 2 is worked by hand, as in docs/learn/TUTORIAL.md. Of other networks: each message
-that is named is one of the rounds by the definitions; and a colour stays the same if identifiers on which it is said
-not to depend change."""
+The channel of the triangle's node 2 is worked by hand, as in docs/learn/TUTORIAL.md. Of other networks: a colour stays
+the same if identifiers on which it is said not to depend change."""
 import random
-import re
-from collections import namedtuple
-from itertools import pairwise
 
 from lab.definitions.colours import three
-from lab.definitions.rounds import Rounds, rounds_text
+from lab.definitions.rounds import Rounds
 from lab.network import Network
 from lab.networks.network_text import network_of
 from lab.pictures.why_picture import Cone
 from tests.cases import example
 from tests.pictures.base import PictureCase
 from tests.pictures.marks import marks, parsed
-from tests.programs.plain_networks import reached
 
 HAND = [
     "why node 2 of net has channel 3",
@@ -31,40 +26,20 @@ HAND = [
     # Node 2 is a root in forest 1: no parent sent it a colour, and its own identifier is one of the two.
     "forest 1, node 2, a root, pulses 2 to 12: 2 0 0 0 0 1 1 0 0 1 1",
 ]
-
-
-# In these pulses a colour is dropped by who has it; in all others after the first a child needs its parent's.
-DROPS = (8, 10, 12)
-
-
-# A message of the cone: who told whom what in which pulse, in a forest or in its merge.
-TOLD = r"^(\d+) told (\d+) (colour|chosen) (\d+) in pulse (\d+), in (the merge of )?forest (\d+)$"
-Told = namedtuple("Told", "v w kind number pulse merge forest")
-
-
-def numbers(text):
-    return [int(digits) for digits in re.findall(r"\d+", text)]
-
-
-def is_message(told, net, text):
-    """Whether a message is one of the rounds: a choice in a merge, or the colour of a parent."""
-    v, w, kind, number, pulse, merge, forest = told
-    is_sent = f"{v} put {w} payload {pulse} {kind} {number}" in text
-    if merge:
-        return is_sent and kind == "chosen"
-    return is_sent and kind == "colour" and net.parent(int(forest), int(w)) == int(v)
-
-
-def missing(said, told):
-    """(node, pulse) where a child's colour changes and its parent hasn't told it any."""
-    heard = {(it.w, int(it.pulse), it.forest) for it in told if it.kind == "colour"}
-    found = []
-    for f, v, row in re.findall("forest (.*), node (.*), parent .*, pulses .*: (.*)", said):
-        for p, (old, new) in enumerate(pairwise(row.split(" ")), 3):
-            is_needed = new != "." and (p not in DROPS or new != old)
-            if is_needed and (v, p - 1, f) not in heard:
-                found.append((v, p))
-    return found
+# In forest 0 node 1 is below 2, and 2 below 3; in forest 1 node 1 is below 3. After pulse 8 node 3 has colour 0 in
+# forest 0, after pulse 10 nodes 1, 2 and 3 have 1, 0 and 1 there and 0, 0 and 1 in forest 1, and each takes its
+# parent's colour in pulse 11. In the merges nodes 1 and 3 choose 0 in pulse 13, 3 chooses 0 in pulse 22, and 1
+# chooses 1 in pulse 25.
+MESSAGES = [
+    "3 told 2 colour 0 in pulse 8, in forest 0",
+    "2 told 1 colour 0 in pulse 10, in forest 0",
+    "3 told 1 colour 1 in pulse 10, in forest 1",
+    "3 told 2 colour 1 in pulse 10, in forest 0",
+    "1 told 2 chosen 0 in pulse 13, in the merge of forest 0",
+    "3 told 1 chosen 0 in pulse 22, in the merge of forest 1",
+    "3 told 2 chosen 0 in pulse 22, in the merge of forest 1",
+    "1 told 2 chosen 1 in pulse 25, in the merge of forest 1",
+]
 
 
 class Why(PictureCase):
@@ -78,38 +53,23 @@ class Why(PictureCase):
             (lines[:5], [line for line in HAND[5:] if line not in lines]),
             (HAND[:5], []),
         )
+        self.same("its messages", lines[-10:-2], MESSAGES)
         # In 1 - 2 - 3 node 3 chooses first: its colour is 0 and nobody has taken anything.
         said = self.said("path", 3)
         self.note(
             "the row", "chooses colour 0, channel 1\n" in said and "is taken" not in said, said
         )
 
-    def test_messages(self):
-        """Each message of the cone has a line, by pulse, which is a message of the rounds; a colour is told along an
-        edge of its forest, from a parent to its child. Of each choice there is why each lower channel wasn't free.
-        """
-        for name in ("path", "triangle", "four_cycle", "barred", "petersen", "drops", "long_names"):
-            net = network_of(example(name))
-            text = set(rounds_text(net).decode().splitlines())
-            for vertex in net.vertices:
-                self.message_rows(
-                    f"{name}, node {vertex}", net, text, vertex, self.said(name, vertex)
-                )
-
-    def message_rows(self, name, net, text, vertex, said):
-        row, told = self.rows_of(name), [Told(*words) for words in re.findall(TOLD, said, re.M)]
-        row("those that are none", [it for it in told if not is_message(it, net, text)], [])
-        row("those that are missing", missing(said, told), [])
-        row("as many as are counted", len(told), numbers(said)[2])
-        pulses = [int(it.pulse) for it in told]
-        row("by pulse", pulses, sorted(pulses))
-        choices = re.findall(r"it chooses colour (\d+), .*\n((?:  .*\n)*)", said)
-        taken = [numbers(" ".join(re.findall(r"  channel \d+", lower))) for _, lower in choices]
-        row("lower channels", taken, [[*range(1, int(colour) + 1)] for colour, _ in choices])
-        names, far = numbers(re.search(r"decided it: (.*)", said)[1]), reached(net, vertex)
-        most = max(far[v] for v in names)
-        farthest = numbers(re.search("The farthest, .*", said)[0])
-        row("the farthest", farthest, [most, *(v for v in names if far[v] == most)])
+    def test_drops(self):
+        """Who drops a colour needs its own before the shift, and its parent's; nobody else does in these pulses."""
+        rounds = Rounds(network_of(example("drops")))
+        for (v, f), parent in rounds.parents.items():
+            for p, dropped in ((8, 5), (10, 4), (12, 3)):
+                has_dropped = rounds.pulses[p - 1].colours[v, f] == dropped
+                own, above = ("colour", v, f, p - 1), ("colour", parent, f, p - 1)
+                wanted = {own, ("colour", v, f, p - 2), above} if has_dropped else {own}
+                causes = set(Cone(rounds, v).causes_of("colour", v, f, p))
+                self.same(f"node {v} in forest {f}, pulse {p}", causes, wanted)
 
     def test_other_identifiers(self):
         """A colour of three in a forest doesn't change if the identifiers change on which it isn't said to depend, as
