@@ -8,3 +8,4 @@ pub mod WordsLaws
 pub mod SpreadLaws
 pub mod Reach
 pub mod Rests
+pub mod Turns

@@ -1,15 +1,15 @@
 //! One pulse of all nodes after another: what a node sends goes into the inboxes of the next pulse at once, and a node
 //! that rests and to which nothing came is passed over.
 
-ghost use Rattle.std.specs.Prelude.{◌≡◌, ◌<◌, ◌≤◌, ◌+◌, ◌^◌, ℕ, [], IfOk, false, length, slice_index_or, suc};
+ghost use Rattle.std.specs.Prelude.{◌≡◌, ◌<◌, ◌≤◌, ◌+◌, ◌^◌, ℕ, IfOk, false, length, slice_index_or, suc};
 ghost use Rattle.interference.specs.Net.{IsNetwork, IsVertex, count_of};
 ghost use Rattle.node_api.specs.Boxes.{nothing, unread};
 ghost use Rattle.node_api.specs.Program.{RestsUntil, own_of};
-ghost use Rattle.node_api.specs.Run.{after, inbox_at, state_at};
-ghost use Rattle.sync_rounds.specs.Delivery.{Delivered};
+ghost use Rattle.node_api.specs.Run.{after, state_at};
 ghost use Rattle.sync_rounds.specs.Lists.{Lists, empty_inbox};
-ghost use Rattle.sync_rounds.specs.Rests.{HasOutboxes, IsLoud, sent_by};
+ghost use Rattle.sync_rounds.specs.Rests.{IsLoud};
 ghost use Rattle.sync_rounds.specs.Rounds.{AreAt};
+ghost use Rattle.sync_rounds.specs.Turns.{AreServed, IsDue};
 
 use crate::boxes::{inboxes_of, outboxes_of};
 use crate::delivery::send_out;
@@ -77,11 +77,9 @@ fn greet<P: NodeProgram>(
 ) -> bool
     requires vertex { IsVertex net.now v }
     requires node { node.old ≡ P.program.made (own_of net.now v) }
-    requires outs { HasOutboxes net.now outs.old }
-    requires before { Delivered net.now (sent_by P.program net.now 0) v [] later.old }
+    requires served { AreServed P.program net.now 0 v outs.old later.old }
     ensures node { node.new ≡ state_at P.program net.now 0 v }
-    ensures outs { HasOutboxes net.now outs.new }
-    ensures after { Delivered net.now (sent_by P.program net.now 0) (v + 1) [] later.new }
+    ensures served { AreServed P.program net.now 0 (v + 1) outs.new later.new }
     ensures sent { IsLoud P.program net.now 0 v result }
 {
     let out = &mut outs[net.degree(v) as usize];
@@ -146,16 +144,12 @@ fn turn<P: NodeProgram>(
     outs: &mut [Outbox<P::Payload>],
     later: &mut [Inbox<P::Payload>],
 ) -> AfterPulse
-    requires vertex { IsVertex net.now v }
     requires done { done + 1 < 2 ^ 32 }
-    requires node { node.old ≡ state_at P.program net.now done v }
-    requires inbox { inbox.old ≡ unread (inbox_at P.program net.now (suc done) v) }
-    requires outs { HasOutboxes net.now outs.old }
-    requires before { Delivered net.now (sent_by P.program net.now (suc done)) v [] later.old }
+    requires due { IsDue P.program net.now done v node.old inbox.old }
+    requires served { AreServed P.program net.now (suc done) v outs.old later.old }
     ensures node { node.new ≡ state_at P.program net.now (suc done) v }
     ensures inbox { inbox.new ≡ empty_inbox net.now v }
-    ensures outs { HasOutboxes net.now outs.new }
-    ensures after { Delivered net.now (sent_by P.program net.now (suc done)) (v + 1) [] later.new }
+    ensures served { AreServed P.program net.now (suc done) (v + 1) outs.new later.new }
     ensures rests { RestsUntil P.program (state_at P.program net.now (suc done) v) (suc done) result.rests_until }
     ensures sent { IsLoud P.program net.now (suc done) v result.sent }
     ensures quiet { result.sent ≡ false → later.new ≡ later.old }

@@ -10,7 +10,7 @@ use Rattle.sync_rounds.proofs.engine.greet.Goals as goal
 
 pub bounds-outs-degree : goal.bounds-outs-degree
 bounds-outs-degree g c =
-    subst (λ (d : ℕ). d < length c.args.outs.now) (sym c.degree.ensures.value) (c.requires.outs.within c.args.v c.requires.vertex)
+    subst (λ (d : ℕ). d < length c.args.outs.now) (sym c.degree.ensures.value) (c.requires.served.outs.within c.args.v c.requires.vertex)
 
 pub init-requires : goal.init-requires
 init-requires g c =
@@ -18,7 +18,7 @@ init-requires g c =
     let ports : degree_of c.args.net.now c.args.v ≡ m.program.ports c.args.node.now =
     sym (ap m.program.ports c.requires.node ∙ m.laws.keeps_ports.made_ports (own_of c.args.net.now c.args.v)) in
     record {
-      out = own_out c.args.net.now c.args.outs.now c.args.v c.degree.result c.index-outs-degree.result c.requires.vertex c.requires.outs c.degree.ensures.value
+      out = own_out c.args.net.now c.args.outs.now c.args.v c.degree.result c.index-outs-degree.result c.requires.vertex c.requires.served.outs c.degree.ensures.value
           ∙ ap (λ (n : ℕ). nothing n) ports;
     }
 
@@ -39,7 +39,7 @@ send_out-requires-clause-before g c =
     c.init.ensures.node in (
       sent_by m.program c.args.net.now 0,
       record {
-        before = c.requires.before;
+        before = c.requires.served.delivered;
         row = sent_by-at m.program c.args.net.now 0 c.args.v c.requires.vertex ∙ sym (ap (λ x. x.1) node);
       },
     )
@@ -53,12 +53,14 @@ returns g c =
     let size = ap (λ x. length x.1) node ∙ sent-length m.program net m.laws.keeps_ports 0 v in
     record {
       node = ap (λ x. x.0) node;
-      outs = subst (λ (d : ℕ). HasOutboxes net (set c.args.outs.now d c.send_out.new.out)) (sym c.degree.ensures.value)
-          (outboxes_kept net c.args.outs.now v c.send_out.new.out c.requires.vertex c.requires.outs
-          (c.send_out.ensures.out ∙ ap (λ (n : ℕ). nothing n) size));
-      after = c.send_out.ensures.after (sent_by m.program net 0) (record {
-        before = c.requires.before;
-        row = sent_by-at m.program net 0 v c.requires.vertex ∙ sym (ap (λ x. x.1) node);
-      });
+      served = record {
+        outs = subst (λ (d : ℕ). HasOutboxes net (set c.args.outs.now d c.send_out.new.out)) (sym c.degree.ensures.value)
+            (outboxes_kept net c.args.outs.now v c.send_out.new.out c.requires.vertex c.requires.served.outs
+            (c.send_out.ensures.out ∙ ap (λ (n : ℕ). nothing n) size));
+        delivered = c.send_out.ensures.after (sent_by m.program net 0) (record {
+          before = c.requires.served.delivered;
+          row = sent_by-at m.program net 0 v c.requires.vertex ∙ sym (ap (λ x. x.1) node);
+        });
+      };
       sent = is_loud c.send_out.result (degree_of net v) _ _ (ap (λ x. x.1) node) size c.send_out.ensures.sent;
     }
