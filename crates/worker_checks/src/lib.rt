@@ -1,5 +1,6 @@
 //! The tests of nodes on worker threads, of the plan and the transcript that they make, and of stamped entries and
-//! their replay: what no contract says. Each run of workers ends by a count of looks, on every schedule.
+//! their replay: what no contract says. Each run of workers ends by a count of looks, on every schedule. `surface` has
+//! each call that was asked for, with its types, to be compiled.
 #![tactic(auto)]
 
 #[cfg(test)]
@@ -18,3 +19,5 @@ mod stamp_checks;
 mod stealing;
 #[cfg(test)]
 mod stopped_checks;
+#[cfg(test)]
+mod surface;
