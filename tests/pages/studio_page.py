@@ -45,6 +45,12 @@ UNSEEN = """(() => { const all = Array.from(document.querySelectorAll('nav butto
     && Math.min(a.bottom, b.bottom) - Math.max(a.top, b.top) > 1;
   return all.filter(([, box, it]) => box.left < 0 || box.right > innerWidth + 1 || it.scrollWidth > it.clientWidth + 1
     || all.some(other => other[2] !== it && over(box, other[1]))).map(one => one[0]); })()"""
+# Whether each node and each edge is drawn at its place.
+DRAWN = """Array.from(document.querySelectorAll('#net .node circle:last-of-type'), (one, k) =>
+    Math.abs(one.cx.baseVal.value - studio.stage.X(k + 1)) < 1).every(Boolean)
+  && Array.from(document.querySelectorAll('#net [data-edge]'), one => { const [a, b] = one.dataset.edge.split('-'),
+    end = one.getPointAtLength(one.getTotalLength()); return Math.hypot(end.x - studio.stage.X(+b),
+    end.y - studio.stage.Y(+b)) < 1 && one.getPointAtLength(0).x - studio.stage.X(+a) < 1; }).every(Boolean)"""
 # What nodes find in the triangle, whose plan is 2 3 1, once a field is changed. In the first pass node 2 chooses first,
 # then 1, then 3; so in the second it is 3, then 1, then 2.
 FOUND = [
@@ -471,7 +477,18 @@ class Drawn(Page):
         wanted = [colour + 1 for _, colour in sorted(colours(network_of(text.encode())).items())]
         self.note("it is that of the definitions", plan == wanted, plan)
         before = self.at(4)
+        self.page.mouse("mousePressed", *before)
+        self.page.mouse("mouseMoved", before[0] + 20, before[1])
+        for key in ("", "+"):
+            self.page.key(key or "Shift", text=key)
+            drawn = self.page.value(DRAWN)
+            self.note(f"all is drawn where it is, while it is dragged {key}", drawn, drawn)
+        self.page.mouse("mouseReleased", before[0] + 20, before[1])
+        self.page.key("z", code="KeyZ", modifiers=2, windowsVirtualKeyCode=90)
+        self.page.click_on("#zoomfit")
+        before = self.at(4)
         self.page.drag(*before, before[0] - 20, before[1] - 90)
+        self.note("and when it is let go", self.page.value(DRAWN))
         self.note("a drag moves a node", abs(self.at(4)[1] - before[1] + 90) < 2, self.at(4))
         self.page.key("z", code="KeyZ", modifiers=2, windowsVirtualKeyCode=90)
         self.note(

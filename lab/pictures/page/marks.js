@@ -15,7 +15,8 @@ export function patch(parent, list) {
       if (child) parent.replaceChild(fresh, child); else parent.append(fresh);
       child = fresh;
     }
-    update(child, wanted);
+    if (child.mark !== wanted) update(child, wanted);
+    child.mark = wanted;
     child = child.nextSibling;
   }
   while (child) {

@@ -6,7 +6,8 @@ const LARGEST = 22, LETTERS = new Intl.Segmenter(), TURNS = /[\u0590-\u08FF\u200
 export class Stage {
   // `net` has nodes {x, y, id, name, bars} from 0, and edges [v, w] from 1.
   constructor(svg, net) {
-    Object.assign(this, {svg, net, isRough: false, to: {scale: 1, x: 0, y: 0}, radius: LARGEST, wide: 1, high: 1,
+    // If a node is dragged `dragged` is its number, and what isn't at it is kept.
+    Object.assign(this, {svg, net, dragged: 0, lines: [], groups: [], to: {scale: 1, x: 0, y: 0}, radius: LARGEST, wide: 1, high: 1,
       apart: 2.9, least: 0, isZoomed: false, key: "", still: [], bends: new Map(), spots: [], spotsOf: "", close: []});
     patch(svg, Array.from({length: 4}, () => mark("g", {}, [])));
     [this.edges, this.arrows, this.nodes, this.over] = svg.children;
@@ -86,11 +87,11 @@ export class Stage {
   // Edges that pass a third node too near are bent, as lab/pictures/places.py bends them.
   measure() {
     const {nodes, edges} = this.net;
+    // While a node is dragged the edges keep their bends, and the labels their sides.
+    if (this.isDragged()) { this.still = []; return; }
     const now = JSON.stringify([nodes.map(n => [n.x, n.y]), edges, this.to, this.wide, this.apart]);
     if (now === this.key) return;
     this.still = [];
-    // While a node is dragged the edges keep their bends, and the labels their sides.
-    if (this.isRough && this.close.length === nodes.length) return;
     this.key = now;
     this.spotsOf = "";
     this.close = nodes.map(() => []);
@@ -106,6 +107,9 @@ export class Stage {
     const room = Math.max(least / this.apart, Math.min(8, least / 2.4));
     this.radius = Math.max(5, Math.min(LARGEST, this.wide / 16, room));
     this.bends = new Map(edges.map(([a, b]) => [a + " " + b, this.bendOf(a - 1, b - 1, xs, ys)]));
+  }
+  isDragged() {
+    return this.dragged && this.groups.length === this.net.nodes.length && this.lines.length === this.net.edges.length;
   }
   bendOf(a, b, xs, ys) {
     const dx = xs[b] - xs[a], dy = ys[b] - ys[a], length = Math.hypot(dx, dy) || 1;
@@ -210,17 +214,25 @@ export class Stage {
     const isStill = still && still.length === this.still.length && still.every((one, k) => one === this.still[k]);
     this.still = still || [];
     if (!isStill) {
-      this.svg.setAttribute("viewBox", `0 0 ${this.wide} ${this.high}`);
-      patch(this.edges, this.net.edges.map(([v, w]) => this.line(v, w, {stroke: "var(--edge)", "stroke-width": 1.6,
-        ...(edge ? edge(v, w) : {}), "data-edge": v + "-" + w})));
+      const box = `0 0 ${this.wide} ${this.high}`, isKept = (...vs) => this.isDragged() && !vs.includes(this.dragged);
+      if (this.svg.getAttribute("viewBox") !== box) this.svg.setAttribute("viewBox", box);
+      this.lines = this.net.edges.map(([v, w], k) => isKept(v, w) ? this.lines[k] : this.line(v, w,
+        {stroke: "var(--edge)", "stroke-width": 1.6, ...(edge ? edge(v, w) : {}), "data-edge": v + "-" + w}));
+      patch(this.edges, this.lines);
       patch(this.arrows, links());
       const size = Math.max(10, Math.min(13, this.radius * 0.75));
-      const said = this.net.nodes.map((_, k) => label ? label(k + 1) : nameOf(this.net, k + 1));
-      const taken = this.net.nodes.map(({bars: own}) => (below ? [1.57] : []).concat(bars && own.length ? [0.8] : []));
-      const spots = this.isRough && this.spots.length === said.length ? said.map((words_, k) => this.labelAt(k + 1,
-        this.spots[k].turn, words_.length * size * 0.3, size, taken[k])) : this.labelSpots(said, size, taken);
-      patch(this.nodes, this.net.nodes.map((_, k) =>
-        this.group(k + 1, {node, said: said[k], spot: spots[k], size, says, ring, bars})));
+      const saidOf = v => label ? label(v) : nameOf(this.net, v), look = {node, size, says, ring, bars};
+      const takenBy = ({bars: own}) => (below ? [1.57] : []).concat(bars && own.length ? [0.8] : []);
+      if (this.isDragged()) {
+        const v = this.dragged, said = saidOf(v), taken = takenBy(this.net.nodes[v - 1]);
+        const spot = this.labelAt(v, this.spots[v - 1].turn, said.length * size * 0.3, size, taken);
+        this.groups = this.groups.with(v - 1, this.group(v, {...look, said, spot}));
+      } else {
+        const said = this.net.nodes.map((_, k) => saidOf(k + 1));
+        const spots = this.labelSpots(said, size, this.net.nodes.map(takenBy));
+        this.groups = said.map((words_, k) => this.group(k + 1, {...look, said: words_, spot: spots[k]}));
+      }
+      patch(this.nodes, this.groups);
     }
     patch(this.over, above());
   }

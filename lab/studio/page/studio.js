@@ -149,8 +149,10 @@ svg.onpointermove = event => {
   if (!drag || !drag.moved && Math.hypot(event.clientX - drag.x, event.clientY - drag.y) < 5) return;
   if (drag.v && seen.tab === "draw") {
     const {v, key} = drag;
-    stage.isRough = true;
+    // What is drawn for any other reason in the meantime is drawn whole.
+    stage.dragged = v;
     change(n => Object.assign(n.nodes[v - 1], stage.placeOf(event)), key, "move");
+    stage.dragged = 0;
   } else if (!drag.v && net.nodes.length) {
     const from = drag.moved || drag;
     stage.pan(event.clientX - from.x, event.clientY - from.y);
@@ -162,13 +164,13 @@ svg.onpointerup = event => {
   const was = drag;
   drag = null;
   apart = null;
-  if (stage.isRough) { stage.isRough = false; show(); }
+  if (was && was.moved) show();
   fingers.delete(event.pointerId);
   if (!was || was.moved) return was && hooks.link();
   if (seen.tab !== "draw" && !net.nodes.length) return;
   tabs[seen.tab].click(was.v, was.v ? null : stage.edgeAt(event), event, was.step);
 };
-svg.onpointercancel = event => { fingers.delete(event.pointerId); drag = apart = null; stage.isRough = false; };
+svg.onpointercancel = event => { fingers.delete(event.pointerId); drag = apart = null; show(); };
 svg.onwheel = event => {
   event.preventDefault();
   stage.zoom(Math.exp(-event.deltaY / 500), ...stage.point(event));
