@@ -18,7 +18,8 @@ init-requires g c =
     let ports : degree_of c.args.net.now c.args.v ≡ m.program.ports c.args.node.now =
     sym (ap m.program.ports c.requires.node ∙ m.laws.keeps_ports.made_ports (own_of c.args.net.now c.args.v)) in
     record {
-      out = own_out c.args.net.now c.args.outs.now c.args.v c.degree.result c.index-outs-degree.result c.requires.vertex c.requires.served.outs c.degree.ensures.value
+      out = own_out c.args.net.now c.args.outs.now c.args.v c.degree.result c.index-outs-degree.result c.requires.vertex
+          c.requires.served.outs c.degree.ensures.value
           ∙ ap (λ (n : ℕ). nothing n) ports;
     }
 

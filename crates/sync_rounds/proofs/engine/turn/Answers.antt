@@ -22,13 +22,15 @@ pulse_one-requires-clause-unread g c κs within = unread_is _ _ c.requires.due.i
 pub pulse_one-requires-clause-ports : goal.pulse_one-requires-clause-ports
 pulse_one-requires-clause-ports g c κs within =
     let m = g.P.NodeProgram in
-    inbox_fits m.program m.laws.keeps_ports c.args.net.now c.args.done c.args.v _ _ c.requires.due.node (ap (λ (mail : Mail _). mail.slots) c.requires.due.inbox)
+    inbox_fits m.program m.laws.keeps_ports c.args.net.now c.args.done c.args.v _ _ c.requires.due.node
+    (ap (λ (mail : Mail _). mail.slots) c.requires.due.inbox)
 
 pub pulse_one-requires-clause-out : goal.pulse_one-requires-clause-out
 pulse_one-requires-clause-out g c κs within =
     let m = g.P.NodeProgram in
     out_empty m.program m.laws.keeps_ports c.args.net.now c.args.done c.args.v _ _ c.requires.due.node
-    (own_out c.args.net.now c.args.outs.now c.args.v c.degree.result c.index-outs-degree.result c.requires.due.vertex c.requires.served.outs c.degree.ensures.value)
+    (own_out c.args.net.now c.args.outs.now c.args.v c.degree.result c.index-outs-degree.result c.requires.due.vertex
+    c.requires.served.outs c.degree.ensures.value)
 
 pub send_out-is_loud-requires-clause-vertex : goal.send_out-is_loud-requires-clause-vertex
 send_out-is_loud-requires-clause-vertex g c = c.requires.due.vertex
