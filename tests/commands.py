@@ -37,14 +37,10 @@ class Command:
     # A small input, and the answer to it.
     data: str
     answer: str
-    # A small input with an odd layout, of which programs.hostile makes texts that nobody would write.
-    odd: str
     # The options that it has, each with a number.
     options: tuple[str, ...] = ()
     # Further words: with them it has threads, and the answer is the same each time.
     words: tuple[str, ...] = ()
-    # Whether it reads a text of its own; else it reads a network as `forests` does.
-    is_reader: bool = False
 
     @property
     def line(self):
@@ -64,23 +60,13 @@ class Command:
 
 
 COMMANDS = (
-    Command(
-        "forestplan",
-        "forests",
-        TRIANGLE,
-        "forests 3 2|0 1 2|0 2 3|1 1 3|",
-        odd="p edge 3 3|i 2 7|b 3 1|e 1 2|e 1 3|e 2 3|",
-        is_reader=True,
-    ),
-    Command(
-        "forestplan", "plain", TRIANGLE, "plan|1 2|2 3|3 1|", odd="c|p col 2 1|e 1 2|i 1 5|b 2 1|"
-    ),
+    Command("forestplan", "forests", TRIANGLE, "forests 3 2|0 1 2|0 2 3|1 1 3|"),
+    Command("forestplan", "plain", TRIANGLE, "plan|1 2|2 3|3 1|"),
     Command(
         "forestplan",
         "plan",
         TRIANGLE,
         "plan|1 2|2 3|3 1|",
-        odd="p edge 2 1|b 1 2|e 2 1|b 2 1|",
         options=("workers", "capacity", "turns"),
         words=("--workers", "2"),
     ),
@@ -89,42 +75,29 @@ COMMANDS = (
         "transcript",
         APART,
         "transcript 2 2|" + "".join(f"{p} {v} pulse {p}|" for p in PULSES for v in (1, 2)),
-        odd="p edges 2 1|e 1 2|",
         options=("workers", "capacity", "turns", "edition"),
         words=("--workers", "2"),
     ),
-    Command(
-        "forestplan",
-        "check",
-        EDGE + "plan|1 2|2 1|",
-        "proper 2|",
-        odd=EDGE + "b 2 1|plan|2 2|1 1|",
-        is_reader=True,
-    ),
+    Command("forestplan", "check", EDGE + "plan|1 2|2 1|", "proper 2|"),
     Command(
         "forestplay",
         "events",
         EDGE + "put 1 0|",
         "node 1 pulse 0|link 1 2 taken 0 payload 0 hello 1|node 2 pulse 0|link 2 1 taken 0|",
-        odd=EDGE + "i 1 3|put 1 0|take 2 0|",
         options=("root", "passes"),
-        is_reader=True,
     ),
     Command(
         "forestplay",
         "replay",
         ALONE + "transcript 1 1|1 pulse 1|1 pulse 2|",
         "node 1 pulse 2|",
-        odd=EDGE + "transcript 1 2|1 put 2 payload 0 hello 1|",
         options=("root", "passes"),
-        is_reader=True,
     ),
     Command(
         "forestplay",
         "rounds",
         ALONE,
         "rounds 1 1 0 0 12|" + "".join(f"pulse {p} {step}|" for p, step in enumerate(STEPS)),
-        odd="p edge 1 0|n 1|i 1 9|b 1 1|",
         options=("root", "passes"),
     ),
     # 30 is 12 + 3 U (D + B + 1), with U = D = 2 and B = 0.
@@ -133,7 +106,6 @@ COMMANDS = (
         "run",
         TRIANGLE,
         "node 1 pulse 30 channel 2|node 2 pulse 30 channel 3|node 3 pulse 30 channel 1|",
-        odd="p edge 2 1|b 1 2|e 2 1|",
         options=("root", "passes", "workers", "capacity", "turns"),
         words=("--workers", "2"),
     ),
@@ -142,7 +114,6 @@ COMMANDS = (
         "alone",
         TRIANGLE,
         "node 1 pulse 30 channel 2|node 2 pulse 30 channel 3|node 3 pulse 30 channel 1|",
-        odd="p edge 2 1|b 1 2|e 2 1|",
         options=("root", "passes"),
     ),
 )

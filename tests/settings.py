@@ -18,16 +18,8 @@ Settings are variables, here with their defaults:
   TESTS_SEED         2026: the seed of these random texts
   TESTS_RUNS         40: how many runs of threads programs.transcripts checks
   TESTS_SEQUELS      12: how many networks by chance programs.sequel_runs plays
-  TESTS_SPOILED      1000: how many spoiled transcripts programs.transcripts makes
 """
-DEFAULTS = {
-    "limit": "1200",
-    "texts": "10000",
-    "seed": "2026",
-    "runs": "40",
-    "sequels": "12",
-    "spoiled": "1000",
-}
+DEFAULTS = {"limit": "1200", "texts": "10000", "seed": "2026", "runs": "40", "sequels": "12"}
 
 
 def built(name):

@@ -1,17 +1,15 @@
-"""Programs that go on where another one ends, mostly the colouring, at one node, by their definition
+"""Programs that go on where the colouring ends, at one node, by their definition
 (docs/claim/DEFINITIONS.md), slow and plain. Payloads, ports and pulses are as in lab/definitions/nodes.py."""
 from typing import Any
 
-from lab.definitions.nodes import Colouring, Program, Slot
+from lab.definitions.nodes import Colouring, Slot
 from lab.network import Network
 
 
 class Sequel:
-    """A node that runs a program, `before`, up to a pulse, the cut; from then on its node of that program, `first`,
-    stays, and it makes pulses of its own, counted from 0. The program is the colouring, or a sequel itself.
-    """
+    """A node that runs the colouring up to a pulse, the cut; from then on its node of the colouring, `first`, stays,
+    and it makes pulses of its own, counted from 0."""
 
-    before: Program = Colouring
     # The kinds of its own payloads: up to the cut it refuses them.
     kinds: tuple[str, ...]
 
@@ -20,15 +18,12 @@ class Sequel:
     cut: int
 
     def __init__(self, net: Network, v: int):
-        self.first, self.degree, self.cut = (
-            self.before(net, v),
-            len(net.neighbours[v]),
-            self.cut_of(net),
-        )
+        self.first, self.degree = Colouring(net, v), len(net.neighbours[v])
+        self.cut = self.cut_of(net)
 
     @staticmethod
     def cut_of(net: Network) -> int:
-        """The last pulse of that program that is made."""
+        """The last pulse of the colouring that is made."""
         raise NotImplementedError
 
     def greet(self) -> list[Slot]:

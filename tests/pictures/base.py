@@ -1,13 +1,12 @@
 """What the tests of pictures share: how a picture is drawn, and the networks and texts that it is drawn from, by the
 definitions."""
-import random
 
 from lab.definitions.colours import plan_text
 from lab.networks.network_text import network_of
 from lab.pictures import picture
 from lab.pictures.picture import FORM
+from lab.schedules.simulate import played, text_of_run
 from tests.cases import Case, example, in_process
-from tests.programs.made_transcripts import made_transcript, merged_text
 
 SEED = 2026
 APART = b"p edge 5 3\ne 1 2\ne 2 3\ne 1 3\n"
@@ -28,10 +27,10 @@ def painter(*words, data=b""):
     return in_process("picture", picture.main, *words, data=data)
 
 
-def transcript(network, seed, capacity=4):
+def transcript(network, seed):
     """The text of a run, of edition 2."""
     net = network_of(network)
-    return merged_text(net.nodes, made_transcript(random.Random(f"{SEED} {seed}"), net, capacity))
+    return text_of_run(net.nodes, played(net, seed=f"{SEED} {seed}")).encode()
 
 
 class PictureCase(Case):

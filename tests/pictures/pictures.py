@@ -1,14 +1,14 @@
 """Tests of `forestlab picture` whatever the kind: what is refused, and the command line."""
 import os
-import random
 import re
 from xml.etree import ElementTree
 
 from lab.definitions.colours import plan_text
 from lab.networks.network_text import network_of
+from lab.schedules.simulate import played, text_of_run
 from tests.cases import example, examples
-from tests.pictures.base import APART, SEED, PictureCase, painter, transcript
-from tests.programs.made_transcripts import made_transcript, merged_text, transcript_text
+from tests.pictures.base import APART, PictureCase, painter, transcript
+from tests.programs.made_transcripts import transcript_text
 
 PLAN_OF_PETERSEN = plan_text(network_of(example("petersen")))
 RUN_OF_APART = transcript(APART, "refused")
@@ -122,10 +122,10 @@ class Pictures(PictureCase):
     def test_stamped(self):
         """A transcript of edition 2 is drawn as the same entries without stamps are, but for what the caption says of
         time."""
-        entries = made_transcript(random.Random(SEED), network_of(APART), 4)
+        entries = played(network_of(APART), seed="stamped")
         wanted, got = (
-            self.drawn("run", APART, text=text_of(5, entries)).split("\n")
-            for text_of in (transcript_text, merged_text)
+            self.drawn("run", APART, text=text).split("\n")
+            for text in (transcript_text(5, entries), text_of_run(5, entries).encode())
         )
         others = [line for line in got if line not in wanted]
         self.same("as many marks", len(got), len(wanted))

@@ -34,7 +34,7 @@ def ticks_of(root):
 class Runs(PictureCase):
     def test_whole_runs(self):
         for name, seed in product(("two", "path", "chain6"), (1, 2)):
-            text = transcript(example(name), seed, seed)
+            text = transcript(example(name), seed)
             self.whole_run_rows(f"{name}, made {seed}", example(name), text)
         self.whole_run_rows("chain6_slow", example("chain6"), example("chain6_slow.transcript"))
         for seed in range(4):
@@ -75,7 +75,7 @@ class Runs(PictureCase):
             network, lower = example(name), set()
             options = pulses((2, 5)) + ["--only", "payload"]
             for seed in (1, 4):
-                picture = self.drawn("run", network, *options, text=transcript(network, seed, seed))
+                picture = self.drawn("run", network, *options, text=transcript(network, seed))
                 lower.add(picture[picture.index('<g class="lower"') :])
             self.same(f"lower halves of {name}", len(lower), 1)
 

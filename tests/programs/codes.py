@@ -103,17 +103,7 @@ FAULTS = [
     ("plan", TRIANGLE, "stopped", "the workers had made all their looks"),
 ]
 # Codes that the programs print as `memory`, and words for which no input is wrong.
-WITHOUT_INPUT = {
-    "F9",
-    "N3",
-    "C7",
-    "X2",
-    "Memory",
-    "memory",
-    "threads",
-    "stream",
-    "NoRoot",
-}
+WITHOUT_INPUT = {"F9", "N3", "C7", "X2", "Memory", "memory", "threads", "stream", "NoRoot"}
 
 
 def tell(*words):

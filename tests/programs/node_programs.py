@@ -2,14 +2,12 @@
 worked by hand, beside the definitions; each text of one program is refused by the others. sequel_runs.py has networks
 by chance."""
 import re
-from itertools import product
 
 from lab.definitions.nodes import synchronous_run
 from lab.definitions.programs import program_at
 from lab.networks.network_text import network_of
 from tests.cases import Case, called, text
 from tests.commands import EDGE
-from tests.programs.slow_reader import answer_to
 from tests.settings import PLAY
 
 ROW, ALONE, NONE = "p edge 3 2|e 1 2|e 2 3|", "p edge 1 0|", "p edge 0 0|"
@@ -175,13 +173,6 @@ NO_HEADS = (
     "3 Leader 2",
     "3 lead\x1ber 2",
 )
-# Payloads, of programs and of none, within the bounds of numbers and above.
-PAYLOADS = [
-    *product(
-        "hello label colour chosen leader hops hop free take joined anew".split(),
-        ("", 2**16 - 1, 2**16, 2**32 - 1, 2**32, 2**128 - 1, 2**128),
-    )
-]
 NAMED = "transcript 3 leader 2||1 1 put 2 payload 0 "
 # A node alone makes 14 pulses in two passes.
 PULSES_OF_TWO = "".join(f"1 pulse {p}|" for p in range(1, 15))
@@ -370,16 +361,6 @@ class Programs(Case):
                 f"{command} {asked} {data}",
                 play(command, asked, data=data),
                 (1, b"", f"forestplay: {fault}\n".encode()),
-            )
-
-    def test_payloads(self):
-        """What node 1 of an edge puts first, by the slow reader: a payload is of the program, or none at all."""
-        for asked, (word, number) in product((*PLAIN, *SEQUELS), PAYLOADS):
-            data = text(f"{EDGE}transcript 1 2|1 put 2 payload 0 {word} {number}|")
-            self.same(
-                f"{asked}: {word} {number}",
-                play("replay", asked, data=data),
-                answer_to("replay", data, program_of(asked)),
             )
 
     def test_words(self):

@@ -14,7 +14,8 @@ from lab.networks.network_text import network_of
 from lab.pictures.program_rounds import rounds_of
 from tests.cases import Case
 from tests.programs.node_programs import play, program_of
-from tests.programs.sequels import CHECKERS, last_of, networks_by_chance
+from tests.programs.plain_networks import networks_by_chance
+from tests.programs.sequels import CHECKERS, last_of
 from tests.settings import setting
 
 NODES, SEED = 14, 79
