@@ -51,27 +51,40 @@ WORD = r"[^\s(){}\[\],.;:]+"
 CLAUSE = r"^ *(?:ensures|requires) \w* ?(\{(?:[^{}]|\{[^{}]*\})*\})"
 # Lemmas that nothing cites, by crate: each goes when its crate is proved anew.
 UNCITED = {
-    "actor": {"on_refusal", "memory_not_full", "full_not_memory"},
-    "alpha_core": {"safe-count", "out-change", "few-payloads"},
+    "actor": {
+        "answered",
+        "from_one",
+        "full_not_memory",
+        "memory_not_full",
+        "on_refusal",
+        "one_of",
+        "wires_put",
+    },
+    "alpha_core": {"few-payloads", "out-change", "safe-count"},
+    "alpha_laws": {"close"},
     "answers": {"rooted-so"},
     "colour_base": {"least_from-low"},
+    "deque_rule": {"begins"},
     "dimacs_col": {"outside-first", "outside-second"},
     "event_machine": {"reached_start"},
     "forests": {"roles-are"},
-    "interference": {"count-le", "count-lt", "degree_in-le", "starts_from"},
-    "lone_runs": {"stuck_first", "stuck_all", "stuck_none"},
-    "node_api": {"get-set_same", "get-replicate", "made-none", "read-none"},
-    "node_pool": {"each_more"},
-    "outcomes": {"none_met", "no_rows_met", "slot_same", "slot_found"},
-    "stamps": {"entry_more", "KeepsStamps-prop", "more_stamp"},
-    "transcripts": {"fault-two", "fault-one"},
+    "interference": {"count-le", "count-lt", "degree_in-le", "place_more", "starts_from"},
+    "link_rule": {"stops"},
+    "lone_runs": {"stuck_all", "stuck_first", "stuck_none"},
+    "node_api": {"get-replicate", "get-set_same", "made-none", "read-none"},
+    "node_pool": {"beside_more", "each_more", "longer", "rows_more"},
+    "outcomes": {"as_long", "no_rows_met", "none_met", "slot_found", "slot_same"},
+    "stamps": {"KeepsStamps-prop", "entry_more", "more_stamp"},
+    "transcripts": {"fault-one", "fault-two"},
     "worker_deques": {
+        "all_moved",
+        "as_many",
+        "but_none",
+        "err_says",
         "none_moved",
         "one_moved",
-        "all_moved",
-        "right_none",
         "right_more",
-        "but_none",
+        "right_none",
         "total-append",
     },
 }
@@ -120,6 +133,29 @@ def has_clause(path):
         re.search(what, text) and re.search(clause, text)
         for text in (text_in(TOP, path) for path in SOURCES)
     )
+
+
+def taken_in(texts):
+    """Each name that a file takes from another one, with the module that has it."""
+    taken = set()
+    for path, text in texts.items():
+        crate = path.split("/")[1]
+        for module, name in re.findall(r"crate::proofs::(\w+)::(\w+)", text):
+            taken.add((f"{crate}.proofs.{module}", name))
+        for module, names in re.findall(r"use Rattle\.([\w.]+)\.\{(.*)\}", text):
+            taken |= {(module, name) for name in re.findall(r"[^\s,]+", names)}
+        for module, short in re.findall(r"use Rattle\.([\w.]+) as (\w+)", text):
+            taken |= {(module, name) for name in re.findall(rf"\b{short}\.({WORD})", text)}
+    return taken
+
+
+def lemmas(text):
+    """Each lemma of a file, with the words of the file besides its statement and proof."""
+    for dent, name in re.findall(LEMMA, text, re.M):
+        word = re.escape(name)
+        proof = rf"(?:{dent} +.*\n|{dent}(?:unfolding|{word})(?: .*)?\n|\n)*"
+        others = re.sub(rf"^{dent}(?:pub )?{word} : .*\n{proof}", "", text, flags=re.M)
+        yield name, re.findall(WORD, others)
 
 
 class Crates(Case):
@@ -200,18 +236,14 @@ class Crates(Case):
 
     def test_uncited(self):
         texts = dict(file for crate in listed() for file in files_of(crate))
-        words = {path: re.findall(WORD, text) for path, text in texts.items()}
-        files = collections.Counter(word for found in words.values() for word in set(found))
-        uncited = collections.defaultdict(set)
+        taken, uncited = taken_in(texts), collections.defaultdict(set)
         for path, text in texts.items():
             if "/proofs/" not in path and not re.search(LAWS, path):
                 continue
-            for dent, name in re.findall(LEMMA, text, re.M):
-                word = re.escape(name)
-                proof = rf"(?:{dent} +.*\n|{dent}(?:unfolding|{word})(?: .*)?\n|\n)*"
-                others = re.sub(rf"^{dent}(?:pub )?{word} : .*\n{proof}", "", text, flags=re.M)
-                if files[name] == 1 and name not in re.findall(WORD, others):
-                    uncited[path.split("/")[1]].add(name)
+            _, crate, *place = path.removesuffix(".antt").split("/")
+            for name, others in lemmas(text):
+                if (".".join([crate, *place]), name) not in taken and name not in others:
+                    uncited[crate].add(name)
         self.same("lemmas that nothing cites", uncited, UNCITED)
 
     def test_lists(self):
