@@ -145,8 +145,7 @@ class ClassFolder(Case):
             )
 
     def test_any_folder_makes_it(self):
-        """The command makes the same here and from the folder of a class itself; of manual pages it copies those that
-        there are."""
+        """The command makes the same here and from the folder of a class itself."""
         made, again = (
             os.path.join(self.enterContext(tempfile.TemporaryDirectory()), name)
             for name in ("a b", "c")
