@@ -78,16 +78,11 @@ class AlphaRun:
     def is_answered(self, nodes: Nodes, v: int, lines: list[str], asked: str) -> bool:
         """Sends a node a message and writes down what it does; False if there is no answer."""
         try:
-            for line in nodes.ask(v, lines, self.if_late):
+            for line in nodes.ask(v, lines):
                 self.answered(v, line)
         except Fault as fault:
             self.stop = v, fault, asked
         return self.stop is None
-
-    def if_late(self) -> None:
-        """A program may hang because of what went wrong before: then there is no need to wait for it."""
-        if self.verdict().is_about_an_entry:
-            raise Fault("silent", "it didn't answer, and something was wrong before")
 
     def answered(self, v: int, line: str) -> None:
         program, neighbours = self.rounds.program, self.network.neighbours[v]

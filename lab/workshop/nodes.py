@@ -1,6 +1,5 @@
 """The nodes of a network as programs: each a process of its own, or all that have one command in one process."""
 import time
-from typing import Callable
 
 from lab.door import held
 from lab.workshop.findings import Fault
@@ -54,9 +53,9 @@ class Nodes:
     def addressed(self, v: int, lines: list[str]) -> list[str]:
         return [f"to {v}", *lines] if self.is_shared else lines
 
-    def ask(self, v: int, lines: list[str], if_late: Callable[[], None] | None = None) -> list[str]:
+    def ask(self, v: int, lines: list[str]) -> list[str]:
         self.of[v].send(self.addressed(v, lines))
-        return self.of[v].receive(if_late)
+        return self.of[v].receive()
 
     def ask_all(self, questions: dict[int, list[str]]) -> dict[int, Answer]:
         """What each node answers, or its fault. With a process a node all questions are out before the first answer

@@ -9,13 +9,11 @@ import signal
 import subprocess
 import tempfile
 import time
-from typing import Callable
 
 from lab.workshop.findings import Fault
 from lab.workshop.guard import Guard, Limits
 from lab.workshop.protocol import END, MOST_BYTES, lines_of, shown
 
-SOON = 0.3  # seconds after which an answer is late, and it is looked whether it still matters
 LOOK = 0.004  # seconds between two looks whether a program has ended
 LOOK_AT_FILES = 1.0  # seconds between two looks at what a program that says nothing writes
 FIRST_FACTOR = 3  # the first answer may take so many times as long
@@ -84,10 +82,8 @@ class Process:
             except BrokenPipeError:
                 raise self.ended() from None
 
-    def receive(self, if_late: Callable[[], None] | None = None) -> list[str]:
-        """The lines of the answer, without its `end`. If it is late, `if_late` is called once, and may raise."""
-        if if_late and not self.readable.poll(SOON * 1000):
-            if_late()
+    def receive(self) -> list[str]:
+        """The lines of the answer, without its `end`."""
         got = bytearray()
         while not (end := END.search(got)):
             if len(got) > MOST_BYTES:
@@ -108,12 +104,6 @@ class Process:
         until = min(self.until, self.limits.over)
         while not poll.poll(1000 * max(0.0, min(LOOK_AT_FILES, until - time.monotonic()))):
             self.look()
-            found = exit_of(self.process.pid, 0)
-            if found and not poll.poll(0):
-                raise Fault(
-                    "ended",
-                    f"it ended with {found}, and what it has started goes on{self.last_errors()}",
-                )
             if time.monotonic() < until:
                 continue
             if until < self.until:
@@ -145,12 +135,8 @@ class Process:
 
     def last_errors(self) -> str:
         """The same in words, if there is any."""
-        said = ""
-        size = self.errors.seek(0, os.SEEK_END)
-        if size >= self.limits.written:
-            said = f"; standard error has {size >> 20} megabytes, the most that it may have"
         words = last_errors(self.written_last())
-        return f"{said}; on standard error: {words}" if words else said
+        return f"; on standard error: {words}" if words else ""
 
     def end(self) -> None:
         """No more messages: a program that reads to the end of its input ends now."""

@@ -143,16 +143,13 @@ class Misbehaving(Played):
         )
         self.named("stays", None, "", command("right(lines)", last=LONG))
 
-    def test_a_late_answer_to_a_wrong_step_isn_t_waited_for(self):
+    def test_a_wrong_step_before_a_late_answer_comes_first(self):
         """Node 2 hangs in pulse 1, but before that it acknowledges nothing: that is what it is told."""
         node = alpha_node(
             "def put(self, at, wire):\n        super().put(at, 'ack 7' if wire[:3] == 'ack' else wire)\n"
             f"    def take_safe(self, port, pulse):\n        {LONG}"
         )
-        start = time.monotonic()
-        found = played("alpha", "two", ALPHA, node, timeout=60).finding
-        self.assertEqual((found.kind, found.node), ("WrongWire", 2))
-        self.assertLess(time.monotonic() - start, 30)
+        self.found(("WrongWire", 2, 0), "alpha", "two", ALPHA, node, timeout=2)
 
     def test_a_wrong_step_before_a_line_that_is_none_comes_first(self):
         node = alpha_node(
