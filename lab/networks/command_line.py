@@ -79,7 +79,7 @@ The forests depend on the numbers, and so does the plan.""",
               may be many, a bound is printed, which is proved
   wires       what all links of such a run carry: the payloads, as many
               acknowledgements, a safe of each pulse and a closing mark
-  transcript  what `transcript` prints of it
+  transcript  how many lines `transcript` prints of it
   time        about how much processor time `plan` and `transcript` take, by the wires
               alone: the machine and nodes with few edges can double it. `plain` prints
               the same plan as `plan`.

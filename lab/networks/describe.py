@@ -29,14 +29,7 @@ class Run:
         else:
             self.payloads = most_payloads(network)
         self.wires = 2 * self.payloads + 2 * len(network.edges) * (self.last + 1)
-        # Of a transcript; a line has two vertices, a pulse, and words of 13 letters.
         self.lines = 2 * self.wires + network.nodes * self.last + 1
-        self.letters = 2 * digits(network.nodes) + digits(self.last) + 13
-
-
-def digits(most: int) -> float:
-    """How many digits the numbers from 0 to the greatest have on average."""
-    return 1 + sum(1 - 10**length / (most + 1) for length in range(1, len(str(most))))
 
 
 def rounds_here(network: Network) -> Any:
@@ -74,14 +67,6 @@ def times(run: Run) -> str:
     )
 
 
-def size(count: float) -> str:
-    """Bytes, to two digits."""
-    unit, name = next(
-        it for it in ((1e9, "GB"), (1e6, "MB"), (1e3, "kB"), (1, "bytes")) if count >= it[0]
-    )
-    return f"{float(f'{count / unit:.2g}'):g} {name}"
-
-
 def facts(reading: Reading, network: Network) -> list[tuple[str, str]]:
     """(name, what) of each line that `tell` prints."""
     run = Run(network)
@@ -114,10 +99,7 @@ def facts(reading: Reading, network: Network) -> list[tuple[str, str]]:
         ),
         ("payloads", f"{most}{run.payloads:,}; {how}"),
         ("wires", f"{most}2 * {run.payloads:,} + 2 * {edges:,} * {run.last + 1:,} = {run.wires:,}"),
-        (
-            "transcript",
-            f"{most}{run.lines:,} lines, about {size(run.lines * run.letters)} without stamps",
-        ),
+        ("transcript", f"{most}{run.lines:,} lines"),
         ("time", times(run)),
     ]
 
@@ -131,7 +113,3 @@ def warnings(reading: Reading) -> Iterator[str]:
             f"the `p` line says {counted(reading.promised, 'edge')}, and the text has {there}: {why} "
             "The programs plan what is there"
         )
-    for what, listed in (("place", reading.places), ("name", reading.names)):
-        beyond = [v for v in listed if not 1 <= v <= reading.nodes]
-        if beyond:
-            yield f"a {what} is given for vertex {min(beyond)}, which there isn't"

@@ -6,7 +6,6 @@ from lab.networks.listed import Listed
 from lab.networks.named import path_of
 from lab.networks.network_text import MAX_EDGES, checked, network_of, read_network, stem
 from lab.networks.stated import Stated, decoded, form_of, letters_of
-from lab.networks.texts import text_of
 from lab.words import counted, one_line
 from lab.wrong import Wrong, wrong_line
 
@@ -116,7 +115,4 @@ def read_any(data: bytes, name: str, form: str, stated: Stated) -> tuple[Network
         return network_of(data, name), []
     found = listed_of(data, name, form, stated)
     stated.check_found()
-    made, notes = made_of(found, name)
-    network = read_network(text_of(made), name)
-    network.name = stem(name)
-    return network, notes
+    return made_of(found, name)

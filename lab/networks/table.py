@@ -76,9 +76,12 @@ class Table:
         self.line, self.titles, mark = self.begin(text)
         self.columns: dict[str, int] = {}
         for column in (*wanted, *others):
-            for at in self.places_of(column, self.titles):
-                if self.columns.setdefault(column, at) != at:
-                    raise self.doubled(column)
+            places = self.places_of(column, self.titles)
+            if len(places) > 1:
+                titles = in_words(shown(self.titles[at]) for at in places)
+                what = f"{titles} may each be the column {column}: rename one"
+                raise self.wrong(self.line, what)
+            self.columns |= {column: at for at in places}
         for column, at in self.columns.items():
             title = self.titles[at]
             if stated.columns.get(column, title).casefold() == title.casefold():
@@ -138,12 +141,6 @@ class Table:
         return [at for at, title in enumerate(small) if title in known]
 
     # What is refused.
-
-    def doubled(self, column: str) -> Wrong:
-        """The refusal of a heading with two columns that may be meant."""
-        titles = [shown(self.titles[at]) for at in self.places_of(column, self.titles)]
-        what = f"{in_words(titles)} may each be the column {column}: rename one"
-        return self.wrong(self.line, what)
 
     def unsaid(self, line: int, first: list[str]) -> Wrong:
         """The refusal of a first row that doesn't have all wanted columns."""

@@ -69,10 +69,6 @@ class Guard:
         """What is started for a command."""
         return command
 
-    def why_not_started(self, errors: bytes) -> str | None:
-        """Why a command isn't running, if what was started in its place says so on standard error."""
-        return None
-
     def environment(self) -> dict[str, str]:
         """Few names, so that a program that is right here is right elsewhere."""
         return {name: os.environ[name] for name in NAMES if name in os.environ}

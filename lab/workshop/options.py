@@ -7,7 +7,7 @@ from lab.schedules.policies import POLICIES
 from lab.transcripts.fields import PAYLOADS
 from lab.workshop.cases import NETWORKS
 from lab.workshop.protocol import COLOURING
-from lab.words import add_seed, count, parser_of
+from lab.words import add_seed, count, parser_of, some_of
 
 HELP = """\
 Runs programs that students write as the nodes of a network, and has the proved
@@ -73,7 +73,7 @@ def command_line() -> argparse.ArgumentParser:
     add_seed(words)
     words.add_argument(
         "--policies",
-        type=policies,
+        type=some_of(*POLICIES),
         metavar="LIST",
         help=f"of alpha, with commas: {', '.join(POLICIES)}; default: all, in turn",
     )
@@ -120,15 +120,6 @@ def seconds(text: str) -> float:
     if not re.fullmatch(r"[0-9]{1,6}\.?[0-9]*|\.[0-9]+", text) or not float(text):
         raise argparse.ArgumentTypeError(f"{text} is no number of seconds")
     return float(text)
-
-
-def policies(text: str) -> list[str]:
-    for name in text.split(","):
-        if name not in POLICIES:
-            raise argparse.ArgumentTypeError(
-                f"there is no policy {name}, which are {', '.join(POLICIES)}"
-            )
-    return text.split(",")
 
 
 def parsed(words: list[str]) -> argparse.Namespace:

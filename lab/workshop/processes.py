@@ -40,7 +40,6 @@ class Process:
 
     def __init__(self, command: list[str], limits: Limits, guard: Guard, tasks: int):
         self.limits, self.guard, self.asked, self.until = limits, guard, 0, 0.0
-        self.command = command
         try:
             self.errors = tempfile.TemporaryFile()
             self.process = subprocess.Popen(
@@ -52,7 +51,8 @@ class Process:
                 **guard.start(limits, tasks),
             )
         except OSError as why:
-            raise Fault("start", not_started(command, why.strerror)) from None
+            said = f"{shown(' '.join(command))} can't be started: {why.strerror}{START_HINT}"
+            raise Fault("start", said) from None
         guard.programs.add(self.process.pid)
         assert self.process.stdin and self.process.stdout
         self.pipes = self.process.stdin, self.process.stdout
@@ -120,22 +120,15 @@ class Process:
         if found is None:
             words = "it closed its standard input or output, and goes on running"
             return Fault("ended", words + self.last_errors())
-        reason = self.guard.why_not_started(self.written_last()) if self.asked == 1 else None
-        if reason:
-            return Fault("ended", not_started(self.command, reason))
         after = f" after {shown(got)}" if got else ""
         words = f"it ended with {found}{after} instead of an answer"
         return Fault("ended", words + self.last_errors())
 
-    def written_last(self) -> bytes:
-        """The end of what is on its standard error."""
+    def last_errors(self) -> str:
+        """The end of what is on its standard error, if there is any."""
         size = self.errors.seek(0, os.SEEK_END)
         self.errors.seek(max(0, size - LAST_BYTES))
-        return self.errors.read()
-
-    def last_errors(self) -> str:
-        """The same in words, if there is any."""
-        words = last_errors(self.written_last())
+        words = last_errors(self.errors.read())
         return f"; on standard error: {words}" if words else ""
 
     def end(self) -> None:
@@ -154,10 +147,6 @@ class Process:
         self.guard.programs.discard(self.process.pid)
         self.pipes[1].close()
         self.errors.close()
-
-
-def not_started(command: list[str], reason: str) -> str:
-    return f"{shown(' '.join(command))} can't be started: {reason}{START_HINT}"
 
 
 def after_its_end(got: bytes | bytearray) -> Fault:

@@ -37,8 +37,6 @@ X86_64, OTHER_NUMBERS = 0xC000003E, 0x40000000
 # A filter of calls reads a word of the call, compares it, and says what becomes of the call: an error, or nothing.
 LOAD, IS_EQUAL, IS_ABOVE, END, REFUSED, ALLOWED = 0x20, 0x15, 0x35, 0x06, 0x50001, 0x7FFF0000
 MACHINE, NUMBER, SECOND_WORD, BY_FILTER = 4, 0, 24, 2
-# How bubblewrap begins what it says of a command that can't be started.
-NO_START = "bwrap: execvp "
 INSTEAD = (
     "run it in a container that may make namespaces, as one of `docker run --privileged`, or put a container's "
     "words after `--` (`forestlab workshop grade --help`)"
@@ -81,10 +79,6 @@ class Sandbox(Guard):
         for name in os.listdir(self.folder):
             links += ["--symlink", os.path.join(self.folder, name), os.path.join(ROOM, name)]
         return [*self.container, *links, "--", *command]
-
-    def why_not_started(self, errors: bytes) -> str | None:
-        first, _, _ = errors.decode("utf-8", "replace").partition("\n")
-        return first.rpartition(": ")[2] if first.startswith(NO_START) else None
 
     def environment(self) -> dict[str, str]:
         own = {"HOME": ROOM, "TMPDIR": ROOM}

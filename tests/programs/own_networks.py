@@ -392,7 +392,7 @@ class OwnNetworks(Case):
         )
 
     def test_tell(self):
-        """Beside the definitions: the rounds' payloads, and the lines and bytes of a run's transcript."""
+        """Beside the definitions: the rounds' payloads, and the lines of a run's transcript."""
         networks = {
             name: example(name) for name in ("triangle", "petersen", "star", "four_cycle", "chain6")
         }
@@ -436,8 +436,6 @@ class OwnNetworks(Case):
                 b"p edge 3 99\ne 1 2\n",
                 b"the `p` line says 99 edges, and the text has 1: is it cut?",
             ),
-            (b"p edge 2 1\ne 1 2\nc at 3 0 0\n", b"a place is given for vertex 3"),
-            (b"p edge 2 1\ne 1 2\nc name 9 X\n", b"a name is given for vertex 9"),
         ):
             self.note(f"warned of {data}", said in self.told_of(data)[1])
         for data in (
@@ -447,18 +445,6 @@ class OwnNetworks(Case):
             b"p edge 0 0\n",
         ):
             self.note(f"not warned of {data}", self.told_of(data)[1] == b"")
-
-    def test_bytes(self):
-        """Those of a transcript, within a tenth of one that is written."""
-        for data in (example("petersen"), example("queen5_5"), self.written("ring", 1000)):
-            count, unit = re.search(
-                r"about ([\d.]+) (bytes|kB|MB)", self.told_of(data)[0]["transcript"]
-            ).groups()
-            told = float(count) * {"bytes": 1, "kB": 1e3, "MB": 1e6}[unit]
-            there = len(called(PLAN, "transcript", "--edition", "1", data=data)[1])
-            self.note(
-                f"the bytes of a transcript of {len(data)}", 0.9 < told / there < 1.1, (told, there)
-            )
 
     def test_faults(self):
         """The fault that the program reports (codes.py), in words."""

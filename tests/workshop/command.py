@@ -36,7 +36,7 @@ class Command(Played):
             (["rounds", "two"], 2, "there is no command after `--`"),
             (["nothing", "two", "--", *ROUNDS], 2, "invalid choice"),
             (["rounds", "two", "--policies", "oldest", "--", *ROUNDS], 2, "of alpha alone"),
-            (["alpha", "two", "--policies", "odd", "--", *ALPHA], 2, "there is no policy odd"),
+            (["alpha", "two", "--policies", "odd", "--", *ALPHA], 2, "some of random,"),
             (
                 ["open", "two", "--program", "layers", "--", *ALPHA],
                 2,

@@ -46,7 +46,7 @@ ROWS = (
         'line 12, in answer | File "<string>", line 8, in misbehave | ValueError: inbox is empty?[2J`',
     ),
     ("while True: print('put 0 colour 3')", "flood", "more than 1048576 bytes"),
-    ("right(['colour 0 1'] * 30_000)", "flood", "30000 lines"),
+    ("right(['colour 0 1'] * 30_000)", "garbage", "in this answer already"),
     (
         "os.write(1, '\\n'.join(['end', *lines, 'end', '']).encode())",
         "garbage",

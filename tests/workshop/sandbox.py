@@ -282,16 +282,13 @@ class Sandboxed(Case):
             self.note(name, found.startswith("flood") and words in found, found)
 
     def test_how_it_ends(self):
-        """By a signal, with a status, or without a start; what it says of a start that wasn't is its own verdict."""
+        """By a signal, with a status, or without a start, of which bubblewrap says why."""
         for command, words in (
             (["sh", "-c", "kill -9 $$"], "it ended with signal SIGKILL"),
             (["sh", "-c", "exit 3"], "it ended with status 3"),
             (["sh", "-c", "exit 200"], "it ended with status 200"),
-            (
-                ["./nothing"],
-                "`./nothing` can't be started: No such file or directory; is it `chmod",
-            ),
-            ([f"./{NODE}"], "can't be started: Permission denied; is it `chmod"),
+            (["./nothing"], "`bwrap: execvp ./nothing: No such file or directory`"),
+            ([f"./{NODE}"], f"`bwrap: execvp ./{NODE}: Permission denied`"),
         ):
             process = Process(command, Limits(30, 200, 1), self.guards()[0], 0)
             with self.assertRaises(Fault) as found:
