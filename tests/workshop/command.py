@@ -19,12 +19,6 @@ def in_turn(messages, answers):
     return "".join(part for both in pairs for part in both).splitlines()
 
 
-def by_vertex(line, neighbours):
-    """A line of a node as a transcript has it, with a neighbour in place of the port."""
-    what, at, *rest = line.split(" ")
-    return line if what == "pulse" else " ".join([what, str(neighbours[int(at)]), *rest])
-
-
 class Command(Played):
     def path(self, *names):
         return os.path.join(self.folder, *names)
@@ -153,24 +147,20 @@ class Command(Played):
                     self.assertIn(words, done.stdout + done.stderr)
 
     def test_the_record_is_what_the_programs_read_and_wrote(self):
-        logs = self.path("logs")
+        logs, kept = self.path("logs"), self.path("kept")
         os.mkdir(logs)
-        done = call(
-            "alpha", "path3", "--keep", self.path("kept"), "--", "sh", "-c", TEE, logs, *ALPHA
-        )
+        done = call("alpha", "two", "--keep", kept, "--", "sh", "-c", TEE, logs, *ALPHA)
         self.assertEqual(done.returncode, 0, done.stdout)
-        lines = text_in(self.path("kept", "run.transcript")).splitlines()[1:]
-        rows = [line.split(" ", 2)[1:] for line in lines]
-        seen = 0
+        rows = [line.split(" ", 2)[1:] for line in text_in(kept, "run.transcript").splitlines()[1:]]
+        did = []
         for name in {os.path.splitext(name)[0] for name in os.listdir(logs)}:
             lines = in_turn(*(text_in(logs, name + part) for part in (".in", ".out")))
             v = next(int(line.split()[1]) for line in lines if line.startswith("identifier"))
-            neighbours = {1: [2], 2: [1, 3], 3: [2]}[v]
             kinds = ("take ", "put ", "pulse ")
-            did = [by_vertex(line, neighbours) for line in lines if line.startswith(kinds)]
-            self.assertEqual(did, [words for u, words in rows if u == str(v)])
-            seen += len(did)
-        self.assertEqual(seen, len(rows))
+            own = [line.replace(" 0", f" {3 - v}", 1) for line in lines if line.startswith(kinds)]
+            self.same(f"node {v}", own, [words for u, words in rows if u == str(v)])
+            did += own
+        self.same("all of it", len(did), len(rows))
 
     def test_the_league_counts(self):
         done = call("open", "path5", "--", *GREEDY)

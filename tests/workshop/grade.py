@@ -16,7 +16,7 @@ from lab.workshop.cases import NETWORKS
 from lab.workshop.workshop import main
 from tests.cases import Case, text_in, wait_until
 from tests.tools import need
-from tests.workshop.base import DOOR, EXAMPLES, LIMIT, call
+from tests.workshop.base import DOOR, LIMIT, call
 from tests.workshop.submitted import MUTE, RIGHT, ZERO, Submitted
 from tests.workshop.sandbox import got, program
 from tests.workshop.misbehaving import MARK, left, left_at_last
@@ -153,19 +153,6 @@ class Grades(Submitted):
             parts.play_again(some, argparse.Namespace(seconds=600.0), "room")
         self.same("seconds", seen, [400, 600, 600])
         self.same("right runs", [part.result["right"] for part in some], [5, 9, 5])
-
-    def test_java(self):
-        """A class is run, and not its source, which each start would compile."""
-        need(self, "javac")
-        folder = self.submit("anna")
-        shutil.copy(os.path.join(EXAMPLES, "java", "AlphaNode.java"), folder)
-        self.same(
-            "its command", submissions.command_of(folder, "alpha"), ["java", "AlphaNode.java"]
-        )
-        self.submit("ben", commands="alpha: java None.java\n")
-        table = self.graded(runs="1")
-        rights = [table[name]["alpha"]["right"] for name in ("anna", "ben")]
-        self.same("anna's runs, and ben's", rights, [1, 0])
 
     def test_a_result_is_only_what_the_workshop_says_itself(self):
         """A process that plays a part is ended, has a fault, hangs, or ends badly after it has said something: that is

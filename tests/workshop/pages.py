@@ -3,7 +3,6 @@ the code. And what the folder of a class has, and what it hasn't."""
 import glob
 import os
 import re
-import subprocess
 import tempfile
 
 from lab.schedules.policies import POLICIES
@@ -145,29 +144,16 @@ class ClassFolder(Case):
             )
 
     def test_any_folder_makes_it(self):
-        """The command makes the same here and from the folder of a class itself."""
-        made, again = (
-            os.path.join(self.enterContext(tempfile.TemporaryDirectory()), name)
-            for name in ("a b", "c")
-        )
-        for door, to in ((TOP, made), (self.folder, again)):
-            done = subprocess.run(
-                [os.path.join(door, "bin", "forestlab"), "workshop", "class", to],
-                capture_output=True,
-                text=True,
-            )
-            self.assertEqual((done.returncode, done.stderr), (0, ""))
-            self.assertEqual(
-                subprocess.run(["sha256sum", "-c", "--quiet", "SHA256SUMS"], cwd=to).returncode, 0
-            )
-            differ = called("diff", "-rq", "-x", "__pycache__", self.folder, to)
-            self.assertEqual(differ, (0, b"", b""))
-        self.refusal(
-            "a folder that is there",
-            said_by("workshop", "class", made),
-            2,
-            f"{made} is there already\n",
-        )
+        """The command of a folder of a class makes the same."""
+        to = os.path.join(self.enterContext(tempfile.TemporaryDirectory()), "a b")
+        done = called(os.path.join(self.folder, "bin", "forestlab"), "workshop", "class", to)
+        self.same("status", (done[0], done[2]), (0, b""))
+        done = called("sha256sum", "-c", "--quiet", "SHA256SUMS", cwd=to)
+        self.same("sums", done, (0, b"", b""))
+        differ = called("diff", "-rq", "-x", "__pycache__", self.folder, to)
+        self.same("the folders", differ, (0, b"", b""))
+        said = f"{to} is there already\n"
+        self.refusal("a folder that is there", said_by("workshop", "class", to), 2, said)
 
     def test_it_works(self):
         self.assertLessEqual({"README.md", "LICENSE-MIT", "LICENSE-APACHE"}, self.found)
