@@ -93,8 +93,8 @@ what to do. The words after the code may follow: C8 vertex 1.""",
         "Puts the names of a network on a plan, which it reads from standard input.",
         """\
 A line has a node's name and its channel; a node without a name has its number.
-With --channels the channels are real numbers: see `forestlab channels --help`.""",
-        "forestplan plain < sites.col | forestlab network names sites.col --channels '1 6 11'",
+`forestlab channels` makes real numbers of the channels before.""",
+        "forestplan plain < sites.col | forestlab channels 1 6 11 | forestlab network names sites.col",
     ),
 }
 SAME = "the same one chooses the same again"
@@ -122,10 +122,6 @@ def add_options(command: ArgumentParser, name: str) -> None:
         command.add_argument("--forests", type=int, metavar="U", help="there are U forests")
     if name == "read":
         add_tables(command)
-    if name == "names":
-        command.add_argument(
-            "--channels", metavar="TABLE", help="real channel numbers, as '36 40 44 48'"
-        )
 
 
 def add_tables(command: ArgumentParser) -> None:
@@ -172,7 +168,6 @@ def command_line() -> ArgumentParser:
         add_options(command, name)
         if name == "read":
             add_form(command)
-        if name in ("read", "names"):
             add_stated(command)
         add_output(command)
         command.set_defaults(refuse=command.error)

@@ -15,9 +15,10 @@ from lab.networks.named import network_at, network_bytes, path_of
 from lab.networks.network_text import reading_of
 from lab.networks.numbering import renumbered
 from lab.networks.options import commands_for, stated_by
-from lab.networks.plan_text import clashes, read_plan
+from lab.networks.plan_text import rows_of
 from lab.networks.reading import form_read, listed_of, made_of
 from lab.networks.stated import Unsaid, decoded
+from lab.networks.tables import MOST_DIGITS
 from lab.networks.texts import text_of
 from lab.words import as_text, one_line, source_of, text_at, write
 from lab.wrong import Wrong
@@ -54,7 +55,8 @@ def was_read(given: Namespace) -> str:
     refuse_words(given)
     path = given.file if given.file is not None else given.sites
     name = one_line(path)
-    licence = channels_asked(given, words_of_channels(given), "network")
+    asked = [] if given.channels is None else [given.channels]
+    licence = channels_asked(given, asked, "network")
     found = Listed("sites") if given.file is None else file_listed(given, name)
     if given.sites:
         sites = tables.Sites(*text_asked(given, given.sites), given.stated)
@@ -69,11 +71,6 @@ def was_read(given: Namespace) -> str:
         say(f"{name}: {note}")
     head = [f"Channel {channel} is {real}" for channel, real in enumerate(licence or (), 1)]
     return text_of(network, head)
-
-
-def words_of_channels(given: Namespace) -> list[str]:
-    """The words of --channels, which are one of the shell."""
-    return [] if given.channels is None else [given.channels]
 
 
 def refuse_words(given: Namespace) -> None:
@@ -131,26 +128,16 @@ def was_numbered(given: Namespace) -> str:
 def was_named(given: Namespace) -> str:
     if given.file == "-":
         raise Wrong("names: standard input has the plan, so the network has to be a file")
-    network = network_at(given.file)
-    table = channels_asked(given, words_of_channels(given), "network")
-    given.stated.check_found()
-    plan = read_plan(text_at("-"), "the plan", network)
-    for v, w in clashes(network, plan)[:1]:
-        raise Wrong(
-            f"the plan: vertices {v} and {w} are neighbours and share a channel (C4): is it another network's?"
-        )
-    if table and max(plan.values(), default=0) > len(table):
-        raise Wrong(f"the plan takes {max(plan.values())} channels, and the table has {len(table)}")
-    rows = [
-        (network.names.get(v, str(v)), table[plan[v] - 1] if table else plan[v])
-        for v in network.vertices
-    ]
-    return as_text(f"{name} {channel}" for name, channel in rows)
+    network, name = network_at(given.file), "the plan"
+    rows = rows_of(text_at("-"), name, 0, 10**MOST_DIGITS)
+    if [v for _, v, _ in rows] != list(network.vertices):
+        raise Wrong(f"{name} isn't of this network, whose vertices have a line each, in order")
+    return as_text(f"{network.names.get(v, v)} {channel}" for _, v, channel in rows)
 
 
 def main(words: list[str]) -> int:
     given = command_line().parse_args(words)
-    if given.command in ("read", "names"):
+    if given.command == "read":
         given.stated = stated_by(given)
     doers = {"read": was_read, "tell": was_told, "number": was_numbered, "names": was_named}
     try:

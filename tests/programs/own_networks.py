@@ -377,19 +377,6 @@ class OwnNetworks(Case):
             "3 channels at 2 nodes, at most 2 at one, so at most 6 channels",
         )
         self.note("tell of a network without bars", "barred" not in self.told_of(LONG_NAMES)[0])
-        path, plan = self.file("net.col", BARRED), b"plan\n1 1\n2 3\n3 2\n4 %d\n"
-        self.same(
-            "names with bars",
-            call("names", path, data=plan % 3),
-            (0, b"1 1\n2 3\n3 2\nLast 3\n", b""),
-        )
-        done = call("names", path, data=plan % 2)
-        self.refusal(
-            "names of a barred channel",
-            done,
-            1,
-            b"vertex 4 has channel 2, which is barred at it (C8)",
-        )
 
     def test_tell(self):
         """Beside the definitions: the rounds' payloads, and the lines of a run's transcript."""

@@ -1,5 +1,5 @@
 """Tests of tables of sites and of real channel numbers: of `forestlab network read --sites`, `--reach`, `--bars` and
-`--channels`, of `forestlab network names --channels`, and of `forestlab channels`."""
+`--channels`, and of `forestlab channels`."""
 import itertools
 import math
 import random
@@ -247,11 +247,8 @@ class Channels(Case):
         path = self.file(
             "net.col", call("read", "-", "--as", "pairs", data=b"source,target\nUlm,Aue\n")[1]
         )
-        got = call("names", path, "--channels", "36 40", data=b"plan\n1 2\n2 1\n")
+        real = self.call("36", "40", data="plan\n1 2\n2 1\n")[1].encode()
+        got = call("names", path, data=real)
         self.same("names with real channels", got, (0, b"Ulm 40\nAue 36\n", b""))
-        hint = b"channel 40, which is above 2 (C5); if it is a real channel number: forestlab channels --back"
-        self.refusal(
-            "a plan of real channels", call("names", path, data=b"plan\n1 40\n2 36\n"), 1, hint
-        )
-        got = call("names", path, "--channels", "36", data=b"plan\n1 2\n2 1\n")
-        self.refusal("more channels than the licence", got, 1, b"takes 2 channels")
+        for other in (b"plan\n1 1\n", b"plan\n2 1\n1 2\n", b"plan\n1 1\n2 2\n3 3\n"):
+            self.refusal(f"{other}", call("names", path, data=other), 1, b"isn't of this network")
