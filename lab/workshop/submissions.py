@@ -1,8 +1,8 @@
 """What is submitted: each folder is a student's, and has the programs of the assignments; and the points of each."""
-import contextlib
 import os
 import re
 import shlex
+import stat
 from dataclasses import dataclass, field
 
 from lab.schedules.policies import POLICIES
@@ -20,7 +20,7 @@ STEMS = {
     "open": ("open_node", "OpenNode", "own_node", "OwnNode"),
 }
 RUNNERS = {".py": "python3", ".js": "node", ".java": "java", ".pl": "perl", ".rb": "ruby"}
-MOST_BYTES, MOST_FILES, MOST_ENTRIES, DEEPEST = 16 << 20, 10_000, 1000, 64
+MOST_BYTES, MOST_FILES, DEEPEST = 16 << 20, 1000, 64
 # What is in no word of `commands`.
 OUTSIDE = re.compile(r"/|@|\.\.")
 OF_THE_FOLDER = "files are named as they are in the folder itself, without `/`, `@` and `..`"
@@ -151,36 +151,19 @@ def way_to_run(folder: str, name: str) -> list[str]:
 
 
 def check_folder(folder: str) -> None:
-    """Refuses a folder that can't be copied."""
-    if kept_in(folder) > MOST_BYTES:
-        raise Wrong(f"its folder has more than {MOST_BYTES >> 20} megabytes, or is too deep")
-    if len(os.listdir(folder)) > MOST_ENTRIES:
-        raise Wrong(f"its folder has more than {MOST_ENTRIES:,} files in it")
-    for at, _, names in os.walk(folder):
-        for path in (os.path.join(at, name) for name in names):
-            if not os.path.isfile(path) and not os.path.islink(path):
-                name = clean(os.path.basename(path))
-                raise Wrong(f"its folder has a named pipe or a device in it: {name}")
-
-
-def kept_in(folder: str) -> int:
-    """The bytes of all files below a folder, with their holes, which a copy would fill; of too many files, folders too
-    deep, or what can't be looked at, as a path that is too long, too many bytes."""
-    size, files, folders = 0, 0, [(folder, 0)]
-    try:
-        for at, depth in folders:
-            with contextlib.suppress(FileNotFoundError):  # it has gone meanwhile
-                for entry in os.scandir(at):
-                    files += 1
-                    if files > MOST_FILES or depth > DEEPEST:
-                        return MOST_BYTES + 1
-                    if entry.is_dir(follow_symlinks=False):
-                        folders.append((entry.path, depth + 1))
-                    else:
-                        size += entry.stat(follow_symlinks=False).st_size
-    except OSError:
-        return MOST_BYTES + 1
-    return size
+    """Refuses a folder that can't be copied. Of files their holes count, which a copy would fill."""
+    size, paths = 0, [(folder, 0)]
+    for path, depth in paths:
+        info = os.lstat(path)
+        size += info.st_size
+        if size > MOST_BYTES or len(paths) > MOST_FILES or depth > DEEPEST:
+            most = f"{MOST_BYTES >> 20} megabytes or {MOST_FILES:,} files"
+            raise Wrong(f"its folder has more than {most}, or is too deep")
+        if stat.S_ISDIR(info.st_mode):
+            paths += [(os.path.join(path, name), depth + 1) for name in os.listdir(path)]
+        elif not stat.S_ISREG(info.st_mode) and not stat.S_ISLNK(info.st_mode):
+            name = clean(os.path.basename(path))
+            raise Wrong(f"its folder has a named pipe or a device in it: {name}")
 
 
 def clean(words: str) -> str:
