@@ -74,14 +74,8 @@ class Table:
         if not self.has_heading and not self.named.keys() & set(wanted):
             self.named = {column: str(at) for at, column in enumerate(wanted, 1)} | self.named
         self.line, self.titles, mark = self.begin(text)
-        self.columns: dict[str, int] = {}
-        for column in (*wanted, *others):
-            places = self.places_of(column, self.titles)
-            if len(places) > 1:
-                titles = in_words(shown(self.titles[at]) for at in places)
-                what = f"{titles} may each be the column {column}: rename one"
-                raise self.wrong(self.line, what)
-            self.columns |= {column: at for at in places}
+        found = {column: self.place_of(column) for column in (*wanted, *others)}
+        self.columns = {column: at for column, at in found.items() if at is not None}
         for column, at in self.columns.items():
             title = self.titles[at]
             if stated.columns.get(column, title).casefold() == title.casefold():
@@ -140,7 +134,13 @@ class Table:
         known = (named,) if named and named in small else TITLES[column]
         return [at for at, title in enumerate(small) if title in known]
 
-    # What is refused.
+    def place_of(self, column: str) -> int | None:
+        """The same, if there is one; two that may be meant are refused."""
+        places = self.places_of(column, self.titles)
+        if len(places) > 1:
+            titles = in_words(shown(self.titles[at]) for at in places)
+            raise self.wrong(self.line, f"{titles} may each be the column {column}: rename one")
+        return places[0] if places else None
 
     def unsaid(self, line: int, first: list[str]) -> Wrong:
         """The refusal of a first row that doesn't have all wanted columns."""
