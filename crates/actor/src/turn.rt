@@ -28,7 +28,7 @@ const TAKES: u32 = 4;
 // How many wires it puts by one port in a turn, at most: as many as an out-list has.
 const PUTS: u32 = 4;
 
-const _: () = prove!(0 < TAKES && 0 < PUTS);
+const _: () = prove!(TAKES == 4 && PUTS == 4);
 
 // The wire that the queue of a link held, without its stamp.
 fn wire_of<T: PayloadText>(item: Queued<T>) -> Wire<T>
