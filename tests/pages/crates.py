@@ -51,15 +51,7 @@ WORD = r"[^\s(){}\[\],.;:]+"
 CLAUSE = r"^ *(?:ensures|requires) \w* ?(\{(?:[^{}]|\{[^{}]*\})*\})"
 # Lemmas that nothing cites, by crate: each goes when its crate is proved anew.
 UNCITED = {
-    "actor": {
-        "answered",
-        "from_one",
-        "full_not_memory",
-        "memory_not_full",
-        "on_refusal",
-        "one_of",
-        "wires_put",
-    },
+    "actor": {"answered", "from_one", "one_of", "wires_put"},
     "alpha_core": {"few-payloads", "out-change", "safe-count"},
     "alpha_laws": {"close"},
     "answers": {"rooted-so"},

@@ -1,28 +1,17 @@
 -- What a turn that ended early says of why.
-use Rattle.std.proofs.Common.{◌≡◌, ℕ, ◌+◌, ◌<◌, ◌≤◌, List, [], ◌∷◌, length, sym, ◌∙◌, arith, Some, Ok, Err, slice_get}
-use Rattle.std.specs.Prelude.{Result, IfErr, IsErrAnd, max}
+use Rattle.std.proofs.Common.{◌≡◌, ℕ, ◌+◌, ◌<◌, ◌≤◌, ◌^◌, List, [], ◌∷◌, length, sym, ap, ◌∙◌, arith, None, Some, Ok, Err, slice_get}
+use Rattle.std.specs.Prelude.{Option, Result, IfErr, IsErrAnd, max}
+use Rattle.actor.specs.declared.aside.Aside.{Aside}
 use Rattle.actor.specs.declared.refused.TurnRefused.{TurnRefused}
 use Rattle.actor.specs.declared.refused.TurnRefused.TheVariants.{Memory, StampFull}
-
-pub on_refusal : {T E P : Type 0} (r : Result T E) (e : E) → P → IfErr r (λ error. error ≡ e → P)
-on_refusal (Ok x) e p = tt
-on_refusal (Err x) e p = λ _. p
+use Rattle.actor.specs.HasStamps.{aside_stamp}
+use Rattle.actor.specs.Remembered.{RemembersFull}
 
 pub memory-isnt_full : Memory ≡ StampFull → ⊥
 memory-isnt_full e = cc
 
 pub full-isnt_memory : StampFull ≡ Memory → ⊥
 full-isnt_memory e = cc
-
-pub memory_not_full : {T : Type 0} (P : Type 0) (r : Result T TurnRefused) → IsErrAnd r (λ error. error ≡ Memory)
-    → IfErr r (λ error. error ≡ StampFull → P)
-memory_not_full P (Ok x) is = tt
-memory_not_full P (Err e) is = λ full. absurd (memory-isnt_full (sym is ∙ full))
-
-pub full_not_memory : {T : Type 0} (P : Type 0) (r : Result T TurnRefused) → IsErrAnd r (λ error. error ≡ StampFull)
-    → IfErr r (λ error. error ≡ Memory → P)
-full_not_memory P (Ok x) is = tt
-full_not_memory P (Err e) is = λ memory. absurd (full-isnt_memory (sym is ∙ memory))
 
 -- a refusal that is handed on
 pub same_refusal : {T : Type 0} (P : Type 0) (r : Result T TurnRefused) (e why : TurnRefused) → IsErrAnd r (λ error. error ≡ e) → (e ≡ why → P)
@@ -44,3 +33,11 @@ past_above s n m is = omega (arith, is)
 pub first_there : {A : Type 0} (xs : List A) (x : A) → slice_get xs 0 ≡ Some x → 0 < length xs
 first_there [] x is = absurd cc
 first_there (y ∷ ys) x is = omega arith
+
+-- a node that has set no wire aside and remembers a stamp that would be too great has come to the greatest by its counter
+pub full_counter : {M : Type 0} {refusal : Option TurnRefused} (counter : ℕ) (aside : Option (Aside M)) → RemembersFull refusal counter aside
+    → aside ≡ None → refusal ≡ Some StampFull → 2 ^ 64 ≤ counter + 1
+full_counter counter aside remembers none is =
+    let full = remembers is in
+    let zero : aside_stamp aside ≡ 0 = ap (λ o. aside_stamp o) none in
+    omega (arith, full, zero)

@@ -5,6 +5,7 @@ pub mod Stepped
 pub mod Counted
 pub mod Did
 pub mod Kept
+pub mod Remembered
 pub mod Props
 pub mod Node
 pub mod Tables

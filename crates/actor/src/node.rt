@@ -8,6 +8,7 @@ ghost use Rattle.link_queue.specs.Ends.{put_list, taken_list};
 ghost use Rattle.actor.specs.Kept.{IsKept};
 ghost use Rattle.actor.specs.Node.{links_in, links_out};
 ghost use Rattle.actor.specs.Props.{Follows-prop, HasStamps-prop, Leads-prop};
+ghost use Rattle.actor.specs.Remembered.{RemembersFull};
 
 use crate::aside::Aside;
 use crate::refused::TurnRefused;
@@ -38,6 +39,8 @@ pub struct Node<J: Wiring, P: NodeProgram> {
     /// It keeps its links, and writes down what it does, if the run's nodes do.
     pub ghost kept: { IsKept P.program vertex degree aside alpha.last alpha.node puts.items takes.items
         recorder counter } by { Prim.hlevel (props, Follows-prop, Leads-prop, HasStamps-prop) },
+    /// If it remembers that a turn was refused a stamp, it has come to the greatest.
+    pub ghost remembers: { RemembersFull refusal counter aside },
 }
 
 impl<J: Wiring, P: NodeProgram> Node<J, P> {

@@ -1,6 +1,6 @@
 //! What a node does in a turn.
 
-ghost use Rattle.std.specs.Prelude.{◌≡◌, ◌<◌, ◌≤◌, ◌+◌, ◌^◌, ℕ, max, IfErr, IfOk, IsSome, IsTrue, None, Ok};
+ghost use Rattle.std.specs.Prelude.{◌≡◌, ◌<◌, ◌≤◌, ◌+◌, ◌^◌, ℕ, max, IfErr, IfOk, IsSome, IsTrue, None, Ok, Err};
 ghost use Rattle.std.specs.Prelude.{false, true};
 ghost use Rattle.alpha_core.specs.View.{can_pulse, can_take};
 ghost use Rattle.link_queue.specs.Queued.{stamped_of};
@@ -39,6 +39,16 @@ fn wire_of<T: PayloadText>(item: Queued<T>) -> Wire<T>
         Queued::Ack(pulse, _) => Wire::Ack(pulse),
         Queued::Safe(pulse, _) => Wire::Safe(pulse),
         Queued::Close(_) => Wire::Close,
+    }
+}
+
+// What a node remembers after a refused turn: that memory was refused, if it ever was.
+fn remembered(old: Option<TurnRefused>, refused: TurnRefused) -> Option<TurnRefused>
+    ensures refusal { result ≡ refusal_after old (Err refused) }
+{
+    match old {
+        Some(TurnRefused::Memory) => Some(TurnRefused::Memory),
+        _ => Some(refused),
     }
 }
 
@@ -356,10 +366,7 @@ impl<J: Wiring, P: NodeProgram> Node<J, P> {
         match self.parts_of_turn(rt, links, gate, worker) {
             Ok(did) => Ok(did),
             Err(refused) => {
-                self.refusal = match self.refusal {
-                    Some(TurnRefused::Memory) => Some(TurnRefused::Memory),
-                    _ => Some(refused),
-                };
+                self.refusal = remembered(self.refusal, refused);
                 Err(refused)
             }
         }

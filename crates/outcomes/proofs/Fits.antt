@@ -23,7 +23,7 @@ use Rattle.actor.specs.HasStamps.{IsFullAside, aside_stamp, stamp_of_why}
 use Rattle.actor.specs.Node.{by_port, reacted_to}
 use Rattle.entries.specs.declared.rows.StampedEntry.{StampedEntry}
 use Rattle.gather_laws.specs.Fits.{AreWithin, HaveMetAside}
-use Rattle.gather_laws.specs.Outcome.{Outcome, entries_in, link_in, link_into, node_in}
+use Rattle.gather_laws.specs.Outcome.{Outcome, entries_in, link_in, node_in}
 use Rattle.gather_laws.proofs.Asides.{reacted_begins}
 use Rattle.gather_laws.proofs.Fits.{are_within}
 use Rattle.outcomes.proofs.Did.{DidAt, chosen, gathered_full}

@@ -7,6 +7,7 @@ use Rattle.actor.specs.declared.aside.WhyAside.TheVariants.{Refused, StampFull}
 use Rattle.actor.specs.declared.refused.TurnRefused.{TurnRefused}
 use Rattle.actor.specs.declared.refused.TurnRefused.TheVariants as refused
 use Rattle.actor.specs.HasStamps.{aside_stamp, stamp_of_why}
+use Rattle.actor.specs.Remembered.{RemembersFull}
 use Rattle.outcomes.specs.Full.{HasStampLeft}
 
 -- a node that has a stamp left has set no wire aside for its stamp
@@ -33,3 +34,11 @@ module _ {A M : Type 0} (counter : A → ℕ) (aside : A → Option (Aside M)) (
     all_refused full k d lt x e =
         let a = get_or nodes k d in
         not_for_its_stamp (counter a) (aside a) x (left k d lt) e (λ s why. full a x e s why)
+
+    -- and no node remembers a stamp that would be too great
+    pub none_remembered : (refusal : A → Option TurnRefused) → ((a : A) → RemembersFull (refusal a) (counter a) (aside a))
+        → All (λ a. refusal a ≡ Some refused.StampFull → ⊥) nodes
+    none_remembered refusal remembers k d lt e =
+        let some = left k d lt in
+        let past = remembers (get_or nodes k d) e in
+        omega (arith, some, past)

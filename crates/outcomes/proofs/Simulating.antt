@@ -2,15 +2,13 @@
 -- 1. The ends have met, with what the links say was put and taken (`Linked`).
 -- 2. No wire was set aside for its stamp (`Fits`), so none was set aside, and each node keeps its links with the lists of the links (`kept`).
 -- 3. So the nodes simulate the synchronous run, and keep their stamps (`Stamping`); the rest is read of the rows (`is_outcome`).
-use Rattle.std.proofs.Common.{◌≡◌, ℕ, ◌-◌, ◌<◌, ◌≤◌, List, [], ◌++◌, length, map, get_or, sym, ap, ◌∙◌, subst, arith, None, Some}
+use Rattle.std.proofs.Common.{◌≡◌, ℕ, ◌-◌, ◌<◌, ◌≤◌, List, [], ◌++◌, length, sym, ap, ◌∙◌, subst, arith, None, Some}
 use Rattle.std.specs.Prelude.{Bool, Option, All}
 use Rattle.std.proofs.Math.Path.{transport}
-use Rattle.std.proofs.lemmas.List.{length-map}
 use Rattle.std.proofs.lemmas.List.FromFn.{length-range_with_len}
 use Rattle.std.proofs.lemmas.Option.{get_or_from_slice_get}
-use Rattle.std.proofs.lemmas.Simd.{map-map}
 use Rattle.interference.specs.Net.{Net, IsVertex, count_of, degree_of, neighbour_of, back_port_of}
-use Rattle.node_api.specs.Program.{Program, last_pulse_on}
+use Rattle.node_api.specs.Program.{Program}
 use Rattle.alpha_laws.specs.Kept.{AllKept, NodeKept}
 use Rattle.alpha_laws.proofs.Across.{over}
 use Rattle.alpha_laws.proofs.Runs.{runs}
@@ -18,12 +16,11 @@ use Rattle.alpha_laws.proofs.Claims.{simulates}
 use Rattle.alpha_core.specs.declared.stamped.Stamped.{Stamped}
 use Rattle.alpha_core.specs.StampedWires.{wires_of}
 use Rattle.alpha_core.specs.View.{Alpha}
-use Rattle.alpha_core.specs.declared.wire.Wire.{Wire}
 use Rattle.actor.specs.declared.aside.Aside.{Aside}
 use Rattle.actor.specs.declared.aside.WhyAside.TheVariants.{Refused}
 use Rattle.entries.specs.declared.rows.StampedEntry.{StampedEntry}
 use Rattle.entries.specs.Rows.{bare_of}
-use Rattle.actor.specs.Node.{IsAside, by_port, reacted_to}
+use Rattle.actor.specs.Node.{by_port, reacted_to}
 use Rattle.actor.specs.Written.{IsTranscript}
 use Rattle.actor.proofs.Kept.{node_same}
 use Rattle.gather_laws.specs.Laws.{EndsHaveMet}
@@ -32,10 +29,8 @@ use Rattle.gather_laws.specs.Outcome.{IsOutcome, Outcome, entries_in, held_on, l
 use Rattle.gather_laws.proofs.Asides.{met_simulate}
 use Rattle.gather_laws.proofs.MetNodes.{met_written}
 use Rattle.gather_laws.proofs.Merged.{runs_merge}
-use Rattle.gather_laws.proofs.Whole.{split_wires}
-use Rattle.outcomes.proofs.Rows.{get_map, get_field, length-nodes}
-use Rattle.outcomes.proofs.Linked.{AreGathered, alpha_is, entries_at, here, many, put_is, puts_at, puts_here, row_long, row_there, split_is, taken_here}
-use Rattle.outcomes.proofs.Linked.{taken_is, takens_at, takens_here}
+use Rattle.outcomes.proofs.Rows.{length-nodes}
+use Rattle.outcomes.proofs.Linked.{AreGathered, alpha_is, here, many, row_long, row_there, split_is, taken_here, taken_is}
 use Rattle.outcomes.proofs.Stamping.{have_met}
 use Rattle.outcomes.proofs.Wires.{aside_at, aside_is, asides_at, as_many_ports, came_at, came_by, came_is, node_is, sent_at, sent_by, sent_is}
 use Rattle.outcomes.proofs.Wires.{wires_split, wrote_at}

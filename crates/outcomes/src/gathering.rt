@@ -1,9 +1,11 @@
 //! The nodes and links of a run become its outcome.
 
-ghost use Rattle.std.specs.Prelude.{◌≡◌, ◌<◌, ◌^◌, ℕ, All, IfOk, map};
+ghost use Rattle.std.specs.Prelude.{◌≡◌, ◌≢◌, ◌<◌, ◌^◌, ℕ, All, IfOk, Some, map};
 ghost use Rattle.interference.specs.Net.{vertices};
 ghost use Rattle.node_api.specs.Program.{last_pulse_on};
+ghost use Rattle.actor.specs.declared.refused.TurnRefused.TheVariants.{StampFull};
 ghost use Rattle.actor.specs.Links.{HoldAtMost};
+ghost use Rattle.actor.specs.Stepped.{refusal_of};
 ghost use Rattle.gather_laws.specs.Outcome.{IsOutcome};
 ghost use Rattle.outcomes.specs.Full.{HasStampLeft};
 
@@ -43,6 +45,7 @@ pub fn gathered<J: Wiring, P: NodeProgram, R: Wait>(
     ensures outcome { IfOk result (λ outcome. (capacity : ℕ)
         → HoldAtMost links.now capacity → IsOutcome P.program net.now capacity J.transcript outcome) }
     ensures stamps { IfOk result (λ _. All (λ b. HasStampLeft b.value.counter b.value.aside) nodes.items) }
+    ensures remembered { IfOk result (λ _. All (λ b. refusal_of b.value ≢ Some StampFull) nodes.items) }
 {
     // So a run has fewer than 2^60 events, by a clause of this call.
     let _last = last_pulse_of::<P>(net);

@@ -15,7 +15,7 @@ pub enum PoolFault {
     Spawn,
     /// G3: workers or capacity are out of range.
     BadOptions,
-    /// G4: a stamp would pass 18446744073709551615. A run reports it only if it has no other fault.
+    /// G4: a stamp would pass 18446744073709551615. No run returns it: `stamps_fit` of `node_pool::run_workers`.
     StampFull,
 }
 

@@ -25,6 +25,7 @@ pub invariant_of-self : goal.invariant_of-self
 invariant_of-self g c = record {
   kept = kept-none-put c.args.self.now.kept c.requires.going
       record { is = c.index_mut.ensures.value; place = c.was_full.ensures.place; same = c.was_full.ensures.unchanged };
+  remembers = c.args.self.now.remembers;
 }
 
 pub returns : goal.returns

@@ -1,5 +1,5 @@
 -- The plan: each exit is an event of the node, and what it keeps after it is a lemma of `Keeping`.
-use Rattle.std.proofs.Common.{◌^◌, ◌∙◌, refl, subst, sym, true≢false}
+use Rattle.std.proofs.Common.{◌^◌, ◌∙◌, refl, subst, sym, arith, true≢false}
 use Rattle.std.specs.Prelude.{IsTrue}
 use Rattle.std.proofs.lemmas.Result.{IfOk-from_err}
 use Rattle.alpha_laws.proofs.PulseAfter.{pulsed_pulse}
@@ -7,7 +7,7 @@ use Rattle.actor.proofs.Counting.{counts-pulse, counts-still}
 use Rattle.actor.proofs.Keeping.{kept-pulsed, kept-room}
 use Rattle.actor.proofs.Steps.{never_refused}
 use Rattle.actor.specs.HasStamps.{aside_stamp}
-use Rattle.actor.proofs.Refusals.{next_above, past_greater}
+use Rattle.actor.proofs.Refusals.{next_above, past_greater, full_counter}
 use Rattle.actor.proofs.Stepping.{stepped-did, stepped-full, stepped-memory, stepped-not}
 use Rattle.actor.proofs.node.Node.pulse.Goals as goal
 
@@ -20,7 +20,7 @@ unreachable-requires g c =
 
 -- room for an entry was made
 pub invariant_of-self : goal.invariant_of-self
-invariant_of-self g c = record { kept = kept-room c.args.self.now.kept c.reserve.ensures.same }
+invariant_of-self g c = record { kept = kept-room c.args.self.now.kept c.reserve.ensures.same; remembers = c.args.self.now.remembers }
 
 pub invariant_of-self-in-Ok : goal.invariant_of-self-in-Ok
 invariant_of-self-in-Ok g c = record {
@@ -28,6 +28,8 @@ invariant_of-self-in-Ok g c = record {
       (sym c.can_pulse.ensures.can ∙ c.if-not-can_pulse.false)
       c.in-Ok.ensures.pulse c.pulse_number-number.ensures.pulse c.in-Ok.ensures.last
       c.in_ok-stamp.ensures.stamp c.advance.ensures.value c.write.ensures.written;
+  remembers = λ is. let full = full_counter c.args.self.now.counter c.args.self.now.aside c.args.self.now.remembers c.requires.going is in
+      omega (arith, full, c.in_ok-stamp.ensures.stamp, c.advance.ensures.value);
 }
 
 pub advance-requires : goal.advance-requires

@@ -11,7 +11,7 @@ use Rattle.actor.proofs.Kept.{may_put, legal_by_name}
 use Rattle.interference.specs.Net.{degree_of, neighbour_of}
 use Rattle.alpha_core.specs.Program.{IsLegal}
 use Rattle.actor.specs.HasStamps.{aside_stamp}
-use Rattle.actor.proofs.Refusals.{first_there, next_above, past_greater}
+use Rattle.actor.proofs.Refusals.{first_there, next_above, past_greater, full_counter}
 use Rattle.actor.proofs.Stepping.{stepped-did, stepped-full, stepped-memory, stepped-not}
 use Rattle.actor.proofs.node.Node.put_one.Goals as goal
 
@@ -56,6 +56,7 @@ pub invariant_of-self-in-Err : goal.invariant_of-self-in-Err
 invariant_of-self-in-Err g c = record {
   kept = kept-none-put (kept-room c.args.self.now.kept c.reserve.ensures.same) c.requires.going
       record { is = c.index_mut.ensures.value; place = c.in-Err.ensures.place; same = c.in-Err.ensures.unchanged };
+  remembers = c.args.self.now.remembers;
 }
 
 pub invariant_of-self-in-Ok : goal.invariant_of-self-in-Ok
@@ -65,6 +66,8 @@ invariant_of-self-in-Ok g c = record {
       c.index-neighbour.ensures (sym c.in-Some.ensures.oldest) c.put_done.ensures.view c.put_done.ensures.state
       c.put_done.ensures.last c.in_ok-stamp.ensures.stamp c.advance.ensures.value
       c.write.ensures.written;
+  remembers = λ is. let full = full_counter c.args.self.now.counter c.args.self.now.aside c.args.self.now.remembers c.requires.going is in
+      omega (arith, full, c.in_ok-stamp.ensures.stamp, c.advance.ensures.value);
 }
 
 -- the port is one of the node's
@@ -83,7 +86,7 @@ put_done-requires-clause-some g c κs within = first_there _ c.in-Some.wire (sym
 
 -- room for an entry was made
 pub invariant_of-self : goal.invariant_of-self
-invariant_of-self g c = record { kept = kept-room c.args.self.now.kept c.reserve.ensures.same }
+invariant_of-self g c = record { kept = kept-room c.args.self.now.kept c.reserve.ensures.same; remembers = c.args.self.now.remembers }
 
 pub advance-requires : goal.advance-requires
 advance-requires g c = record { above = next_above c.in_ok-stamp.stamp c.args.self.now.counter c.in_ok-stamp.ensures.stamp }

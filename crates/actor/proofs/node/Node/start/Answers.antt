@@ -65,4 +65,5 @@ invariant_of-result g c =
               (none_stamped_at (λ e. put_stamped e.end) c.args.puts.items c.requires.nothing_put) refl;
         } ∣₁;
       };
+      remembers = λ none. absurd cc;
     }

@@ -8,7 +8,7 @@ use Rattle.link_queue.specs.Ends.{taken_list, taken_stamped}
 use Rattle.actor.proofs.Counting.{counts-still, counts-take}
 use Rattle.actor.proofs.Keeping.{came, count_takes, kept-full, kept-none-came, kept-refused, kept-room, kept-took, last_came, takes_within}
 use Rattle.actor.proofs.Lists.{below_as_many, same_all}
-use Rattle.actor.proofs.Refusals.{past_above}
+use Rattle.actor.proofs.Refusals.{past_above, full_counter}
 use Rattle.actor.proofs.Stepping.{stepped-did, stepped-full, stepped-memory, stepped-not}
 use Rattle.actor.proofs.node.Node.take_one.Goals as goal
 
@@ -25,6 +25,8 @@ pub invariant_of-self-in-None : goal.invariant_of-self-in-None
 invariant_of-self-in-None g c = record {
   kept = kept-none-came (kept-room c.args.self.now.kept c.reserve.ensures.same) c.requires.going
       record { is = c.index_mut-end.ensures.value; place = c.in-None.ensures.place; same = c.in-None.ensures.unchanged };
+  remembers = λ is. let full = full_counter c.args.self.now.counter c.args.self.now.aside c.args.self.now.remembers c.requires.going is in
+      omega (arith, full);
 }
 
 pub invariant_of-self-in-Ok-on_wire : goal.invariant_of-self-in-Ok-on_wire
@@ -34,6 +36,8 @@ invariant_of-self-in-Ok-on_wire g c = record {
       c.stamp-stamp.ensures c.wire_of-wire.ensures.wire)
       c.in-Some.ensures.legal c.in-Ok-on_wire.ensures.reaction c.in-Ok-on_wire.ensures.state c.in-Ok-on_wire.ensures.last
       c.in-Ok.ensures.stamp c.advance.ensures.value c.write.ensures.written;
+  remembers = λ is. let full = full_counter c.args.self.now.counter c.args.self.now.aside c.args.self.now.remembers c.requires.going is in
+      omega (arith, full, c.in-Ok.ensures.stamp, c.advance.ensures.value);
 }
 
 pub invariant_of-self-in-Err : goal.invariant_of-self-in-Err
@@ -42,6 +46,8 @@ invariant_of-self-in-Err g c = record {
       (came c.in-Some.item c.index_mut-end.ensures.value c.in-Some.ensures.place c.in-Some.ensures.stamped
       c.stamp-stamp.ensures c.wire_of-wire.ensures.wire)
       c.in-Err.ensures.reaction (ap (λ a. a.node) c.in-Err.ensures.refused) c.in-Err.ensures.last;
+  remembers = λ is. let full = full_counter c.args.self.now.counter c.args.self.now.aside c.args.self.now.remembers c.requires.going is in
+      omega (arith, full);
 }
 
 -- the stamp of the take would be too great
@@ -51,10 +57,12 @@ invariant_of-self-in_default g c = record {
       (came c.in-Some.item c.index_mut-end.ensures.value c.in-Some.ensures.place c.in-Some.ensures.stamped
       c.stamp-stamp.ensures c.wire_of-wire.ensures.wire)
       c.in_default.ensures.full;
+  remembers = λ is. let full = full_counter c.args.self.now.counter c.args.self.now.aside c.args.self.now.remembers c.requires.going is in
+      omega (arith, full);
 }
 
 pub invariant_of-self : goal.invariant_of-self
-invariant_of-self g c = record { kept = kept-room c.args.self.now.kept c.reserve.ensures.same }
+invariant_of-self g c = record { kept = kept-room c.args.self.now.kept c.reserve.ensures.same; remembers = c.args.self.now.remembers }
 
 pub on_wire-requires-clause-port : goal.on_wire-requires-clause-port
 on_wire-requires-clause-port g c κs within =
