@@ -17,7 +17,6 @@ forestlab picture run examples/chain6.col --pulses 3..5 --transcript examples/ch
 forestlab picture watch examples/chain6.col examples/chain6_slow.transcript -o docs/pictures/chain6_slow-watch.html
 forestlab picture schedules examples/two.col -o docs/pictures/two-schedules.svg
 forestlab picture schedules examples/two.col --without safes -o docs/pictures/two-without-safes.svg
-forestlab picture schedules examples/two.col --without safes --columns 0..24 -o docs/pictures/two-without-safes-beyond.svg
 forestlab picture schedules examples/two.col --without early -o docs/pictures/two-without-early.svg
 forestlab picture schedules examples/two.col --without fifo -o docs/pictures/two-without-fifo.svg
 forestlab picture schedules examples/two.col --without acks,fifo -o docs/pictures/two-without-acks-fifo.svg

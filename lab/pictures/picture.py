@@ -140,8 +140,7 @@ def draw_watch(of, pulses):
 
 
 def draw_schedules(of, without, columns):
-    is_beyond = columns is not None
-    space = schedules_space.space_of(of.network, without, is_beyond, of.program, of.progress)
+    space = schedules_space.space_of(of.network, without, of.program, of.progress)
     return schedules_picture.draw(of.network, space, columns)
 
 
@@ -241,8 +240,7 @@ KINDS = {
     "schedules": Kind(
         "Every order of events of a tiny network: its states as a lattice, one column an event.",
         "At most 200,000 states. Of long ones the first columns, or others with --columns.\n"
-        "With a rule left out, up to the first event that goes wrong, which is red; with --columns what\n"
-        "comes after it, too.",
+        "With a rule left out, up to the first event that goes wrong, which is red.",
         "forestlab picture schedules examples/triangle.col --columns 0..24 > triangle-schedules.svg\n"
         "  forestlab picture schedules examples/path.col --without safes > path-without-safes.svg",
         draw_schedules,

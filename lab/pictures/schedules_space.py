@@ -8,19 +8,11 @@ from lab.schedules.space import Space
 from lab.wrong import Wrong
 
 MAX_STATES = 200_000
-BROKEN_STATES = 20_000, 60_000, MAX_STATES
 
 
-def space_of(network, without=(), beyond=False, program=Colouring, progress=None):
-    """The space of a network that was read, whose nodes run a program. With a rule left out it goes on after what goes
-    wrong if `beyond`, up to the first of the numbers of `BROKEN_STATES` within which something does. `progress` is told
-    now and then how many states and events there are so far."""
-    if without and beyond:
-        for limit in BROKEN_STATES:
-            space = Space(network, without, limit, beyond=True, progress=progress, program=program)
-            if space.faults or not space.is_cut:
-                break
-        return space
+def space_of(network, without=(), program=Colouring, progress=None):
+    """The space of a network that was read, whose nodes run a program. `progress` is told now and then how many states
+    and events there are so far."""
     space = Space(network, without, MAX_STATES, progress=progress, program=program)
     if space.is_cut:
         raise Wrong(

@@ -282,13 +282,7 @@ def searched(given: Namespace, net: Network, program: Program) -> Space:
 
     try:
         space = Space(
-            net,
-            given.without,
-            given.limit,
-            False,
-            progress if show else None,
-            given.reduce,
-            program,
+            net, given.without, given.limit, progress if show else None, given.reduce, program
         )
     finally:
         if show:

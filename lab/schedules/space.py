@@ -4,9 +4,8 @@
 
 `net` is a network of the definitions, and `program` what its nodes run. A put is made as soon as it can be, so that a
 state has no wires that wait to be put, and no event is a put. `without` has rules of rules.OF_SCHEDULES. With a rule
-left out the search ends at the first event that goes wrong, which a shortest list of events leads to; `beyond=True`
-goes on, from wherever the program doesn't refuse. If there are more than `limit` states it ends there, and `is_cut`:
-states from `expanded` on have no steps.
+left out the search ends at the first event that goes wrong, which a shortest list of events leads to. If there are
+more than `limit` states it ends there, and `is_cut`: states from `expanded` on have no steps.
 
 With `reduce`, a safe or a close that comes next on its link is taken at once and alone, which leaves most states out
 (see `alone`). What each pulse finds, what is refused, and the ends stay; the number of schedules, shortest lists, how
@@ -77,16 +76,9 @@ class Numbered(list):
 
 class Space:
     def __init__(
-        self,
-        net,
-        without=(),
-        limit=1_000_000,
-        beyond=False,
-        progress=None,
-        reduce=False,
-        program=Colouring,
+        self, net, without=(), limit=1_000_000, progress=None, reduce=False, program=Colouring
     ):
-        self.net, self.without, self.limit, self.beyond = net, tuple(without), limit, beyond
+        self.net, self.without, self.limit = net, tuple(without), limit
         self.reduce, self.program = reduce, program
         self.asks_for_messages = issubclass(program, OwnNode) and asks_for_messages(program)
         self.rounds = Rounds(net, program)
@@ -219,11 +211,7 @@ class Space:
         )
         said, s = time.monotonic(), 0
         while s < len(self.states) and not self.is_cut:
-            if (
-                self.faults
-                and not self.beyond
-                and self.depth[s] > self.depth[next(iter(self.faults))[0]]
-            ):
+            if self.faults and self.depth[s] > self.depth[next(iter(self.faults))[0]]:
                 break
             self.expand(s)
             s += 1

@@ -4,6 +4,8 @@ import functools
 from collections import Counter
 from itertools import pairwise
 
+from lab.definitions.leader import Leader
+from lab.definitions.nodes import Colouring
 from lab.networks.network_text import network_of
 from lab.schedules.space import Space
 from tests.cases import example
@@ -14,8 +16,8 @@ NETWORKS = {name: example(name) for name in ("two", "path", "triangle")}
 
 
 @functools.cache
-def space_of(name, without=(), beyond=False):
-    return Space(network_of(NETWORKS[name]), without, beyond=beyond)
+def space_of(name, without=(), program=Colouring):
+    return Space(network_of(NETWORKS[name]), without, program=program)
 
 
 def columns_of(root, mark):
@@ -26,10 +28,6 @@ def columns_of(root, mark):
 def lattice_options(without, window):
     rules = [f"--without={','.join(without)}"] if without else []
     return rules + (["--columns={}..{}".format(*window)] if window else [])
-
-
-def wrong_states(space):
-    return {s for s in range(space.count) if any(node.wrong for node in space.nodes(s).values())}
 
 
 def first_wrong(space):
@@ -67,24 +65,22 @@ class Schedules(PictureCase):
             ("two", ("fifo",), None),
             ("two", ("acks", "fifo"), None),
             ("triangle", ("safes",), None),
-            ("two", ("safes",), (0, 24)),
-            ("two", ("safes",), (72, 84)),
-            ("two", ("early",), (0, 30)),
         ):
             self.lattice_rows(name, without, window)
+        # The colouring refuses each wrong inbox, and a leader goes on.
+        self.lattice_rows("path", ("early",), None, Leader)
 
-    def lattice_rows(self, name, without, window):
+    def lattice_rows(self, name, without, window, program=Colouring):
         """The states, by columns; the steps between them; a bold run from column to column; and in red what goes wrong:
-        up to the first such events, where the bold run ends, or with --columns also what comes after, where a node that
-        has made a wrong pulse is red."""
-        space = space_of(name, without, bool(without) and window is not None)
-        options = lattice_options(without, window)
+        up to the first such events, where the bold run ends."""
+        space = space_of(name, without, program)
+        options = [*lattice_options(without, window), "--program", program.name]
         root = parsed(self.drawn("schedules", NETWORKS[name], *options))
         row = self.rows_of(f"lattice of {name} {options}")
         right, wrong = columns_of(root, "state"), columns_of(root, "state wrong")
         columns = sorted(right | wrong)
         low, high = window or (0, len(columns) - 1)
-        good, bad = right_and_wrong(space, wrong_states(space) if window else first_wrong(space))
+        good, bad = right_and_wrong(space, first_wrong(space))
         shown = range(low, high + 1)
         row("its columns", [right[x] for x in columns], [good[far] for far in shown])
         row("red marks", [wrong[x] for x in columns], [bad[far] for far in shown])

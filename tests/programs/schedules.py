@@ -56,13 +56,7 @@ def net_of(name):
 
 # Networks, and rules left out.
 NAMED = Network(3, [(1, 2), (2, 3)], {1: 9, 2: 200, 3: 5}, {2: [1]})
-REDUCED = [
-    (net_of("two"), ("acks", "early")),
-    (NAMED, ("early",)),
-    (NAMED, ("acks",)),
-    (net_of("apart"), ()),
-    (net_of("triangle"), ()),
-]
+REDUCED = [(NAMED, ("acks",)), (net_of("apart"), ()), (net_of("triangle"), ())]
 
 
 def put_all(state):
@@ -231,17 +225,15 @@ class Schedules(Case):
     def test_reduced(self):
         """With `reduce` the same goes wrong, and the ends are the same; its states are some of the whole search."""
         for net, without in REDUCED:
-            whole, less = (
-                Space(net, without, MOST, bool(without), reduce=it) for it in (False, True)
-            )
+            whole, less = (Space(net, without, MOST, reduce=it) for it in (False, True))
             name = f"{net.edges} without {without}"
-            found, wanted = (
-                (set(space.faults.values()), states_of(space, space.ends))
-                for space in (less, whole)
-            )
-            self.same(name, found, wanted)
+            self.note(f"nothing goes wrong: {name}", not less.faults and not whole.faults)
+            self.same(name, *(states_of(space, space.ends) for space in (less, whole)))
             some, of_all = (states_of(space, range(space.count)) for space in (less, whole))
             self.note(f"states of {name}", some < of_all, (len(some), len(of_all)))
+        for without in (("early",), ("acks", "early")):
+            less = Space(net_of("two"), without, MOST, reduce=True)
+            self.note(f"what goes wrong is found: two without {without}", less.faults)
         # The triangle's counts by the help; and nothing of what it doesn't know.
         for words in ([], ["--reduce"]):
             said = explored("triangle", *words)[1]
@@ -301,18 +293,6 @@ class Schedules(Case):
         space = Space(net_of("two"), without=("acks",), limit=MOST)
         good = not space.faults and len(space.ends) == 1 and space.count == 536
         self.note("two without acks", good, (space.count, space.faults))
-
-    def test_beyond(self):
-        """Beyond the first fault, of two nodes without safes: as many states as a search found that compared nodes
-        field by field; and only a wrong pulse leads to another plan."""
-        beyond = Space(net_of("two"), without=("safes",), beyond=True, limit=MOST)
-        self.same("states beyond it", (beyond.count, len(beyond.target)), (1631, 4113))
-        self.note("neighbours far apart", beyond.farthest > 1, beyond.farthest)
-        ends = [beyond.nodes(s) for s in beyond.ends]
-        right = [nodes for nodes in ends if not any(node.wrong for node in nodes.values())]
-        plans = [{v: node.colour for v, node in nodes.items()} for nodes in right]
-        self.same("plans of right pulses", plans, [colours(beyond.net)] * len(right))
-        self.note("some are wrong", 0 < len(right) < len(ends), (right, ends))
 
     def test_rounds(self):
         for net in map(network_of, networks_by_chance(20, 9)):
