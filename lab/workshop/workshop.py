@@ -54,22 +54,13 @@ def run(options: Namespace, cases: list[Case]) -> int:
     case = shown or cases[-1]
     if options.keep:
         keep(case, options.keep, options.program)
-    write(
-        json.dumps(as_json(options, cases, shown, seconds))
-        if options.json
-        else "\n".join(report(cases, shown, seconds))
-    )
+    if options.json:
+        print(json.dumps(as_json(options, cases, shown, seconds)), flush=True)
+    else:
+        print("\n".join(report(cases, shown, seconds)), flush=True)
     if options.picture and (why := draw(case, options.picture, options.program)):
         print(f"workshop: there is no picture: {why}", file=sys.stderr)
     return 1 if shown else 0
-
-
-def write(text: str) -> None:
-    """A reader that has gone away changes no status."""
-    try:
-        print(text, flush=True)
-    except BrokenPipeError:
-        os.dup2(os.open(os.devnull, os.O_WRONLY), 1)
 
 
 def keep(case: Case, folder: str, program: str) -> None:

@@ -92,31 +92,19 @@ class Pictures(Played):
                 re.findall("<title>([^<]*), not taken</title>", drawn),
                 ["2 to 1: ack 0"] * bool(options),
             )
-        run = transcript(example("two"), "right").decode()
-        plain, *others = (
-            picture(f"run {options}", run)[1] for options in ("", "--wrong", "--wrong --stopped 1")
-        )
-        self.note(
-            "a right run is drawn as always",
-            [plain] * 2 == others and "All payloads of these pulses: " in plain,
-            plain,
-        )
         # What comes after the wrong entry isn't drawn, though it is possible.
         text = GREETED.replace("\n4 2", "\n4 1 pulse 1\n4 2")
         drawn = picture("run --wrong", text)[1]
-        self.same(
-            "up to what is wrong",
-            re.findall("<title>([^<]*), not ", drawn),
-            ["1 to 2: ack 0", "2 to 1: ack 0", "line 8"],
-        )
+        titles = re.findall("<title>([^<]*), not ", drawn)
+        self.same("up to what is wrong", titles, ["1 to 2: ack 0", "2 to 1: ack 0", "line 8"])
         self.note("around what is wrong", "pulses 0 to 0 of 18" in drawn, drawn)
-        text = "transcript 1 2\n1 put 2 payload 0 hello 1\n1 pulse 1\n2 put 1 payload 0 hello 2\n2 put 1 ack 0\n"
-        drawn = picture("run --wrong", text)[1]
-        self.same(
-            "without stamps",
-            re.findall('<g class="wrong"><title>([^<]*)<', drawn),
-            ["line 3, not possible"],
-        )
+
+    def test_a_right_run(self):
+        """It is drawn as always."""
+        run = transcript(example("two"), "right").decode()
+        right, *others = (picture(f"run {it}", run)[1] for it in ("", "--wrong --stopped 1"))
+        self.same("drawn", others, [right])
+        self.note("said", "All payloads of these pulses: " in right, right)
 
     def test_refused(self):
         for words, text, status, said in REFUSED:

@@ -25,12 +25,6 @@ OF_ROW = (
         "1) in forest 0; each gets the label of its forest",
     ),
     (
-        3,
-        1,
-        {"port": 0},
-        "its own identifier, 11, by ascending identifier: none; each gets the label of its forest",
-    ),
-    (
         2,
         2,
         {"port": 0},
@@ -45,12 +39,6 @@ OF_ROW = (
         "its children are by port 0",
     ),
     (3, 7, {"forest": 0}, "in forest 0 it had 1, it is a root and its children are by port 0"),
-    (
-        2,
-        8,
-        {"forest": 0},
-        "in forest 0 it had 5, its parent is by port 0 and sent 1 and it has " "no child",
-    ),
     (
         1,
         8,
