@@ -1,14 +1,13 @@
 """The runs of an assignment: which network, identifiers, bars and policy each has, by seed."""
 import re
 from argparse import Namespace
-from dataclasses import dataclass, field
+from dataclasses import dataclass, field, replace
 from functools import lru_cache
 from random import Random
 from typing import Any
 
 from lab.network import Network
 from lab.networks.named import network_at
-from lab.networks.smaller import remade
 from lab.workshop.findings import Finding
 from lab.workshop.protocol import COLOURING
 
@@ -92,7 +91,7 @@ def varied(network: Network, chance: Random, program: str) -> Network:
             for v in vertices
             if chance.random() < 0.3
         }
-    return remade(network, network.edges, dict(zip(vertices, names)), bars)
+    return replace(network, said=dict(zip(vertices, names)), bars=bars)
 
 
 def moved(own: list[int], chance: Random) -> list[int]:

@@ -136,13 +136,8 @@ def parsed(words: list[str]) -> argparse.Namespace:
         line.error("--program is of rounds and alpha")
     if not is_alpha and (options.policies or options.picture):
         line.error("--policies and --picture are of alpha alone")
-    fill(options, list(POLICIES) if is_alpha else [""])
-    return options
-
-
-def fill(options: argparse.Namespace, policies: list[str]) -> None:
-    """What isn't said."""
     options.program = options.program or COLOURING
-    options.policies = options.policies or policies
+    options.policies = options.policies or (list(POLICIES) if is_alpha else [""])
     options.runs = options.runs or len(options.networks) or 100
     options.networks = options.networks or NETWORKS.split(",")
+    return options
