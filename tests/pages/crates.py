@@ -39,14 +39,10 @@ NUMBER = r"^pub const ([A-Z_]+): [iu]\w+ = ([\d_]+);"
 SAID = r"prove!\([^;]*\);|ensures \w+ \{ [A-Z_]+ ≡ \d+ \}"
 TESTS = ("checks", "worker_checks")
 
-# A file of specs/ that has laws with their proofs, as a path and as a module.
-LAWS = r"/(?:[A-Z]\w+Laws|Props)\.antt$"
-LAWS_MODULE = r"specs\.(?:[A-Z]\w+Laws|Props)"
-# What a definition doesn't need: proofs, laws, and a lemma, whose statement its proof follows.
-PROOFS_TAKEN = rf"^use \S*\.(?:proofs\.|{LAWS_MODULE}\b).*"
+# A file of specs/ that has laws with their proofs, as a path or as a module.
+LAWS = r"specs[./](?:[A-Z]\w+Laws|Props)\b"
+# A lemma, whose proof follows its statement; a word; and a clause, up to braces in its braces.
 LEMMA = r"^( *)(?:pub )?([^\s:(){}]+) : (?!goal\.).*\n(?:\1 +.*\n)*(?:\1unfolding .*\n)?\1\2[ \n]"
-# The words that a file takes from laws, and a clause, up to braces in its braces.
-WORDS_OF_LAWS = rf"^ *(?:ghost )?use Rattle\.\w+\.{LAWS_MODULE}\.\{{(.*)\}}"
 WORD = r"[^\s(){}\[\],.;:]+"
 CLAUSE = r"^ *(?:ensures|requires) \w* ?(\{(?:[^{}]|\{[^{}]*\})*\})"
 # Lemmas that nothing cites, by crate: each goes when its crate is proved anew.
@@ -109,6 +105,10 @@ def files_of(crate):
             yield os.path.relpath(path, TOP), re.sub(
                 r"^\s*(//|-- ).*$", "", text_in(path), flags=re.M
             )
+
+
+def sources():
+    return dict(file for crate in listed() for file in files_of(crate))
 
 
 def has_clause(path):
@@ -210,29 +210,25 @@ class Crates(Case):
         self.same("what makes one", re.findall(r"^ *Served \{", served, re.M), ["    Served {"])
 
     def test_definitions(self):
-        specs = {path for path in SOURCES if re.search(r"/crates/\w+/specs/", path)}
-        laws = {path for path in specs if re.search(LAWS, path)}
-        self.note("files of laws", len(laws) > 20, len(laws))
-        for path in sorted(specs - laws):
-            text = text_in(path)
-            found = re.findall(PROOFS_TAKEN, text, re.M)
-            found += [name for _, name in re.findall(LEMMA, text, re.M)]
-            self.same(f"definitions alone: {os.path.relpath(path, TOP)}", found, [])
-        for path in sorted(set(SOURCES) - specs):
-            text = text_in(path)
-            taken = re.findall(r"[^\s,]+", " ".join(re.findall(WORDS_OF_LAWS, text, re.M)))
-            if taken:
+        for path, text in sources().items():
+            taken = taken_in({path: text})
+            laws = {name for module, name in taken if re.search(LAWS, module)}
+            if "/src/" in path:
                 clauses = " ".join(re.findall(CLAUSE, text, re.M))
-                cited = set(taken) & set(re.findall(r"[^\s(){},.]+", clauses))
-                self.same(f"laws in clauses: {os.path.relpath(path, TOP)}", cited, set())
+                cited = laws & set(re.findall(WORD, clauses))
+                self.same(f"laws in clauses: {path}", cited, set())
+            if "/specs/" in path and not re.search(LAWS, path):
+                proofs = {name for module, name in taken if ".proofs." in module}
+                stated = {name for _, name in re.findall(LEMMA, text, re.M)}
+                self.same(f"definitions alone: {path}", laws | proofs | stated, set())
 
     def test_uncited(self):
-        texts = dict(file for crate in listed() for file in files_of(crate))
-        taken, uncited = taken_in(texts), collections.defaultdict(set)
+        texts, uncited = sources(), collections.defaultdict(set)
+        taken = taken_in(texts)
         for path, text in texts.items():
-            if "/proofs/" not in path and not re.search(LAWS, path):
-                continue
             _, crate, *place = path.removesuffix(".antt").split("/")
+            if place[0] != "proofs" and not re.search(LAWS, path):
+                continue
             for name, others in lemmas(text):
                 if (".".join([crate, *place]), name) not in taken and name not in others:
                     uncited[crate].add(name)
