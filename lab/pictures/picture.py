@@ -35,7 +35,7 @@ from lab.pictures import (
 )
 from lab.pictures.places import unused_places
 from lab.pictures.program_rounds import ProgramRounds, is_own, least_wires, rounds_of
-from lab.pictures.transcripts import read_transcript, window_of
+from lab.pictures.transcripts import Run, ordered, window_of
 from lab.pictures.watch_page import steps_of_text
 from lab.schedules.rules import (
     OF_ANY_ROUNDS,
@@ -95,14 +95,11 @@ class Source:
     def rounds(self):
         return rounds_of(self.network, self.program)
 
-    def run(self, until=None, is_wrong_drawn=False):
-        """The run of a transcript; with `until`, as far as the pulses up to that one depend on it."""
-        text = self.text("transcript")
-        run = read_transcript(
-            text.text, text.name, self.network, until, self.program, is_wrong_drawn
-        )
-        run.name = self.title or stem(text.name)
-        return run
+    def run(self, is_wrong_drawn=False):
+        """The run of a transcript."""
+        text, network, program = self.text("transcript"), self.network, self.program
+        found = ordered(text.text, text.name, network, program, is_wrong_drawn)
+        return Run(self.title or stem(text.name), network, program, *found)
 
 
 # How each kind is drawn that isn't one call. What is named after the source are the options of its command line.
@@ -125,7 +122,7 @@ def draw_why(of, vertex, in_words):
 def draw_run(of, pulses, only, wrong, stopped):
     last = of.program.last_pulse(of.network)
     shown = window_of(of.network.name, last, pulses, 3)
-    run = of.run(None if wrong else shown[1], wrong)
+    run = of.run(wrong)
     if run.wrong and not pulses:
         shown = wrong_run.usual_pulses(run)
     return run_picture.draw(run, shown, only, wrong, stopped)

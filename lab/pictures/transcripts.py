@@ -10,9 +10,6 @@ from lab.transcripts.check import find_order
 from lab.transcripts.reading import Wrong as WrongEntry, read_to_fault
 from lab.wrong import Wrong, wrong_line
 
-# Texts of more lines are read only as far as the pulses that are drawn may depend on them: a pulse of a node depends on
-# the next ones of its neighbours, and so on.
-LONG_TEXT = 100_000
 # How many steps of time a pulse of the rounds takes.
 OF_ROUND = 100
 
@@ -100,27 +97,11 @@ def wires_of(made):
     ]
 
 
-def read_transcript(text, name, network, until, program, is_wrong_drawn):
-    """The run of a program that a transcript records, or what is wrong with it, unless that is drawn. Of a long text,
-    with `until`, only what the pulses up to that one depend on is read."""
-    if until is not None and text.count("\n") > LONG_TEXT:
-        run = Run(
-            name,
-            network,
-            program,
-            *ordered(text, name, network, program, until + 1 + network.nodes),
-        )
-        if all(until + 1 in ticks or until >= run.last for ticks in run.ticks.values()):
-            return run
-    return Run(name, network, program, *ordered(text, name, network, program, None, is_wrong_drawn))
-
-
-def ordered(text, name, network, program, stop=None, is_wrong_drawn=False):
+def ordered(text, name, network, program, is_wrong_drawn=False):
     """The order that is found of the entries, which are then by stamp; and the first one that isn't possible, with what
-    is wrong, if that is drawn, and else refused. With `stop`, of each node only what it did before it begins that pulse
-    is read."""
+    is wrong, if that is drawn, and else refused."""
     try:
-        head, read, fault = read_to_fault(text.encode(), program.name, stop)
+        head, read, fault = read_to_fault(text.encode(), program.name)
     except WrongEntry as why:
         raise Wrong(f"{name} {why}") from None
     if head.nodes != network.nodes:
@@ -128,7 +109,7 @@ def ordered(text, name, network, program, stop=None, is_wrong_drawn=False):
             name, head.line, f"{head.nodes} nodes, and {network.name} has {network.nodes} (Nodes)"
         )
     order = find_order(network, read, program)
-    wrong = order.wrong(fault, is_part=stop is not None and stop <= program.last_pulse(network))
+    wrong = order.wrong(fault)
     if wrong and not (is_wrong_drawn and wrong.code not in ("X1", "NoSuch")):
         raise Wrong(f"{name} {wrong}")
     order.made.sort(key=lambda entry: (entry.stamp, entry.vertex))

@@ -59,13 +59,11 @@ class Found:
         """Whether others could still make it possible."""
         return self.refusals[entry.vertex] == "LinkEmpty" and not self.is_stamped
 
-    def wrong(self, fault=None, is_part=False):
+    def wrong(self, fault=None):
         """What is wrong first, if something is: `fault` is that of a line after the entries, which comes before an
-        entry that waits for a neighbour. If the entries are only a part, nodes may wait."""
+        entry that waits for a neighbour."""
         entry = self.first_refused()
         if entry is None or fault and self.waits(entry):
-            return fault
-        if is_part and set(self.refusals.values()) == {"LinkEmpty"}:
             return fault
         return refusal(self.state, entry, self.refusals[entry.vertex], self.entries, self.clock)
 

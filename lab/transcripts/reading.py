@@ -83,26 +83,16 @@ def read(text: bytes, program: str | None = COLOURING) -> tuple[Head, list[Entry
 
 
 def read_to_fault(
-    text: bytes, program: str | None = COLOURING, stop: int | None = None
+    text: bytes, program: str | None = COLOURING
 ) -> tuple[Head, list[Entry], Wrong | None]:
-    """The first line, the entries before the first line that isn't one, and that line's fault, or None. With `stop`, of
-    each node only what it did before it begins that pulse."""
-    stopped: set[bytes] = set()
+    """The first line, the entries before the first line that isn't one, and that line's fault, or None."""
     lines, entries = text.split(b"\n"), []
     head = head_of(lines, program)
     program = program or head.program or COLOURING
     for line, raw in enumerate(lines[head.line :], head.line + 1):
-        if stopped and stopped.issuperset(
-            raw.split(b" ", head.is_stamped + 1)[head.is_stamped : head.is_stamped + 1]
-        ):
-            continue
         try:
             if fields := fields_of(raw):
-                entry = entry_of(line, fields, program, head.is_stamped)
-                if stop is not None and (entry.kind, entry.what) == ("Pulse", stop):
-                    stopped.add(b"%d" % entry.vertex)
-                else:
-                    entries.append(entry)
+                entries.append(entry_of(line, fields, program, head.is_stamped))
         except NoEntry as why:
             cut = ", and no line feed after it (is the text cut?)" if line == len(lines) else ""
             return head, entries, Wrong(line, "X1", f"not an entry: {why}{cut}")

@@ -1,11 +1,9 @@
 """Pictures of runs without a clock, read back: into the entries of their transcripts, and what those are by
 lab/definitions/nodes.py."""
 from itertools import product
-from unittest import mock
 
 from lab.definitions.nodes import last_pulse
 from lab.networks.network_text import network_of
-from lab.pictures import transcripts
 from tests.cases import example
 from tests.pictures.base import PictureCase, transcript
 from tests.pictures.marks import SVG, ends, marks, parsed, title, words
@@ -78,17 +76,3 @@ class Runs(PictureCase):
                 picture = self.drawn("run", network, *options, text=transcript(network, seed))
                 lower.add(picture[picture.index('<g class="lower"') :])
             self.same(f"lower halves of {name}", len(lower), 1)
-
-    def test_long(self):
-        """Of a long text only what the pulses that are drawn depend on is read."""
-        network = example("petersen")
-        text = transcript(network, "long")
-        with mock.patch.object(transcripts, "LONG_TEXT", 1000):
-            wanted = self.drawn("run", network, "--pulses", "0..3", text=text)
-            for pulse, is_read in ((2, True), (30, False)):
-                wrong = text.replace(b" safe %d\n" % pulse, b" safe 99\n", 1)
-                done = self.called("run", network, "--pulses", "0..3", text=wrong)
-                refused = b"WrongWire" in done[2]
-                row = self.rows_of(f"a long text with a mistake in pulse {pulse}")
-                row("refused", refused, is_read)
-                row("drawn", done[1].decode() == wanted, not is_read)
