@@ -153,12 +153,6 @@ class Browser:
         self.mouse("mousePressed", x, y, shift)
         self.mouse("mouseReleased", x, y, shift)
 
-    def drag(self, x1, y1, x2, y2):
-        self.mouse("mousePressed", x1, y1)
-        for k in range(1, 6):
-            self.mouse("mouseMoved", x1 + (x2 - x1) * k / 5, y1 + (y2 - y1) * k / 5)
-        self.mouse("mouseReleased", x2, y2)
-
     def tap(self, x, y):
         self.ask("Input.dispatchTouchEvent", type="touchStart", touchPoints=[{"x": x, "y": y}])
         self.ask("Input.dispatchTouchEvent", type="touchEnd", touchPoints=[])
