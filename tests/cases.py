@@ -1,4 +1,5 @@
 """What every test has: the case whose rows are counted, its files, and how programs are called."""
+import contextlib
 import functools
 import gc
 import io
@@ -9,6 +10,7 @@ import sys
 import tempfile
 import time
 import unittest
+import unittest.mock
 
 from lab.wrong import Wrong as Fault
 from tests import FORESTLAB, TOP
@@ -125,25 +127,23 @@ def said_by(*words, **more):
 def in_process(name, main, *words, data=b""):
     """The same of a command of forestlab, whose `main` is called in this process; how a process ends is for
     tests/programs/endings.py."""
-    streams, is_collecting = (sys.stdin, sys.stdout, sys.stderr), gc.isenabled()
-    sys.stdin, sys.stdout, sys.stderr = (
-        io.TextIOWrapper(io.BytesIO(given), "utf-8") for given in (data, b"", b"")
+    given, out, errors = (
+        io.TextIOWrapper(io.BytesIO(text), "utf-8", write_through=True) for text in (data, b"", b"")
     )
-    try:
-        status = main(list(map(str, words)))
-    except SystemExit as ended:
-        status = ended.code
-    except (Fault, OSError) as why:
-        status = 1
-        said = f"{why.filename}: {why.strerror}" if isinstance(why, OSError) else why
-        print(f"{name}: {said}", file=sys.stderr)
-    finally:
-        (_, out, errors), (sys.stdin, sys.stdout, sys.stderr) = (
-            sys.stdin,
-            sys.stdout,
-            sys.stderr,
-        ), streams
-        (gc.enable if is_collecting else gc.disable)()
-    out.flush()
-    errors.flush()
+    is_collecting = gc.isenabled()
+    with (
+        unittest.mock.patch("sys.stdin", given),
+        contextlib.redirect_stdout(out),
+        contextlib.redirect_stderr(errors),
+    ):
+        try:
+            status = main(list(map(str, words)))
+        except SystemExit as ended:
+            status = ended.code
+        except (Fault, OSError) as why:
+            status = 1
+            said = f"{why.filename}: {why.strerror}" if isinstance(why, OSError) else why
+            print(f"{name}: {said}", file=sys.stderr)
+        finally:
+            (gc.enable if is_collecting else gc.disable)()
     return status, out.buffer.getvalue(), errors.buffer.getvalue()

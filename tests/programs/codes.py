@@ -147,20 +147,14 @@ class Codes(Case):
     def test_what_is_no_code(self):
         for words, wanted, said in (
             (["C9"], 1, "network: C9: No such file or directory\n"),
-            (["nowhere.col"], 1, "network: nowhere.col: No such file or directory\n"),
             (["C8", "and", "C9"], 2, "one FILE, or a code and where it is, as `C8 vertex 1`\n"),
         ):
             self.refusal(" ".join(words), tell(*words), wanted, said)
 
     def test_a_file_of_that_name(self):
-        """What is a file is read as one."""
         self.file("C8", "p edge 2 1\ne 1 2\n")
-        status, said, fault = forestlab("network", "tell", "C8", cwd=self.folder)
-        self.note(
-            "a file C8",
-            (status, fault) == (0, b"") and said.startswith(b"nodes: 2\n"),
-            (status, said, fault),
-        )
+        done = forestlab("network", "tell", "C8", cwd=self.folder)
+        self.note("a file C8", done[0] == 0 and done[1].startswith(b"nodes: 2\n"), done)
 
 
 def reported():

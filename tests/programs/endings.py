@@ -1,24 +1,17 @@
 """Tests of how the commands that are written in Python end: with one line, and never with a traceback, if the output is
-closed or full, the input can't be read, or someone presses Ctrl-C."""
+closed or full, the input can't be read, or someone presses Ctrl-C. All go through one door (lab/door.py), and read what
+they are given by one function (lab/words.py)."""
 import os
 import re
 import signal
 import subprocess
 import sys
 
-from lab.__main__ import COMMANDS
 from tests import FORESTLAB, TOP
 from tests.cases import Case, called, text_in, wait_until
 
 LIMIT = 120
 TRIANGLE = os.path.join(TOP, "examples", "triangle.col")
-# A call of each command that prints something, and needs no program.
-CALLS = {
-    "channels": ["1", "6", "11"],
-    "explore": [os.path.join(TOP, "examples", "two.col")],
-    "network": ["path", "3"],
-    "picture": ["rounds", TRIANGLE],
-}
 
 
 def ended(line, *words, **given):
@@ -29,10 +22,9 @@ def ended(line, *words, **given):
 class Endings(Case):
     needs_programs = False
 
-    def redirected(self, where, path, *words, **given):
+    def redirected(self, where, path, *words):
         """What a command ends with whose stream is another one."""
-        given = given or {"stdin": subprocess.DEVNULL}
-        return ended(f'exec "$0" "$@" {where}', path, *words, **given)
+        return ended(f'exec "$0" "$@" {where}', path, *words, stdin=subprocess.DEVNULL)
 
     def test_outputs(self):
         """A closed or full output is one line and status 1, of help too, and of a script that isn't Python; a closed
@@ -40,36 +32,19 @@ class Endings(Case):
         scripts = [
             ("try", ["--help"]),
             ("test", ["--help"]),
+            ("forestplan", ["--version"]),
             ("bin/forestlab", ["--help"]),
             ("bin/forestlab", ["--version"]),
-            ("forestplan", ["--version"]),
-            ("bin/forestplay", ["--version"]),
+            ("bin/forestlab", ["network", "path", "3"]),
         ]
-        of_lab = [
-            ("bin/forestlab", [name, *words])
-            for name in COMMANDS
-            for words in (CALLS.get(name, ["--help"]), ["--help"], ["--version"])
-        ]
-        path = self.file("plan", "plan\n1 1\n")
-        for name, words in [*scripts, *of_lab]:
+        for name, words in scripts:
             for where, said in (
-                (">/dev/full", b"No space left on device"),
-                (">&-", b"Bad file descriptor"),
+                (">/dev/full", rb"\w+: .*No space left on device\n"),
+                (">&-", rb"\w+: .*Bad file descriptor\n"),
             ):
-                with open(path, "rb") as plan:
-                    status, _, fault = self.redirected(
-                        where, os.path.join(TOP, name), *words, stdin=plan
-                    )
-                wanted = (
-                    rb"\w+: .*%s\n"
-                    if (name, words) in scripts
-                    else (words[0].encode() + rb": the output can't be written: %s\n")
-                )
-                self.note(
-                    f"{name} {words} {where}",
-                    status == 1 and re.fullmatch(wanted % said, fault),
-                    fault,
-                )
+                done = self.redirected(where, os.path.join(TOP, name), *words)
+                good = done[0] == 1 and re.fullmatch(said, done[2])
+                self.note(f"{name} {words} {where}", good, done)
         # The reader has gone before anything is written, or after a line of much more.
         for name, words in scripts:
             _, _, fault = self.redirected("| exec true", os.path.join(TOP, name), *words)
@@ -82,16 +57,7 @@ class Endings(Case):
 
     def test_inputs(self):
         """An input that is closed, or a folder, is one line; it is closed for Python, which wouldn't start with one."""
-        for name, words in (
-            ("network", ["read", "-"]),
-            ("network", ["tell", "-"]),
-            ("channels", ["1"]),
-            ("transcript", ["check", TRIANGLE]),
-            ("transcript", ["convert", "json"]),
-            ("simulate", ["-"]),
-            ("explore", ["-"]),
-            ("picture", ["plan", "-"]),
-        ):
+        for name, words in (("network", ["read", "-"]), ("transcript", ["check", TRIANGLE])):
             for where in ("<&-", f"<{TOP}"):
                 status, out, fault = self.redirected(where, FORESTLAB, name, *words)
                 line = rb"%s: (-|standard input): Bad file descriptor\n" % name.encode()
@@ -100,38 +66,25 @@ class Endings(Case):
                     (status, out) == (1, b"") and re.fullmatch(line, fault),
                     fault,
                 )
-        for words in (["network", "path", "2"], ["network", "--version"], ["--help"]):
-            status, out, fault = self.redirected(f"<{TOP}", FORESTLAB, *words)
-            self.note(
-                f"{words} needs no input, so it may be a folder",
-                (status, fault) == (0, b"") and out,
-                fault,
-            )
+        done = self.redirected(f"<{TOP}", FORESTLAB, "network", "path", "2")
+        self.note("what needs no input may be given a folder", done[::2] == (0, b""), done)
 
     def test_interrupts(self):
         """Ctrl-C while a command waits for its input, once or more often, is one line and status 130; SIGTERM is
         143."""
-        for name, words in (
-            ("network", ["read", "-"]),
-            ("channels", ["1"]),
-            ("transcript", ["check", TRIANGLE]),
-            ("picture", ["plan", "-"]),
-            ("explore", ["-"]),
+        interrupted = 130, b"network: interrupted\n"
+        for number, times, wanted in (
+            (signal.SIGINT, 1, interrupted),
+            (signal.SIGINT, 3, interrupted),
+            (signal.SIGTERM, 1, (143, b"")),
         ):
-            for number, times, wanted in (
-                (signal.SIGINT, 1, (130, b"%s: interrupted\n" % name.encode())),
-                (signal.SIGINT, 3, (130, b"%s: interrupted\n" % name.encode())),
-                (signal.SIGTERM, 1, (143, b"")),
-            ):
-                with self.begun(name, words) as run:
-                    wait_until(lambda: self.is_reading(run.pid), LIMIT, 0.05)
-                    for _ in range(times):
-                        run.send_signal(number)
-                    out, said = run.communicate(timeout=LIMIT)
-                got = run.returncode, said
-                self.note(
-                    f"{name} {words} {number} {times} times", got == wanted and out == b"", got
-                )
+            with self.begun("network", ["read", "-"]) as run:
+                wait_until(lambda: self.is_reading(run.pid), LIMIT, 0.05)
+                for _ in range(times):
+                    run.send_signal(number)
+                out, said = run.communicate(timeout=LIMIT)
+            got = run.returncode, said
+            self.note(f"{number} {times} times", got == wanted and out == b"", got)
 
     def begun(self, name, words):
         # A shell has what it runs in the background ignore SIGINT.

@@ -1,7 +1,6 @@
 """Tests of `forestlab network read`: each form is read as it is said to be, or refused with its line; nothing is
 guessed. written.py has files of other programs."""
-import unittest
-import unittest.mock
+from unittest import mock
 
 from lab.networks import foreign
 from lab.networks.reading import listed_of, made_of
@@ -215,11 +214,7 @@ class Reading(Case):
         self.same("without a heading", said[0], {frozenset("ca"), frozenset("fd")})
         self.same("a column by its number", said[2][1:], ["columns that aren't read: column 2"])
 
-    @unittest.mock.patch.object(foreign, "networkx", lambda: None)
+    @mock.patch.object(foreign, "networkx", lambda: None)
     def test_without_networkx(self):
         with self.assertRaisesRegex(Wrong, "python3-networkx"):
             read("graph [ ]", "gml")
-
-
-if __name__ == "__main__":
-    unittest.main()

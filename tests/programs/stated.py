@@ -6,19 +6,17 @@ import subprocess
 
 from tests import TOP
 from tests.cases import Case
-from tests.programs.own_networks import pairs_in
+from tests.programs.own_networks import by_names
 
 # What a shell finds: the commands of the repository, and Debian's Python with its packages.
 PATH = f"{TOP}/bin:/usr/bin:/bin"
-EDGE = {frozenset(("Ulm", "Aue"))}
-TABLE = "Von,Nach\nUlm,Aue\n"
+EDGE = {"Ulm": {"Aue"}, "Aue": {"Ulm"}}
 # Files, the words of a call, and how many of the commands that it prints have to read an edge between Ulm and Aue.
 ASKED = (
     ({"net": "source,target\nUlm,Aue\n"}, "net", 1),
     ({"my net.txt": "Ulm Aue\n"}, "'my net.txt'", 1),
     ({"$(x) 'y'.txt": "Ulm Aue\nAue\n"}, "\"\\$(x) 'y'.txt\"", 1),
     ({"-x": "Ulm Aue\n"}, "-- -x", 1),
-    ({"a.csv": TABLE}, "a.csv", 1),
     ({"a.csv": "Ulm;Aue\nAue;Ulm\n"}, "a.csv", 2),
     ({"a.csv": '"Site, A";;"Site B"\nUlm;;Aue\n'}, "a.csv", 1),
     ({"a.csv": '"",tx,rx\n1,Ulm,Aue\n'}, "a.csv", 1),
@@ -38,7 +36,6 @@ ASKED = (
     ),
     ({"a b.dot": "graph { Ulm -- Aue }"}, "'a b.dot'", 1),
     ({"a.gv": "graph { Ulm -- Aue; Ulm -- Aue }"}, "a.gv", 1),
-    ({"-a.gv": "graph { Ulm -- Aue }"}, "-- -a.gv", 1),
     ({"a.gv": "graph { Ulm -- Aue }", "s.csv": "site\nUlm\nAue\n"}, "a.gv --sites s.csv", 1),
     ({"a.net": '*Vertices 2\n1 "Ulm"\n2 "Aue"\n*Edges\n1 2\n'}, "a.net", 1),
 )
@@ -51,6 +48,11 @@ def commands_in(said):
     if any(line.startswith(("gv2gml", "python3")) for line in lines):
         return [lines]
     return [[line] for line in lines]
+
+
+def joined(text):
+    """The neighbours of each node, by names."""
+    return {name: near for name, (*_, near) in by_names(text).items()}
 
 
 def has_package(name):
@@ -98,7 +100,7 @@ class Stated(Case):
             if package and not has_package(package):
                 continue
             found = self.networks(words)
-            good = [text for text in found if pairs_in(text)[0] == EDGE]
+            good = [text for text in found if joined(text) == EDGE]
             self.note(f"{files} {words}", len(good) == count, found)
 
     def test_matrix_market(self):
@@ -106,10 +108,6 @@ class Stated(Case):
         self.file("m.mtx", MATRIX)
         if has_package("scipy") and has_package("networkx"):
             found = self.networks("m.mtx")
-            self.same("a matrix", [pairs_in(text) for text in found], [({frozenset("02")}, {"1"})])
-
-
-if __name__ == "__main__":
-    import unittest
-
-    unittest.main()
+            self.same(
+                "a matrix", [joined(text) for text in found], [{"0": {"2"}, "1": set(), "2": {"0"}}]
+            )
