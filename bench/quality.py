@@ -1,6 +1,6 @@
 """Compares how many channels a plan takes, and how many after choosing anew, with what greedy colourings take.
 
-  python3 -m bench.quality [NAME ..]     default: every network of the table
+  python3 -m bench.quality
 
 DSATUR (D. Brelaz, New methods to color the vertices of a graph, 1979) and smallest last (D. W. Matula and L. L. Beck,
 Smallest-last ordering and clustering and graph coloring algorithms, 1983) look at the whole network, one node after the
@@ -81,8 +81,7 @@ def main() -> int:
     words = argparse.ArgumentParser(
         description=summary, epilog=more, formatter_class=argparse.RawDescriptionHelpFormatter
     )
-    words.add_argument("names", metavar="NAME", nargs="*", help=f"of {'; '.join(NETWORKS)}")
-    names = words.parse_args().names or list(NETWORKS)
+    words.parse_args()
     row = "| {:32} |" + " {:>6} |" * 3 + " {:>13} |" * 8
     print(
         row.format(
@@ -101,8 +100,8 @@ def main() -> int:
         )
     )
     print("|---" * 12 + "|")
-    for name in names:
-        network = NETWORKS[name]()
+    for name, make in NETWORKS.items():
+        network = make()
         print(
             row.format(
                 name, network.nodes, len(network.edges), network.greatest_degree, *counts(network)

@@ -4,10 +4,10 @@ from lab.networks import foreign, lines, tables
 from lab.networks.fields import whole
 from lab.networks.listed import Listed
 from lab.networks.named import path_of
-from lab.networks.network_text import MAX_EDGES, checked, network_of, read_network, stem
+from lab.networks.network_text import checked, network_of, read_network, stem
 from lab.networks.stated import Stated, decoded, form_of, letters_of
 from lab.words import counted, one_line
-from lab.wrong import Wrong, wrong_line
+from lab.wrong import Wrong
 
 
 def listed_of(data: bytes, name: str, form: str, stated: Stated) -> Listed:
@@ -28,11 +28,10 @@ def listed_of(data: bytes, name: str, form: str, stated: Stated) -> Listed:
 def listed_in(network: Network, path: str) -> Listed:
     """The nodes and edges of a network by their names, which differ."""
     names = {v: network.names.get(v, str(v)) for v in network.vertices}
-    vertices: dict[str, int] = {}
+    vertices = {own: v for v, own in names.items()}
     for v, own in names.items():
-        other = vertices.setdefault(own, v)
-        if other != v:
-            raise Wrong(f"{path}: vertices {other} and {v} are both called {own}")
+        if vertices[own] != v:
+            raise Wrong(f"{path}: vertices {v} and {vertices[own]} are both called {own}")
     return Listed(
         "dimacs",
         edges=[(f"vertex {v}", names[v], names[w]) for v, w in network.edges],
@@ -47,7 +46,7 @@ def made_of(found: Listed, name: str) -> tuple[Network, list[str]]:
     """The network of what a text lists, and what is said of it: how it was read, and what of it wasn't."""
     names, by = numbered(found.names())
     number = {node: v for v, node in enumerate(names, 1)}
-    edges, notes = edges_of(found, number, name)
+    edges, notes = edges_of(found, number)
     network = Network(
         len(names),
         edges,
@@ -61,20 +60,12 @@ def made_of(found: Listed, name: str) -> tuple[Network, list[str]]:
     return network, [summary(network, len(edges), found.form, by), *found.notes, *notes]
 
 
-def edges_of(found: Listed, number: dict[str, int], path: str) -> tuple[set[Edge], list[str]]:
+def edges_of(found: Listed, number: dict[str, int]) -> tuple[set[Edge], list[str]]:
     """The edges by numbers, and notes of those that aren't there for themselves."""
-    edges: set[Edge] = set()
-    loops, again = 0, 0
-    for where, one, other in found.edges:
-        v, w = sorted((number[one], number[other]))
-        if v == w:
-            loops += 1
-        elif (v, w) in edges:
-            again += 1
-        elif len(edges) == MAX_EDGES:
-            raise wrong_line(path, where, f"more than {MAX_EDGES} different edges")
-        else:
-            edges.add((v, w))
+    ends = [(number[one], number[other]) for _, one, other in found.edges]
+    edges = {(min(pair), max(pair)) for pair in ends if len({*pair}) == 2}
+    loops = sum(v == w for v, w in ends)
+    again = len(ends) - loops - len(edges)
     notes = []
     if loops:
         notes.append(f"{counted(loops, 'edge')} from a node to itself left out")

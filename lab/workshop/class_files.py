@@ -53,9 +53,6 @@ LEFT_OUT = (
     "examples/workshop/mistakes.py",
     "examples/algorithms",
 )
-# The line of its VERSION by which it is known.
-IS_CLASS = "for a class"
-
 README = """\
 # A class with forestplan
 
@@ -179,9 +176,5 @@ def copy_class(room: str) -> None:
                 write(os.path.join(room, path), page_for_a_class(file.read(), path, found))
     write_scripts(room)
     write(os.path.join(room, "README.md"), README)
-    text = version.text()
-    write(
-        os.path.join(room, "VERSION"),
-        text if IS_CLASS in text.splitlines() else f"{text}{IS_CLASS}\n",
-    )
+    write(os.path.join(room, "VERSION"), version.text())
     write_sums(room)

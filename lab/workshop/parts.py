@@ -148,9 +148,10 @@ def play_again(parts: list[Part], given: argparse.Namespace, room: str) -> None:
         first, share = part.found, (until - time.monotonic()) / (len(parts) - at)
         less = {"seconds": max(1.0, min(given.seconds, share))}
         play_all([part], argparse.Namespace(**vars(given) | less), 1, room)
-        if "result" in first and not is_better(part.result, first["result"]):
+        if runs_right(first) > runs_right(part.found):
             part.found = first
 
 
-def is_better(result: dict | None, first: dict) -> bool:
-    return result is not None and result["right"] >= first["right"]
+def runs_right(found: dict) -> int:
+    """How many runs were right; fewer than none without a result."""
+    return found["result"]["right"] if "result" in found else -1

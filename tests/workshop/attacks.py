@@ -1,6 +1,7 @@
 """What is submitted tries to get points that it hasn't earned, by another way than from within its programs
 (sandbox.py): by the folder in which grading is called, by the words of a command, by what it prints, by its files."""
 import os
+import shutil
 import subprocess
 from random import Random
 
@@ -10,14 +11,8 @@ from tests.cases import text_in
 from tests.tools import need
 from tests.workshop.base import ALPHA, JAVA, call
 from tests.workshop.forgers import FORGED
-from tests.workshop.submitted import ANSWER, Submitted
+from tests.workshop.submitted import RIGHT, Submitted
 
-# Right on a network of one node and nothing else: there pulse 12 is the last.
-ONE = (
-    f"{ANSWER}print('end' if n < 12 else 'channel 1\\nend', flush=True)\n        n += 1\n".replace(
-        "import sys", "import sys\nn = 0"
-    )
-)
 THIEF = "import os\nopen({loot!r}, 'w').write('x')\nraise SystemExit\n"
 # The names of modules that a command of forestlab imports, and of programs that it starts.
 MODULES = ("argparse", "json", "lab", "resource", "secrets", "shutil", "subprocess", "tempfile")
@@ -52,10 +47,10 @@ class Attacks(Submitted):
         for name in PROGRAMS:
             path = self.file(os.path.join(self.here, name), f"#!/usr/bin/env python3\n{thief}")
             os.chmod(path, 0o755)
-        self.submit("anna", rounds_node_py=ONE)
+        shutil.copytree(RIGHT, os.path.join(self.subs, "anna"))
         path = f".::{os.environ['PATH']}"
         found = self.graded(cwd=self.here, env={**os.environ, "PATH": path})
-        self.same("right runs", found["anna"]["rounds"]["right"], 1)
+        self.same("points", found["anna"]["in_all"], "80")
         self.same("the thief ran", os.path.exists(self.loot), False)
 
     def why_not(self, student):

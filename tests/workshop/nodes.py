@@ -416,11 +416,6 @@ class Mistakes(Played):
             ],
         )
 
-    def test_a_result_that_isn_t_said(self):
-        """A node that is silent is right in every pulse if nobody is the root, up to the last."""
-        found = self.found(("differs", 1, 3), "rounds", "alone4", answering(), program="layers")
-        self.note("its words", "wrong  no line `layer none`" in found.text(), found.text())
-
     def test_a_choice_too_many(self):
         self.found(("differs", 1, 0), "rounds", "path1", answering("chose 0"))
 
