@@ -329,20 +329,24 @@ TRIED = {
 RESERVED = ("sh", "-c", '"$@" | grep -Ev --line-buffered "^(colour|chose)"', "sh")
 
 
+def tried(name):
+    """How the pages have a mistake tried: the kind of node, the words of its command, and those of the workshop."""
+    if name in MISTAKES.ALPHA:
+        networks = ["alone4", "triangle", "triangle", "alone4"]
+        return "alpha", [], [*networks, "--policies", "newest,late-acks"]
+    if name in MISTAKES.COLOURING:
+        return "rounds", [], ["path1", "most4", "rest3", "drops8"]
+    program, networks = TRIED[name.partition("_")[0]]
+    return "rounds", [program], [*networks, "--program", program]
+
+
 class Mistakes(Played):
     def is_right(self, name):
         """Whether a mistake shows in none of the runs with which the pages have it tried."""
-        kind, program, words = "rounds", [], ["path1", "most4", "rest3", "drops8"]
-        if name in MISTAKES.ALPHA:
-            kind = "alpha"
-            words = ["alone4", "triangle", "triangle", "alone4", "--policies", "newest,late-acks"]
-        elif name in MISTAKES.OTHERS:
-            of, networks = TRIED[name.partition("_")[0]]
-            program, words = [of], [*networks, "--program", of]
+        kind, program, words = tried(name)
         node = self.wrong_node(name, f"{kind}_node.py", *program)
-        return (
-            call(kind, *words, "--one-process", "--first", "--", *RESERVED, *node).returncode == 0
-        )
+        done = call(kind, *words, "--one-process", "--first", "--", *RESERVED, *node)
+        return done.returncode == 0
 
     def test_all_but_two_show(self):
         """Those change nothing: what nobody does, and what nothing comes after."""
