@@ -1,4 +1,5 @@
-"""What completes the words of the three commands in bash and zsh, made of their help."""
+"""What is made of the help of the three commands: what completes their words in bash and zsh, and a manual page of
+each."""
 import functools
 import os
 import re
@@ -74,6 +75,35 @@ def completion(folder):
             f'    {pattern}) words="{" ".join(options)}" commands="{" ".join(below)}" ;;\n'
         )
     return HEAD + "".join(lines) + TAIL
+
+
+def as_roff(text):
+    """A text that is printed line by line, unchanged."""
+    lines = [
+        line.replace("\\", "\\e").replace("-", "\\-") for line in text.rstrip("\n").split("\n")
+    ]
+    return (
+        ".nf\n"
+        + "".join(("\\&" if line[:1] in (".", "'") else "") + line + "\n" for line in lines)
+        + ".fi\n"
+    )
+
+
+def manual(folder, name):
+    """The manual page of a command: its purpose, the first sentence of its help that isn't its usage, and each help."""
+    (_, text, _), *below = helps(folder, name)
+    first = (
+        re.sub(r"\Ausage: .*\n(?: +.*\n)*", "", text)
+        .lstrip("\n")
+        .split("\n\n")[0]
+        .replace("\n", " ")
+    )
+    purpose = re.split(r"(?<=[a-z])\.(?:\s|$)", first)[0]
+    page = f'.TH "{name.upper()}" 1 "" "forestplan" "User Commands"\n.SH NAME\n'
+    page += f"{name} \\- {purpose[:1].lower()}{purpose[1:]}\n.SH DESCRIPTION\n{as_roff(text)}"
+    return page + "".join(
+        f'.SH "{" ".join(words).upper()}"\n{as_roff(said)}' for words, said, _ in below
+    )
 
 
 def main():

@@ -6,7 +6,7 @@ import subprocess
 import sys
 
 from build import kit, program
-from build.completion import completion
+from build.completion import COMMANDS, completion, manual
 from build.crate_lists import PROGRAMS, TOP
 from lab import version
 from lab.words import parser_of
@@ -22,8 +22,8 @@ without the toolchain and without this tree.
 
 The folder gets the layout of this tree: in bin/ forestlab and the scripts that run the
 two programs of lib/, their modules, the examples, a README of what is there, the pages and
-lessons, the licences, and what completes their words in bash and zsh. With its bin/ on the
-PATH the lessons' commands work in it as they do here.
+lessons, the licences, a manual page for each of the three, and what completes their words
+in bash and zsh. With its bin/ on the PATH the lessons' commands work in it as they do here.
 VERSION says what it was made from, and SHA256SUMS has a sum of each file: sha256sum -c
 SHA256SUMS. The programs need the C library alone, the scripts bash and Python 3. One such
 folder serves every machine of the same kind: copy it with cp -r or tar. With
@@ -54,7 +54,7 @@ SECTION = """\
     forestplan plan < examples/triangle.col     prints the plan
 
 The programs need no toolchain, `forestlab` bash and Python 3. With `bin/` on the PATH the commands work anywhere, and
-`source share/forestlab.bash` completes their words in bash and zsh. VERSION says from which
+`man` finds their pages; `source share/forestlab.bash` completes their words in bash and zsh. VERSION says from which
 commit the folder was made, and SHA256SUMS has a sum of each file. What a page says of `crates/`, `bench/`, `tests/`,
 the toolchain and `python3 build` is about the repository of that commit.
 
@@ -90,6 +90,11 @@ def make(room):
     for path in FILES:
         shutil.copy(os.path.join(TOP, path), os.path.join(room, path))
     write(os.path.join(room, "README.md"), readme())
+    for name in COMMANDS:
+        write(
+            os.path.join(room, "share", "man", "man1", f"{name}.1"),
+            manual(os.path.join(room, "bin"), name),
+        )
     write(os.path.join(room, "share", "forestlab.bash"), completion(os.path.join(room, "bin")))
     # Which kit is here, if it isn't the one that the sources name.
     kits = {kit.found()} - {kit.wanted()} if kit.command() else ()
@@ -118,6 +123,9 @@ def main():
         why = failed.args[0][0][2] if isinstance(failed, shutil.Error) else failed
         print(f"install: {folder}: {why}", file=sys.stderr)
         return 1
-    said = f"{folder} has all; with {folder}/bin on the PATH the commands work anywhere"
-    print(f"install: {said}", file=sys.stderr)
+    print(
+        f"install: {folder} has all; with {folder}/bin on the PATH the commands work anywhere, and man finds their "
+        "pages",
+        file=sys.stderr,
+    )
     return 0

@@ -1,6 +1,7 @@
 """Tests of `python3 build install`, with the programs as they are built in this tree.
 
-What is installed has to run from another folder, through symbolic links, and from a copy of the folder."""
+What is installed has to run from another folder, through symbolic links, and from a copy of the folder; its manual
+pages have to be the help texts, which lab/help/ has."""
 import os
 import re
 import resource
@@ -9,14 +10,16 @@ import subprocess
 import sys
 import tempfile
 
+from build import completion
 from lab.__main__ import COMMANDS as OF_LAB
 from tests import TOP
 from tests.cases import Case, called, contents, copied, text, wait_until
 from tests.commands import APART, COMMANDS, HELPS, PROGRAMS
 from tests.commands import SCRIPTS as OF_BIN
 from tests.pages.pages import PAGES, lines_of
+from tests.tools import need
 
-# Seconds; a busy machine takes long for many calls of help.
+# Seconds; a busy machine takes long for the many calls of help that the manual pages are made of.
 LIMIT = 600
 NAMES = [*PROGRAMS, "forestlab"]
 # Stored pictures that version 0.5 drew, of kinds that there are no more.
@@ -37,6 +40,15 @@ def all_of(folder):
     return {
         at: {name: contents(os.path.join(at, name)) for name in names}
         for at, _, names in os.walk(folder)
+    }
+
+
+def lines_of_page(text):
+    """The lines of a manual page that are printed unchanged, block by block, under its headings."""
+    blocks = re.findall(r'^\.SH "?([^"\n]*)"?\n\.nf\n(.*?)^\.fi\n', text, re.M | re.S)
+    return {
+        title: re.sub(r"^\\&", "", block, flags=re.M).replace("\\-", "-").replace("\\e", "\\")
+        for title, block in blocks
     }
 
 
@@ -164,16 +176,37 @@ class Install(Case):
                 got,
             )
 
-    def test_help(self):
-        """That of each command is as it is stored, and the words that complete name each command."""
-        there = os.path.join(self.target, "bin")
+    def test_manual(self):
+        """A page for each of the three, with the help of each of its commands; that of the programs is stored."""
+        pages, there = os.path.join(self.target, "share", "man", "man1"), os.path.join(
+            self.target, "bin"
+        )
+        self.same(
+            "a manual page for each",
+            sorted(os.listdir(pages)),
+            sorted(f"{name}.1" for name in NAMES),
+        )
         for words, file in HELPS:
-            got = run([os.path.join(there, words[0]), *words[1:], "--help"])
-            stored = contents(os.path.join(TOP, "lab", "help", f"{file}.txt"))
-            self.same(f"the help of {words}", got, (0, stored, b""))
-        words = contents(os.path.join(self.target, "share", "forestlab.bash")).decode()
-        words = words.replace("\\ ", " ")
-        missing = {it.name for it in OF_BIN if f"*forestlab {it.name} *" not in words}
+            got, stored = (
+                run([os.path.join(there, words[0]), *words[1:], "--help"]),
+                f"lab/help/{file}.txt",
+            )
+            self.same(f"the help of {words}", got, (0, contents(os.path.join(TOP, stored)), b""))
+        for name in NAMES:
+            page = contents(os.path.join(pages, f"{name}.1")).decode()
+            blocks = {
+                name if title == "DESCRIPTION" else title.lower(): said
+                for title, said in lines_of_page(page).items()
+            }
+            wanted = {" ".join(words): said for words, said, _ in completion.helps(there, name)}
+            self.same(f"the manual page of {name}", blocks, wanted)
+            purpose = re.search(rf"^\.SH NAME\n{name} \\- [a-z][^\n]*[a-z]$", page, re.M)
+            self.note(f"the purpose of {name}", purpose, page)
+            with self.subTest(f"groff sets the page of {name}"):
+                need(self, "groff")
+                got = run(["groff", "-man", "-Tutf8", "-ww", os.path.join(pages, f"{name}.1")])
+                self.assertEqual(got[::2], (0, b""), got)
+        missing = {f"forestlab {it.name}" for it in OF_BIN} - blocks.keys()
         self.note("the commands of forestlab", not missing, missing)
 
     def test_refused(self):
