@@ -15,6 +15,8 @@ from lab.workshop.class_files import is_free, make_folder, write, write_scripts,
 # What is copied, each at the path that it has here.
 FOLDERS = ("examples", "docs", "lab")
 FILES = ("CHANGELOG.md", "LICENSE-MIT", "LICENSE-APACHE", "bin/forestlab")
+# What pip reads, which is at the top of an installed folder.
+PYPROJECT = os.path.join("lab", "python", "pyproject.toml")
 
 HELP = """\
 Copies forestplan and what belongs to it into a folder, so that it runs there
@@ -26,8 +28,8 @@ lessons, the licences, a manual page for each of the three, and what completes t
 in bash and zsh. With its bin/ on the PATH the lessons' commands work in it as they do here.
 VERSION says what it was made from, and SHA256SUMS has a sum of each file: sha256sum -c
 SHA256SUMS. The programs need the C library alone, the scripts bash and Python 3. One such
-folder serves every machine of the same kind: copy it with cp -r or tar. With
-PYTHONPATH=DIR/lab/python Python can import forestplan.
+folder serves every machine of the same kind: copy it with cp -r or tar. After
+`pip install DIR` Python can import forestplan.
 
 Programs that aren't built from these sources are proved and built first. That takes
 the minutes that README.md says, and needs the toolchain's command rt.
@@ -89,6 +91,7 @@ def make(room):
     write_scripts(room)
     for path in FILES:
         shutil.copy(os.path.join(TOP, path), os.path.join(room, path))
+    os.rename(os.path.join(room, PYPROJECT), os.path.join(room, "pyproject.toml"))
     write(os.path.join(room, "README.md"), readme())
     for name in COMMANDS:
         write(

@@ -11,11 +11,11 @@ count. Only the text that is written here, and what is read of the answer, is no
 import collections
 import collections.abc
 import os
+import site
 import subprocess
 import sys
 import tempfile
 
-TOP = os.path.dirname(os.path.dirname(os.path.dirname(os.path.realpath(__file__))))
 Pulse = collections.namedtuple("Pulse", "number phase messages states")
 Message = collections.namedtuple("Message", "sender receiver word value")
 Entry = collections.namedtuple("Entry", "stamp node kind other wire")
@@ -226,11 +226,23 @@ def _counted(licence):
     return lambda channel, what: real.get(whole(channel, what, 0, 10**12))
 
 
+def home():
+    """The folder with the programs: the one of this file, or what pip installed beside it."""
+    here = os.path.dirname(os.path.dirname(os.path.dirname(os.path.realpath(__file__))))
+    for folder in (
+        here,
+        *(os.path.join(base, "share", "forestplan") for base in (sys.prefix, site.getuserbase())),
+    ):
+        if os.path.isfile(os.path.join(folder, "lab", "programs.py")):
+            return folder
+    raise FileNotFoundError("there is no folder of forestplan that is installed or built")
+
+
 def _program(name):
-    places = (os.path.join(TOP, *parts, name) for parts in (("crates", name, "out"), ("lib",)))
+    places = (os.path.join(home(), *parts, name) for parts in (("crates", name, "out"), ("lib",)))
     found = next((place for place in places if os.access(place, os.X_OK)), None)
     if found is None:
-        raise FileNotFoundError(f"{name} isn't built in {TOP}")
+        raise FileNotFoundError(f"{name} isn't built in {home()}")
     return found
 
 
@@ -246,7 +258,7 @@ def _called(name, words, text, order):
 def _lab(words, text=""):
     """What a command in Python writes, or nothing if it refuses."""
     done = subprocess.run(
-        [sys.executable, "-S", os.path.join(TOP, "lab"), *words],
+        [sys.executable, "-S", os.path.join(home(), "lab"), *words],
         input=text.encode("utf-8", "replace"),
         capture_output=True,
     )

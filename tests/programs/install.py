@@ -253,14 +253,36 @@ class Install(Case):
             self.same(f"{name}: no room", got, (4, b"", b"%s: stream\n" % name.encode()))
 
     def test_python(self):
-        """Python imports the module of the folder, which finds its programs by itself."""
+        """`pip install` of the folder has Python import the module, which finds its programs by itself."""
+        room = os.path.join(self.folder, "python")
+        if (
+            run([sys.executable, "-m", "pip", "--version"])[0]
+            or run([sys.executable, "-m", "venv", "--without-pip", room])[0]
+        ):
+            return
+        python = os.path.join(room, "bin", "python")
+        got = run(
+            [
+                sys.executable,
+                "-m",
+                "pip",
+                "--python",
+                python,
+                "install",
+                "-q",
+                "--no-index",
+                "--disable-pip-version-check",
+                self.target,
+            ]
+        )
+        self.note("pip install", got[0] == 0, got)
         code = (
             "import forestplan; plan = forestplan.plan({1: [2, 3], 2: [3], 3: []}); "
-            "print(dict(plan), '<svg' in plan._repr_svg_())"
+            "print(forestplan.home(), dict(plan), '<svg' in plan._repr_svg_())"
         )
-        path = {"PYTHONPATH": os.path.join(self.target, "lab", "python")}
-        got = run([sys.executable, "-c", code], cwd=self.elsewhere, env=ENVIRONMENT | path)
-        self.same("a plan in Python", got, (0, b"{1: 2, 2: 3, 3: 1} True\n", b""))
+        got = run([python, "-c", code], cwd=self.elsewhere)
+        wanted = f"{room}/share/forestplan {{1: 2, 2: 3, 3: 1}} True\n"
+        self.same("a plan in Python", got, (0, wanted.encode(), b""))
 
     def test_unbuilt(self):
         """From a tree that isn't built from its sources, without the toolchain, nothing is installed."""
