@@ -50,11 +50,8 @@ class Nodes:
     def __exit__(self, *why):
         self.stop()
 
-    def addressed(self, v: int, lines: list[str]) -> list[str]:
-        return [f"to {v}", *lines] if self.is_shared else lines
-
     def ask(self, v: int, lines: list[str]) -> list[str]:
-        self.of[v].send(self.addressed(v, lines))
+        self.of[v].send([f"to {v}", *lines] if self.is_shared else lines)
         return self.of[v].receive()
 
     def ask_all(self, questions: dict[int, list[str]]) -> dict[int, Answer]:

@@ -25,7 +25,6 @@ ROOM, SHARED = "/tmp", "/dev/shm"
 ROOM_BYTES, SHARED_BYTES, MOST_FILES = 256 * MEGABYTE, 16 * MEGABYTE, 10_000
 # Folders of people and services: nothing that a program needs is there, and some have sockets of services.
 CLOSED = ("/home", "/media", "/mnt", "/root", "/run", "/srv", "/var")
-NAMES = ("LANG", "PATH")
 ALONE = ("--unshare-all", "--unshare-user", "--disable-userns", "--die-with-parent")
 SYSTEM = ("--ro-bind", "/", "/", "--dev", "/dev", "--proc", "/proc")
 # What the programs of submissions are if root grades: each submission another of the numbers that nobody has.
@@ -81,8 +80,7 @@ class Sandbox(Guard):
         return [*self.container, *links, "--", *command]
 
     def environment(self) -> dict[str, str]:
-        own = {"HOME": ROOM, "TMPDIR": ROOM}
-        return {name: os.environ[name] for name in NAMES if name in os.environ} | own
+        return super().environment() | {"HOME": ROOM, "TMPDIR": ROOM}
 
     def enter(self) -> None:
         refuse_signs()

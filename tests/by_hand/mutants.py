@@ -1,7 +1,7 @@
 """Changes the right nodes in Python in one place: a line is left out, a comparison turned, a number moved by one. What
 no command of the pages shows is played in many runs, and printed: there it has to be right, too.
 
-  python3 -m tests.by_hand.mutants [NAME ..]     by typical mistakes of the same file, default: all; minutes"""
+  python3 -m tests.by_hand.mutants        minutes, with the built programs"""
 import ast
 import copy
 import os
@@ -64,8 +64,7 @@ def mutants(file, classes):
 
 
 def main():
-    for name in sys.argv[1:] or PLACES:
-        file, classes = PLACES[name]
+    for name, (file, classes) in PLACES.items():
         kind, program, words = tried(name)
         of = ["--program", *program] if program else []
         for mutant, text in mutants(file, classes):

@@ -49,16 +49,12 @@ BARRED = Network(1, [], bars={1: [1]}, name="barred one")
 # 1, 3 and 0, and then the same again; the shift gives node 2 the 3, which is dropped in pulse 12 and not in pulse 8.
 COLOURING = {
     "no_shift": ((3, 7), (2, 7)),
-    "drop_all": (None, (2, 8)),
     "bit_highest": ((3, 3), (2, 3)),
     "label_falling": ((3, 1), (2, 1)),
     "names_64": ((1, 0), None),
     "merge_old": ((2, 38), (3, 19)),
-    "bars_width": ((4, 19), (3, 16)),
-    # On the row of eight 5 and 4 are dropped at node 2, and 3 at node 4 (the network's own comment).
-    "drop_three": (None, None, (4, 12)),
+    # On the row of eight 4 is dropped at node 2 (the network's own comment).
     "drop_four": (None, None, (2, 10)),
-    "drop_five": ((3, 8), None, (2, 8)),
 }
 # By mistake, what is found on alone4; what else the node could do there, why it can't do that, and what came early.
 PULSE = "a node makes its next pulse once it has said safe and has the safes of all its neighbours"
@@ -475,7 +471,6 @@ RESULTS = (
         ("garbage", 2, 17),
         "at pulse 17",
     ),
-    ("alpha", "found", "[*lines, *found]", ("garbage", 2, 18), "a result is final"),
     (
         "alpha",
         "done and not found",
@@ -484,7 +479,6 @@ RESULTS = (
         "a result is final",
     ),
     ("open", "done and not found", "[*lines, 'channel 9']", ("garbage", 2, 2), "a result is final"),
-    ("open", "found", "[*lines, *found]", ("garbage", 2, 1), "a result is final"),
 )
 
 

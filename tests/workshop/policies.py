@@ -43,11 +43,10 @@ class Policies(Case):
                 self.same(f"{name} {seed}", (set(steps), steps), (wanted, chosen(name, seed)[1]))
         self.assertNotEqual(chosen("random", "7")[1], chosen("random", "8")[1])
 
-    def test_what_waits_comes_if_nothing_else_can(self):
-        for name in POLICIES:
-            self.same(name, set(chosen(name, steps=STEPS[:1])[1]), {0})
-        # A network without edges has no slow link.
-        self.assertEqual(Policy("slow-link", [1], [], "1").choose([Step("pulse", 1)]).node, 1)
+    def test_a_network_without_edges(self):
+        """It has no slow link."""
+        step = Policy("slow-link", [1], [], "1").choose([Step("pulse", 1)])
+        self.same("the node", step.node, 1)
 
     def test_bursts_stay_on_a_link_and_turns_go_round(self):
         policy = Policy("bursts", VERTICES, EDGES, "1")

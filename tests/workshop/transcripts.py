@@ -158,22 +158,8 @@ class Transcripts(Case):
         )
 
     def test_of_edition_1(self):
-        for entries, line in (
-            (
-                f"1 put 2 {HELLO_1}|1 take 2 {HELLO_2}|2 put 1 {HELLO_2}|2 take 1 {HELLO_1}|",
-                "line 5: NotWhole: after the last entry nothing is on its way, and not all is done: node 1 at pulse 0 "
-                "doesn't put 2 ack 0; node 2 at pulse 0 doesn't put 1 ack 0",
-            ),
-            (
-                f"1 put 2 {HELLO_1}|1 pulse 2|1 put 2 odd|",
-                f"line 3: NotReady: node 1 makes pulse 2, but it lacks ack 0 of 2; safe 0 of 2; {PULSE}; {NO_ACK}",
-            ),
-            (
-                f"1 put 2 {HELLO_1}|1 take 2 {HELLO_2}|2 put 1 odd|",
-                "line 4: X1: not an entry: `odd` is no wire, which " f"are {WIRES}",
-            ),
-        ):
-            self.says("transcript 1 2|" + entries, line)
+        line = f"line 3: NotReady: node 1 makes pulse 2, but it lacks ack 0 of 2; safe 0 of 2; {PULSE}; {NO_ACK}"
+        self.says(f"transcript 1 2|1 put 2 {HELLO_1}|1 pulse 2|1 put 2 odd|", line)
 
     def test_of_edition_3(self):
         """A text that names its program is refused by another one's, with its name."""

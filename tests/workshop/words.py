@@ -38,7 +38,6 @@ OF_ROW = (
         "in forest 0 it had 7 (binary 111), its parent is by port 1 and sent 11 (binary 1011) and "
         "its children are by port 0",
     ),
-    (3, 7, {"forest": 0}, "in forest 0 it had 1, it is a root and its children are by port 0"),
     (
         1,
         8,
