@@ -53,11 +53,11 @@ class Command(Played):
                 done,
             )
 
-    def test_networks(self):
-        """A network is named as in all commands, and standard input is read once for all runs."""
-        for name, data in (("-", "p edge 2 1\ne 1 2\n"), ("grid2x1", "")):
-            done = call("rounds", name, "--runs", "2", "--", *ROUNDS, input=data)
-            self.note(name, done.returncode == 0 and "2 of 2 runs right" in done.stdout, done)
+    def test_standard_input(self):
+        """It is read once for all runs."""
+        words = ("rounds", "-", "--runs", "2", "--", *ROUNDS)
+        done = call(*words, input="p edge 2 1\ne 1 2\n")
+        self.note("two runs", done.returncode == 0 and "2 of 2 runs right" in done.stdout, done)
 
     def test_the_result_for_a_program(self):
         wrong = self.wrong_node("close_never", "alpha_node.py")

@@ -12,7 +12,6 @@ from unittest import mock
 
 from lab.schedules.policies import POLICIES
 from lab.workshop import grade, parts, submissions
-from lab.workshop.cases import NETWORKS
 from lab.wrong import Wrong
 from tests.cases import Case, text_in, wait_until
 from tests.tools import need
@@ -257,6 +256,3 @@ class Points(Case):
         }
         self.assertEqual(sum(found.values()), 100)
         self.assertEqual({name: found[name] for name in submissions.POINTS}, submissions.POINTS)
-
-    def test_each_policy_meets_each_network(self):
-        self.assertEqual(submissions.RUNS["alpha"], len(POLICIES) * len(NETWORKS.split(",")))

@@ -143,14 +143,6 @@ class Misbehaving(Played):
         )
         self.named("stays", None, "", command("right(lines)", last=LONG))
 
-    def test_a_wrong_step_before_a_late_answer_comes_first(self):
-        """Node 2 hangs in pulse 1, but before that it acknowledges nothing: that is what it is told."""
-        node = alpha_node(
-            "def put(self, at, wire):\n        super().put(at, 'ack 7' if wire[:3] == 'ack' else wire)\n"
-            f"    def take_safe(self, port, pulse):\n        {LONG}"
-        )
-        self.found(("WrongWire", 2, 0), "alpha", "two", ALPHA, node, timeout=2)
-
     def test_a_wrong_step_before_a_line_that_is_none_comes_first(self):
         node = alpha_node(
             "def enter(self, out):\n        super().enter(out)\n        if self.pulse == 2:\n"

@@ -249,15 +249,6 @@ class RightNodes(Played):
                     self.right(
                         assignment, given, [*command, program], one_process=True, program=program
                     )
-        for policy, program in zip(POLICIES, ("layers", *SEQUELS) * len(POLICIES)):
-            self.right(
-                "alpha",
-                BARRED_RING,
-                [*ALPHA, program],
-                policy=policy,
-                one_process=True,
-                program=program,
-            )
         # A node alone is silent, and says its result in the last pulse.
         for program, line in (
             ("leader", "leader 01"),
@@ -506,18 +497,11 @@ class Lines(Played):
         forms = "`layer N by PORT`, `layer 0`, `layer none` and `end`"
         for program, assignment, line, words in (
             ("layers", "rounds", "colour 0 1", f"which are `put PORT WORD NUMBER`, {forms}"),
-            ("layers", "alpha", "chose 1", f"which are `put PORT WIRE`, `pulse P`, {forms}"),
             (
                 "layers",
                 "alpha",
                 "put 0 payload 0 hello 1",
                 "`hello` is no payload of layers, which has hops",
-            ),
-            (
-                "layers",
-                "alpha",
-                f"put 0 payload 0 hops {1 << 32}",
-                f"`{1 << 32}` is no number of a hops, which is",
             ),
             (
                 "colouring",
