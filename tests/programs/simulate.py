@@ -3,19 +3,15 @@
 Each run is played again here on lab/definitions/nodes.py, entry by entry, and its order beside what is possible then:
 nothing is compared with what simulate itself wrote before."""
 import itertools
-import random
 import re
 
 from lab.definitions.colours import colours
-from lab.definitions.nodes import NetState, make, wire_words
+from lab.definitions.nodes import NetState, make
 from lab.networks.network_text import network_of
 from lab.schedules.policies import POLICIES
 from lab.schedules.simulate import Player, played
 from lab.transcripts.check import whole_run
-from lab.transcripts.stamps import unfinished
 from tests.cases import Case, called, example, forestlab
-from tests.programs.events import words_of
-from tests.programs.made_transcripts import entries_of
 from tests.settings import PLAY
 
 NETWORKS = ("two", "triangle", "chain6", "barred", "petersen")
@@ -87,43 +83,21 @@ class Runs(Case):
         self.assertTrue(one == again != other)
 
 
-def walk(net, events, source):
-    """(lines of a list of random events, the entries of each node that they write down), and the state at the end."""
-    state, lines, entries = NetState(net), [], {v: [] for v in net.neighbours}
-    while len(lines) < events and (possible := list(state.possible())):
-        kind, v, port = source.choice(possible)
-        what = state.step(kind, v, port)
-        lines.append(words_of((kind, v, port)))
-        entry = (
-            f"{v} pulse {what}"
-            if port is None
-            else (f"{v} {kind.lower()} {state.neighbours[v][port]} {wire_words(what)}")
-        )
-        entries[v].append(entry.split())
-    return lines, entries, state
-
-
 class Lists(Case):
     """A list of events as a transcript."""
 
     needs_programs = False
 
-    def test_random_lists(self):
-        """The transcript has each node's entries of the list, in its order; and with --to-the-end further ones."""
-        for name, events in (("two", 1), ("two", 400), ("barred", 40), ("petersen", 0)):
-            net = network_of(example(name))
-            lines, entries, state = walk(net, events, random.Random(f"{name} {events}"))
-            data = "\n".join(lines).encode()
-            row, own = f"{name}, {events} events", {v: row for v, row in entries.items() if row}
-            status, text, fault = simulate(name, "--events", "-", data=data)
-            self.same(row, (status, entries_of(text)), (0, own))
-            is_over = not any(unfinished(state))
-            self.note(f"{row}: what is left is said", fault.count(b"\n") == (not is_over), fault)
-            whole = simulate(name, "--events", "-", "--to-the-end", data=data)
-            self.note(f"{row}, to the end", whole[::2] == (0, b""), whole)
-            whole_run(net, whole[1])
-            begins = {v: made[: len(entries[v])] for v, made in entries_of(whole[1]).items()}
-            self.same(f"{row}: it begins with the list", begins, entries)
+    def test_to_the_end(self):
+        """A list is how the run begins that goes on to its end; of a whole one nothing is left."""
+        words, data = ("two", "--events", "-"), b"put 1 0\ntake 2 0\n"
+        begun = simulate(*words, data=data)[1]
+        status, whole, fault = simulate(*words, "--to-the-end", data=data)
+        self.same("how it begins", (status, whole[: len(begun)], fault), (0, begun, b""))
+        whole_run(network_of(example("two")), whole)
+        alone = self.file("alone.col", "p edge 1 0\n")
+        status, text, fault = simulate(alone, "--events", "-", data=12 * b"pulse 1\n")
+        self.same("a whole list", (status, text.count(b"\n"), fault), (0, 13, b""))
 
     def test_what_is_passed_over(self):
         """Comments, blank lines, and notes after a colon."""
