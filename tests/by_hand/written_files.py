@@ -91,7 +91,7 @@ def r_writers(program) -> list[Writer]:
         row("write.csv2(e, row.names=FALSE)"),
         row("write.table(e)", words=("--as", "edges")),
         row("write.table(e, row.names=FALSE, col.names=FALSE)", words=("--as", "edges")),
-        row('write.table(e, sep="\t", quote=FALSE)'),
+        row(r'write.table(e, sep="\t", quote=FALSE)'),
         row(graph + 'write_graph(g, "/dev/stdout", "graphml")', "net.graphml"),
         row(graph + 'write_graph(g, "/dev/stdout", "gml")', "net.gml", lacks="&"),
     ]
