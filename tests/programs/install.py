@@ -168,13 +168,6 @@ class Install(Case):
             self.note(
                 it.name, got[::2] == (0, b"") and re.fullmatch(it.answer, got[1].decode()), got
             )
-        for kind in ("plan", "rounds", "run", "player"):
-            got = call("forestlab", "picture", kind, "triangle")
-            self.note(
-                f"picture {kind}",
-                got[::2] == (0, b"") and re.search(rb"<svg|<!doctype html", got[1][:200]),
-                got,
-            )
 
     def test_manual(self):
         """A page for each of the three, with the help of each of its commands; that of the programs is stored."""
