@@ -1,7 +1,6 @@
 """The programs that nodes run, on networks by chance: `forestplay rounds` is, byte for byte, what the slow definitions
-of lab/ give; each run by some workers and capacity ends as their nodes do, and so does one on one thread, whose
-transcript `replay` accepts. A checker that has nothing but the edges and the bars finds what the theorems say of those
-that go on after the colouring.
+of lab/ give; each run by some workers and capacity ends as their nodes do, and so does one on one thread. A checker
+that has nothing but the edges and the bars finds what the theorems say of those that go on after the colouring.
 
   ./test programs.sequel_runs                              a few networks
   TESTS_SEQUELS=1000 python3 -m tests programs.sequel_runs     many of them"""
@@ -64,10 +63,6 @@ class SequelRuns(Case):
                     for v, node in nodes.items()
                 ]
                 self.same(f"{name} alone", play("alone", asked, data=data), (0, text_of(ends), b""))
-                run = play("alone", asked, "--transcript", data=data)[1]
-                status, state, errors = play("replay", asked, data=data + run)
-                nodes = [line for line in state.decode().splitlines() if line.startswith("node ")]
-                self.same(f"transcript of {name} alone", (status, nodes, errors), (0, ends, b""))
                 for workers, capacity in (next(threads), next(threads)):
                     done = play(
                         "run", asked, "--workers", workers, "--capacity", capacity, data=data
