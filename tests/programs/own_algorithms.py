@@ -13,7 +13,7 @@ from tests.cases import Case, forestlab, said_by, text_in
 from tests.pictures.marks import data_of
 from tests.programs.sequels import SAMPLES
 
-SET, COUNT = SAMPLES
+SET = SAMPLES[0]
 FLOOD = """\
 def greet(me):
     me.best = me.id
@@ -198,44 +198,29 @@ class OwnAlgorithms(Case):
         """Every order on a few nodes ends, by hand, as the rounds do; a run by seed is checked, and with another wire
         refused; and pictures say the end."""
         for asked, name, ends in (
-            ("leader", "path2", "1 leader 2, 2 leader 2"),
             ("layers --root 3", "path3", "1 layer 2 by 0, 2 layer 1 by 1, 3 layer 0"),
             ("recolouring --passes 2", "path2", "1 channel 1, 2 channel 2"),
             (SET, "path2", "1 set out, 2 set in"),
-            (COUNT, "path2", "1 nodes 2, 2 nodes 2"),
         ):
             words = ["--program", *asked.split()]
             status, text, fault = said_by("explore", name, *words)
+            last = text.splitlines()[-1:]
             self.same(
-                f"every order of {asked}",
-                (status, text.splitlines()[-1:], fault),
-                (0, [f"one end: {ends}"], ""),
+                f"every order of {asked}", (status, last, fault), (0, [f"one end: {ends}"], "")
             )
             run = said_by("simulate", name, *words, "--seed", "3")[1]
-            self.note(f"a run of {asked}", run.startswith("transcript 3 "), run[:60])
-            for data, *wanted in (
-                (run, 0, "whole run of "),
-                (run.replace(" safe 0", " safe 1", 1), 1, "WrongWire"),
-            ):
-                done = said_by("transcript", "check", name, "-", *words, data=data.encode())
-                self.note(
-                    f"{wanted} of {asked}",
-                    done[0] == wanted[0] and wanted[1] in done[1] + done[2],
-                    done,
-                )
+            check = ["transcript", "check", name, "-", *words]
+            done = said_by(*check, data=run.encode())
+            good = done[::2] == (0, "") and done[1].startswith("whole run of ")
+            self.note(f"a run of {asked}", good, done)
+            wrong = run.replace(" safe 0", " safe 1", 1).encode()
+            self.refusal(f"a wrong wire of {asked}", said_by(*check, data=wrong), 1, "WrongWire")
+            found = ends.split(", ")[-1][2:]
             for kind in ("results", "player"):
                 done = said_by("picture", kind, name, *words)
-                good = done[::2] == (0, "") and ends.split(", ")[-1][2:] in done[1]
-                self.note(f"picture {kind} of {asked}", good, done)
-        _, run, _ = forestlab("simulate", "path3", "--program", "layers", "--root", "3")
-        self.refusal(
-            "a run with another root",
-            forestlab(
-                "transcript", "check", "path3", "-", "--program", "layers", "--root", "2", data=run
-            ),
-            1,
-            b"WrongWire",
-        )
+                self.note(
+                    f"picture {kind} of {asked}", done[::2] == (0, "") and found in done[1], done
+                )
         for line, status, said in (
             (
                 "explore path3 --program layers --root 4",
@@ -243,20 +228,11 @@ class OwnAlgorithms(Case):
                 "explore: there is no node 4 that could be the root: the network has 3\n",
             ),
             ("picture player path3 --program layers --root 9", 1, "there is no node 9"),
-            (
-                "explore path3 --root 1",
-                1,
-                "explore: --root is for --program layers, not for colouring\n",
-            ),
+            ("explore path3 --root 1", 1, "--root is for --program layers, not for colouring\n"),
             ("simulate path3 --program layers --passes 2", 1, "not for layers"),
             ("simulate path2 --program recolouring --passes 0", 2, "--passes"),
-            ("picture plan path2 --passes 2", 2, "--passes"),
             ("simulate two --program tree", 1, "simulate: there is no program tree: there are "),
-            (
-                "simulate two --program nowhere.py",
-                1,
-                "simulate: nowhere.py: No such file or directory\n",
-            ),
+            ("simulate two --program no.py", 1, "simulate: no.py: No such file or directory\n"),
         ):
             self.refusal(line, said_by(*line.split()), status, said)
 
@@ -303,27 +279,12 @@ class OwnAlgorithms(Case):
 
     def test_chance(self):
         """Chance by the seed is the same in the rounds and in each order, and the seed is named."""
-        first, again, other = (
-            self.told(DRAWS),
-            self.told(DRAWS),
-            self.told(DRAWS, "--lots", "other"),
-        )
-        good = (
-            first == again
-            and first[0] == other[0] == 0
-            and first[1] != other[1]
-            and "one end" in other[1]
-        )
-        self.note("me.random", good, (first, again, other))
-        says = [
-            f"of the draws of --lots {seed} alone\n" in text[1]
-            for seed, text in (("1", first), ("other", other))
-        ]
-        self.note(
-            "whose draws",
-            says == [True, True] and "draws" not in self.told(FLOOD)[1],
-            (first, other),
-        )
+        for seed, words in (("1", []), ("other", ["--lots", "other"])):
+            status, said, _ = self.told(DRAWS, *words)
+            good = status == 0 and f"of the draws of --lots {seed} alone\n" in said
+            self.note(f"me.random by {seed}", good and "one end" in said, said)
+        self.note("another seed", said != self.told(DRAWS)[1])
+        self.note("none is named without chance", "draws" not in self.told(FLOOD)[1])
 
     def test_refused(self):
         """What is no program, can't be copied or isn't the same the second time, in one line; other chance and shared
@@ -406,10 +367,6 @@ class OwnAlgorithms(Case):
             [row for row in rows if row.startswith("pulse")],
             [f"pulse {p}" for p in range(4)],
         )
-        status, text, _ = self.told(TOO_SHORT, network="path3")
-        self.note(
-            "on three nodes", status == 0 and text.startswith("every schedule of path3"), text
-        )
         status, text, _ = self.told(RIGHT, network="path6")
         wanted = "right after 6 pulses of path6: " + ", ".join(f"{v} best 6" for v in range(1, 7))
         self.same("a right one on six nodes", (status, text.splitlines()[0]), (0, wanted))
@@ -420,10 +377,9 @@ class OwnAlgorithms(Case):
         self.note("simulate", status == 1 and run.startswith("transcript 3 flood 6\n"), run[:40])
         self.note("simulate says why", fault.endswith(" isn't right: no leader\n"), fault)
         words = ["transcript", "check", "path6", "-", "--program", self.file("flood.py", TOO_SHORT)]
-        done = said_by(*words, data=run.encode())
-        self.refusal("transcript check", done, 1, "NotRight: whole run of 6 nodes, ")
         status, text, _ = said_by(*words, "--json", data=run.encode())
-        self.note("transcript check --json", status == 1 and '"right": false' in text, text)
+        good = status == 1 and '"right": false' in text and "NotRight" in text
+        self.note("transcript check --json", good, text)
 
     def test_networks_by_chance(self):
         """A smallest network on which a file is wrong: by hand, three rounds are one too few for a row of five whose
@@ -439,7 +395,6 @@ class OwnAlgorithms(Case):
         self.same("a right one", done, (0, "right on 60 networks of up to 12 nodes\n", ""))
         for words, status, said in (
             (["--networks", "9", "--program", self.file("flood.py", FLOOD)], 1, "has none"),
-            (["two", "--networks", "9", "--program", path], 2, "without NETWORK"),
             (["--networks", "0", "--program", path], 2, "no number from 1 to"),
             (["two", "--connected"], 2, "--connected is for --networks"),
         ):
@@ -487,14 +442,11 @@ class OwnAlgorithms(Case):
 
     def test_what_it_prints(self):
         """It goes to standard error, and leaves what the command writes as it was."""
-        for name, words in (("explore", ["two"]), ("simulate", ["chain6"])):
-            plain = self.told(FLOOD, command=name, network=words[0])
-            loud = self.told(
-                FLOOD.replace(
-                    "def greet(me):", "print('HERE')\ndef greet(me):\n    print('THERE')"
-                ),
-                command=name,
-                network=words[0],
+        prints = "print('HERE')\ndef greet(me):\n    print('THERE')"
+        for name in ("explore", "simulate"):
+            plain, loud = (
+                self.told(text, command=name)
+                for text in (FLOOD, FLOOD.replace("def greet(me):", prints))
             )
             good = loud[:2] == plain[:2] and "HERE\n" in loud[2] and "THERE\n" in loud[2]
             self.note(f"{name} with prints", good, (plain, loud))
@@ -504,18 +456,11 @@ class OwnAlgorithms(Case):
         return said_by(command, network, "--program", self.file("flood.py", text), *words)
 
     def test_pictures(self):
-        for kind, name in (
-            ("rounds", "petersen"),
-            ("run", "chain6"),
-            ("schedules", "two"),
-            ("player", "petersen"),
-        ):
-            status, text, fault = forestlab("picture", kind, name, "--program", SET)
-            good = (status, fault) == (0, b"") and text.startswith((b"<svg", b"<!doctype"))
-            self.note(f"picture {kind}", good, fault)
+        """Node 3 is in at pulse 1, 2 out at 2, and 1 in at 3."""
         _, text, _ = forestlab("picture", "rounds", "path", "--program", SET)
-        # Node 3 is in at pulse 1, 2 out at 2, and 1 in at 3.
         self.note("what is found", text.count(b'class="found"') == 6, text)
+        status, text, fault = forestlab("picture", "run", "chain6", "--program", SET)
+        self.note("picture run", (status, fault) == (0, b"") and b"</svg>" in text, fault)
 
     def test_drawn(self):
         """A row of six, whose nodes say a colour and the port to the node before: by hand, in pulse 6 five edges are
