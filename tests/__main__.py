@@ -28,9 +28,9 @@ from tests.tools import not_run
 
 # The modules that take longest, which begin first.
 LONGEST = (
+    "programs.own_algorithms",
+    "programs.sequels",
     "programs.hostile",
-    "programs.plain_networks",
-    "programs.transcripts",
     "programs.schedules",
 )
 
