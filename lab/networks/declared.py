@@ -11,6 +11,7 @@ from xml.parsers import expat
 
 from lab.networks.fields import shown
 from lab.networks.listed import Where
+from lab.networks.network_text import MAX_NODES
 from lab.wrong import Wrong, wrong_line
 
 
@@ -92,8 +93,15 @@ def in_gml(data: bytes, path: str) -> Declared:
 
 def loaded(data: bytes, path: str) -> dict:
     """The object of a text in JSON; an empty one if it has none."""
+
+    def once(pairs: list[tuple[str, object]]) -> dict[str, object]:
+        found = dict(pairs)
+        if len(found) < len(pairs):
+            raise Wrong(f"{path}: an object has a key twice: {shown(', '.join(found))}")
+        return found
+
     try:
-        whole = json.loads(data)
+        whole = json.loads(data, object_pairs_hook=once)
     except json.JSONDecodeError as why:
         raise wrong_line(path, why.lineno, f"no JSON: {why.msg}") from None
     except RecursionError:
@@ -121,6 +129,12 @@ def in_json(data: bytes, path: str) -> Declared:
 
 
 def in_letters(data: bytes, path: str) -> None:
-    """Refuses a second graph of graph6 or sparse6, each of which is a line."""
-    if b"\n" in data.strip():
+    """Refuses a second graph of graph6 or sparse6, each of which is a line, and one of too many nodes."""
+    first, *others = data.strip().split(b"\n")
+    if others:
         raise wrong_line(path, 2, "a second graph: a file of one graph is read")
+    # Up to 62 nodes are one letter; more are three after a `~`.
+    letters = re.sub(rb"^(>>\w+<<)?:?", b"", first)
+    count = sum((letter - 63) << 12 - 6 * at for at, letter in enumerate(letters[1:4]))
+    if letters.startswith(b"~") and count > MAX_NODES:
+        raise wrong_line(path, 1, f"more than {MAX_NODES} nodes")

@@ -17,14 +17,13 @@ from lab.networks.declared import Declared, in_gml, in_json, in_letters, in_xml
 from lab.networks.fields import shown
 from lab.networks.listed import Listed, Where, name_of, not_read
 from lab.networks.stated import Stated, decoded
+from lab.networks.table import FARTHEST
 from lab.words import one_line
 from lab.wrong import Wrong, wrong_line
 
 PACKAGE = "apt install python3-networkx, or pip install networkx"
 # How much of the words of networkx is said.
 MOST_SAID = 300
-# No place is as far away.
-FARTHEST = 1e9
 # Gephi writes GEXF 1.3, whose nodes and edges are those of 1.2, which all versions of networkx read.
 NEW_GEXF, GEXF = b"http://gexf.net/1.3", b"http://www.gexf.net/1.2draft"
 GRAPH_OF_GML = re.compile(r"^\s*graph\s*\[", re.M)

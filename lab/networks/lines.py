@@ -34,23 +34,32 @@ def node_of(word: str, name: str, line: int) -> str:
     return name_of(word, name, line)
 
 
+def tail_of(more: str | None) -> str:
+    """What a line has after its two nodes."""
+    if more is None:
+        return "nothing"
+    return "data" if more.endswith("}") else "a number"
+
+
 def edges(text: str, name: str) -> Listed:
-    """Two nodes a line, and after them nothing, a number, or data in braces."""
+    """Two nodes a line, and after them nothing, a number, or data in braces, as after the first."""
     rows, notes = rows_in(text, name)
     found = Listed("edges", notes=notes)
-    has_more = False
+    tails: set[str] = set()
     for line, row in rows:
         parts = EDGE.fullmatch(row)
         if not parts:
             what = "no two nodes, maybe with a number or {data}"
             raise wrong_line(name, line, f"{what}: `{shown(row)}`")
         one, other, more = parts.groups()
-        has_more = has_more or bool(more)
+        tails.add(tail_of(more))
+        if len(tails) > 1:
+            raise wrong_line(name, line, f"not as many words as in the rows before: `{shown(row)}`")
         is_heading = one.casefold() in TITLES["source"] and other.casefold() in TITLES["target"]
         if is_heading and not found.edges:
             raise wrong_line(name, line, f"it is a heading, and lines of nodes have none; {TABLE}")
         found.edges.append((line, node_of(one, name, line), node_of(other, name, line)))
-    if has_more:
+    if tails != {"nothing"}:
         found.notes.append("numbers or data after the nodes aren't read")
     return found
 

@@ -1,5 +1,6 @@
 """What a text lists: nodes and edges by their names."""
 import difflib
+import re
 import unicodedata
 from collections.abc import Collection
 from dataclasses import dataclass, field
@@ -39,12 +40,17 @@ class Listed:
         return list(dict(self.ends()) if self.nodes is None else self.nodes)
 
 
+# How a spreadsheet writes a cell that it can't work out, as #DIV/0!.
+ERROR_VALUE = re.compile(r"#[A-Z/0]+[!?]|#N/A|#NV", re.I)
+
+
 @lru_cache(1 << 16)
 def composed(word: str) -> str | None:
     """A name with composed letters, by which names are compared; None if it is no name."""
     word = unicodedata.normalize("NFC", word.strip())
     is_seen = word.isprintable() and any(map(str.isalnum, word))
-    return word if is_seen and len(word) <= LONGEST_NAME else None
+    is_worked_out = not ERROR_VALUE.fullmatch(word)
+    return word if is_seen and is_worked_out and len(word) <= LONGEST_NAME else None
 
 
 def name_of(word: str, path: str, where: Where) -> str:

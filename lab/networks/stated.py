@@ -50,6 +50,7 @@ BY_MARK = {
     codecs.BOM_UTF16_LE: "utf-16",
     codecs.BOM_UTF16_BE: "utf-16",
 }
+COMPRESSED = b"\x1f\x8b"
 
 
 @dataclass(frozen=True)
@@ -120,6 +121,8 @@ def form_of(path: str, name: str, stated: Stated = Stated()) -> str:
 
 def letters_of(data: bytes, name: str, stated: str | None) -> str:
     """The letters of a file: in the encoding that its mark says, or that is stated, or UTF-8."""
+    if data.startswith(COMPRESSED):
+        raise Wrong(f"{name}: it is compressed: unpack it by gunzip")
     encoding = stated or "utf-8"
     for mark, marked in BY_MARK.items():
         if data.startswith(mark):
@@ -136,4 +139,8 @@ def letters_of(data: bytes, name: str, stated: str | None) -> str:
 
 def decoded(data: bytes, name: str, stated: str | None) -> str:
     """The text of a file, whose lines end with line feeds."""
-    return letters_of(data, name, stated).replace("\r\n", "\n").replace("\r", "\n")
+    text = letters_of(data, name, stated).replace("\r\n", "\n").replace("\r", "\n")
+    before, zero, _ = text.partition("\0")
+    if zero:
+        raise wrong_line(name, before.count("\n") + 1, "a letter of value zero, so it is no text")
+    return text

@@ -25,6 +25,8 @@ TITLES = {
     "x_m": ("x_m", "easting"),
     "y_m": ("y_m", "northing"),
 }
+# No coordinate is as great, in metres or kilometres.
+FARTHEST = 1e9
 # What may be between the fields of a row.
 MARKS = ",;\t"
 NUMBER = re.compile(r"-?[0-9]{1,20}(?:[.,][0-9]{1,20})?(?:[eE][+-]?[0-9]{1,2})?")
@@ -104,6 +106,8 @@ class Table:
     def first_rows(self, text: str) -> list[Begin]:
         """The first row with each mark that is in the first line, and with which it is a row."""
         first_line = text.lstrip("\n ").partition("\n")[0]
+        if first_line.startswith("sep="):
+            raise self.wrong(1, f"`{shown(first_line)}` is for Excel alone: delete this line")
         found, fault = [], Wrong(f"{self.name}: it has no row")
         for mark in [mark for mark in MARKS if mark in first_line] or [","]:
             try:
@@ -185,7 +189,10 @@ class Table:
         """A number with a point, or with a comma if commas don't separate the fields."""
         if not NUMBER.fullmatch(field) or "," in field and "," not in self.decimals:
             raise self.wrong(line, f"no number, or one with thousands: `{shown(field)}`")
-        return float(field.replace(",", "."))
+        number = float(field.replace(",", "."))
+        if abs(number) >= FARTHEST:
+            raise self.wrong(line, f"no place on this earth: `{shown(field)}`")
+        return number
 
 
 def choice_of(columns: tuple[str, ...], titles: list[str]) -> tuple[list[str], str]:

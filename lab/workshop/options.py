@@ -129,15 +129,20 @@ def parsed(words: list[str]) -> argparse.Namespace:
     options = line.parse_intermixed_args(words[:at])
     groups = groupby(words[at + 1 :], "--".__eq__)
     options.commands = [list(command) for is_mark, command in groups if not is_mark]
+    check(options, line)
     is_alpha = options.assignment == "alpha"
-    if not options.commands:
-        line.error("there is no command after `--`")
-    if options.assignment == "open" and options.program:
-        line.error("--program is of rounds and alpha")
-    if not is_alpha and (options.policies or options.picture):
-        line.error("--policies and --picture are of alpha alone")
     options.program = options.program or COLOURING
     options.policies = options.policies or (list(POLICIES) if is_alpha else [""])
     options.runs = options.runs or len(options.networks) or 100
     options.networks = options.networks or NETWORKS.split(",")
     return options
+
+
+def check(options: argparse.Namespace, line: argparse.ArgumentParser) -> None:
+    """Refuses options that don't go together."""
+    if not options.commands:
+        line.error("there is no command after `--`")
+    if options.assignment == "open" and options.program:
+        line.error("--program is of rounds and alpha")
+    if options.assignment != "alpha" and (options.policies or options.picture):
+        line.error("--policies and --picture are of alpha alone")
