@@ -81,13 +81,23 @@ PAIR = re.compile(r"(\w+)\s+(\S+)")
 
 def in_gml(data: bytes, path: str) -> Declared:
     """The lists of GML; ids and ends are before what a node or an edge has in lists of its own."""
-    declared = Declared(path)
-    bare = TEXT.sub(lambda found: '""' + "\n" * found[0].count("\n"), data.decode())
+    text, declared = data.decode(), Declared(path)
+    for found in TEXT.finditer(text):
+        after = text[found.end() : found.end() + 1]
+        if found[0].startswith('"') and after and after not in " \t\r\n]":
+            line = text.count("\n", 0, found.start()) + 1
+            what = "a quotation mark within a text, which GML writes as &quot;"
+            raise wrong_line(path, line, what)
+    bare = TEXT.sub(lambda found: '""' + "\n" * found[0].count("\n"), text)
     line, end = 1, 0
     for found in LIST.finditer(bare):
         line += bare.count("\n", end, found.start())
         end = found.start()
-        declared.declare(found[1], line, dict(PAIR.findall(found[2])))
+        pairs = PAIR.findall(found[2])
+        keys = [key for key, _ in pairs]
+        if keys.count("label") > 1 or keys.count("name") > 1:
+            raise wrong_line(path, line, "a second name of one node")
+        declared.declare(found[1], line, dict(pairs))
     return declared.checked()
 
 

@@ -38,6 +38,12 @@ REFUSED = (
     ("edges", "2 3\nUlm Site 1\n", "line 2: not as many words as in the rows before"),
     ("json", '{"nodes": [], "nodes": [{"id": 1}], "links": []}', "an object has a key twice"),
     ("sparse6", ":~~~~~~~~~\n", "line 1: more than 20000 nodes"),
+    ("gml", 'graph [\nnode [ id 1 name "say "hi" 1" ] ]', "line 2: a quotation mark within"),
+    (
+        "gml",
+        'graph [ node [ id 1 ]\nnode [ id 2 label "a" label "b" ] ]',
+        "line 2: a second name of one node",
+    ),
     ("pairs", "", "it has no row"),
     ("pairs", PAIR, "line 1: it has no row below its heading"),
     ("pairs", PAIR + "a,b\nsource,target\nb,c\n", "line 3: the heading a second time"),
