@@ -27,12 +27,7 @@ from tests.settings import MORE_HELP, PATHS, built
 from tests.tools import not_run
 
 # The modules that take longest, which begin first.
-LONGEST = (
-    "programs.own_algorithms",
-    "programs.sequels",
-    "programs.hostile",
-    "programs.schedules",
-)
+LONGEST = ("programs.own_algorithms", "programs.sequels", "programs.hostile", "programs.schedules")
 
 
 def options():
