@@ -101,7 +101,9 @@ class Guard:
         """Raises a fault if a program takes too much, with all that it has started; looks now and then."""
         if time.monotonic() - self.looked <= LOOK:
             return
-        self.check(list(below_this(self.programs - {program})), memory)
+        below = below_this(self.programs - {program})
+        running = [process for process in below if not process.is_over]
+        self.check(running, memory)
         self.looked = time.monotonic()
 
     def check(self, running: list[Running], memory: int) -> None:

@@ -1,14 +1,22 @@
-"""The processes of this machine, as /proc has them, and what a process may say of itself."""
+"""The processes of this machine, as /proc has them, and how those that a run leaves behind are ended."""
 import contextlib
 import ctypes
 import os
 import resource
+import signal
 import stat
 from dataclasses import dataclass
 from typing import Collection, Iterator
 
 # Numbers of Linux, the same on all machines.
-PARENT_DEATH_SIGNAL, DUMPABLE, SECCOMP, NO_NEW_RIGHTS = 1, 4, 22, 38
+PARENT_DEATH_SIGNAL, DUMPABLE, SECCOMP, SUBREAPER, IS_SUBREAPER, NO_NEW_RIGHTS = (
+    1,
+    4,
+    22,
+    36,
+    37,
+    38,
+)
 SYSTEM = ctypes.CDLL(None, use_errno=True)
 
 
@@ -19,11 +27,19 @@ def control(what: int, value: int, more: int = 0) -> None:
 
 
 def shut() -> None:
-    """Other programs of the same user don't read or trace this process; and it may open as many files as the system
-    allows: three for each program."""
+    """Other programs of the same user don't read or trace this process; it gets what its programs leave behind; and it
+    may open as many files as the system allows: three for each program."""
     control(DUMPABLE, 0)
+    control(SUBREAPER, 1)
     most = resource.getrlimit(resource.RLIMIT_NOFILE)[1]
     resource.setrlimit(resource.RLIMIT_NOFILE, (most, most))
+
+
+def is_reaper() -> bool:
+    """Whether this process gets what its programs leave behind."""
+    said = ctypes.c_int(0)
+    control(IS_SUBREAPER, ctypes.addressof(said))
+    return bool(said)
 
 
 @dataclass
@@ -35,6 +51,7 @@ class Running:
     user: int
     threads: int
     memory: int
+    is_over: bool
 
 
 def processes() -> Iterator[Running]:
@@ -49,10 +66,11 @@ def processes() -> Iterator[Running]:
                 user=user,
                 threads=int(fields[17]),
                 memory=int(fields[21]) * resource.getpagesize(),
+                is_over=fields[0] in (b"Z", b"X"),
             )
 
 
-def below_this(kept: Collection[int]) -> Iterator[Running]:
+def below_this(kept: Collection[int | None] = ()) -> Iterator[Running]:
     """All processes below this one, but those that are kept with what is below them."""
     below: dict[int, list[Running]] = {}
     for process in processes():
@@ -74,3 +92,20 @@ def unnamed(running: list[Running]) -> int:
                     if stat.S_ISREG(file.st_mode) and not file.st_nlink:
                         sizes[file.st_dev, file.st_ino] = 512 * file.st_blocks
     return sum(sizes.values())
+
+
+def end_all(kept: Collection[int | None] = ()) -> None:
+    """Ends and collects all processes below this one. What is stopped starts no more, so all are stopped before one is
+    killed."""
+    stopped: set[int] = set()
+    while found := list(below_this(kept)):
+        running = {process.number for process in found if not process.is_over}
+        to_stop = running - stopped
+        for number in to_stop or running:
+            with contextlib.suppress(ProcessLookupError, PermissionError):
+                os.kill(number, signal.SIGSTOP if to_stop else signal.SIGKILL)
+        stopped |= to_stop
+        for process in found:
+            if process.is_over and process.parent == os.getpid():
+                with contextlib.suppress(ChildProcessError):
+                    os.waitpid(process.number, os.WNOHANG)

@@ -4,6 +4,7 @@ import time
 from lab.door import held
 from lab.workshop.findings import Fault
 from lab.workshop.guard import Guard, Limits
+from lab.workshop.leftovers import end_all, is_reaper
 from lab.workshop.processes import Process
 
 Answer = list[str] | Fault
@@ -70,6 +71,8 @@ class Nodes:
                 process.end()
             while self.processes:
                 self.processes.pop().stop(until)
+            if is_reaper():
+                end_all()
 
 
 def attempt(do, *given):

@@ -18,7 +18,7 @@ from lab.programs import TOP
 from lab.workshop.cases import cases_of
 from lab.workshop.compiling import compiled
 from lab.workshop.guard import Guard, Unguarded
-from lab.workshop.leftovers import PARENT_DEATH_SIGNAL, control, shut
+from lab.workshop.leftovers import PARENT_DEATH_SIGNAL, control, end_all, shut
 from lab.workshop.options import parsed
 from lab.workshop.playing import Player
 from lab.workshop.report import as_json, report
@@ -114,6 +114,7 @@ def play_all(parts: list[Part], given: argparse.Namespace, jobs: int, room: str)
                 if pipe in ready or time.monotonic() > until:
                     del running[pipe]
                     part.found = finished(process, pipe)
+                    end_all([other.pid for _, other, _ in running.values()])
                     say(part, clean(f"{part.words()} {part.said()}".strip()))
     finally:
         with held():
@@ -121,7 +122,7 @@ def play_all(parts: list[Part], given: argparse.Namespace, jobs: int, room: str)
                 process.terminate()
             for _, process, _ in running.values():
                 process.join(3)  # a moment to end its programs
-                process.kill()
+            end_all()
 
 
 def finished(process: ForkProcess, pipe: Connection) -> dict:

@@ -26,7 +26,9 @@ REACHING = {
 
 def as_a_user():
     """What a command is called with, so that it isn't root's."""
-    user = {"user": USERS[0], "group": USERS[0], "extra_groups": []} if os.geteuid() == 0 else {}
+    # A number that no other module takes, since the processes of one number are counted together.
+    own = USERS[-1]
+    user = {"user": own, "group": own, "extra_groups": []} if os.geteuid() == 0 else {}
     return {"cwd": "/", **user}
 
 
@@ -35,9 +37,10 @@ class Forgers(unittest.TestCase):
         self.assertEqual(left_at_last(), [])
 
     def test_nothing_reaches_the_workshop(self):
-        """And the environment is small, and no signal is blocked, though signals wait while a program is started."""
+        """And nothing stays: children of sessions of their own, whose parents have ended. The environment is small, and
+        no signal is blocked, though signals wait while a program is started."""
         more = (
-            "said.append('names=' + '+'.join(sorted(os.environ)))\n"
+            f"for _ in range(60):\n    away({MARK})\nsaid.append('names=' + '+'.join(sorted(os.environ)))\n"
             "said.append(f'blocked={len(signal.pthread_sigmask(signal.SIG_BLOCK, ()))}')\n"
         )
         given = {"SECRET": "x", "PYTHONUNBUFFERED": "1", "HOME": "/", "LANG": "C.UTF-8"}

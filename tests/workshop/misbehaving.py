@@ -75,15 +75,15 @@ AT_ONCE = (
 
 
 def left():
-    """The numbers of processes of these tests that are still there."""
+    """Command lines of processes of these tests that are still there."""
     found = []
     for pid in filter(str.isdecimal, os.listdir("/proc")):
         try:
-            words = contents(f"/proc/{pid}/cmdline").split(b"\0")
+            words = contents(f"/proc/{pid}/cmdline").decode("utf-8", "replace").split("\0")
         except OSError:
             continue
-        if MARK.encode() in words:
-            found.append(int(pid))
+        if MARK in words:
+            found.append(" ".join(words))
     return found
 
 

@@ -4,7 +4,6 @@ import ctypes
 import os
 import re
 import shutil
-import signal
 import socket
 import subprocess
 from unittest import mock
@@ -13,6 +12,7 @@ from lab.workshop import sandbox
 from lab.workshop.compiling import compiled, unpack
 from lab.workshop.findings import Fault
 from lab.workshop.guard import Guard, Limits
+from lab.workshop.leftovers import end_all, shut
 from lab.workshop.processes import Process
 from lab.workshop.sandbox import USERS, Sandbox
 from lab.wrong import Wrong
@@ -21,6 +21,8 @@ from tests.tools import need
 from tests.workshop.base import JAVA, LIMIT
 from tests.workshop.misbehaving import MARK, left
 
+# A number that no other module takes, since the processes of one number are counted together.
+USER = USERS[-2]
 BEGIN = """\
 import ctypes, fcntl, os, resource, signal, socket, stat, sys, time
 SYSTEM, WORKSHOP, said = ctypes.CDLL(None, use_errno=True), os.getppid(), []
@@ -153,12 +155,15 @@ class Sandboxed(Case):
         self.file(os.path.join(self.copy, NODE), "own")
         os.symlink(os.path.join(self.subs, "ben", NODE), os.path.join(self.copy, "link"))
 
+    def tearDown(self):
+        end_all()
+
     def guards(self):
         """The container, and none; both in the folder of a submission."""
         if os.geteuid() == 0:
-            subprocess.run(["chown", "-hR", f"{USERS[0]}:{USERS[0]}", self.copy], check=True)
+            subprocess.run(["chown", "-hR", f"{USER}:{USER}", self.copy], check=True)
         hidden = [os.path.join(self.folder, "home"), self.subs, self.room, os.path.dirname(RIGHT)]
-        return Sandbox(self.copy, hidden, [], USERS[0]), unguarded(self.copy)
+        return Sandbox(self.copy, hidden, [], USER), unguarded(self.copy)
 
     def names(self):
         """What the attacks speak of: all of it is there."""
@@ -236,13 +241,13 @@ class Sandboxed(Case):
     def test_all_ends_with_a_program(self):
         """Children in sessions of their own, whose parents have ended."""
         more = f"for _ in range(3):\n    away({MARK})\ntime.sleep(0.5)\n"
+        shut()  # what is left behind becomes a child of this process
         for guard, some in zip(self.guards(), (0, 3)):
             with started(guard, program({}, more)) as process:
                 process.wait(LIMIT)
-            found = wait_until(lambda: len(left()) == some, 10)
-            self.note(type(guard).__name__, found, left())
-        for number in left():
-            os.kill(number, signal.SIGKILL)
+                found = wait_until(lambda: len(left()) == some, 10)
+                self.note(type(guard).__name__, found, left())
+                end_all()
 
     def fault_of(self, more, memory):
         """What is found of a program that gives no answer."""
@@ -354,8 +359,8 @@ class Sandboxed(Case):
         shut = os.path.join(self.folder, "shut")
         os.makedirs(os.path.join(shut, "subs"))
         os.chmod(shut, 0o700)
-        user = USERS[0] if os.geteuid() == 0 else None
-        guard = Sandbox(self.copy, [os.path.join(shut, "subs"), self.room], [], USERS[0])
+        user = USER if os.geteuid() == 0 else None
+        guard = Sandbox(self.copy, [os.path.join(shut, "subs"), self.room], [], USER)
         self.same("hidden", os.path.join(shut, "subs") in guard.container, user is None)
         guard.try_out()
 
