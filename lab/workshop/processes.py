@@ -104,6 +104,10 @@ class Process:
         until = min(self.until, self.limits.over)
         while not poll.poll(1000 * max(0.0, min(LOOK_AT_FILES, until - time.monotonic()))):
             self.look()
+            found = exit_of(self.process.pid, 0)
+            if found and not poll.poll(0):
+                words = f"it ended with {found}, and what it has started goes on"
+                raise Fault("ended", words + self.last_errors())
             if time.monotonic() < until:
                 continue
             if until < self.until:
