@@ -723,7 +723,8 @@ class Drawn(Page):
     def test_cancel(self):
         """A call that takes long is ended by its button."""
         self.go_to("example=two&tab=draw")
-        self.sees("two nodes", "studio.net.nodes.length === 2")
+        at_rest = "studio.drawn.plan && document.getElementById('busy').hidden"
+        self.sees("two nodes, at rest", f"studio.net.nodes.length === 2 && {at_rest}")
         self.page.value(
             "window.real = fetch; window.fetch = (to, {signal}) => new Promise((_, end) => "
             "signal.addEventListener('abort', () => { window.ended = true; end(signal.reason); }))"
