@@ -34,17 +34,31 @@ def is_taken(lock):
     return True
 
 
+def take_note(lock, process=""):
+    """Writes the number of the process that proves, for the script and for calls that wait."""
+    lock.truncate(0)
+    lock.write(process)
+    lock.flush()
+
+
+def who_proves(lock):
+    lock.seek(0)
+    process = lock.read()
+    return f", process {process}, which `kill {process}` ends" if process else ""
+
+
 @contextlib.contextmanager
 def new_room(name):
     """A place for a folder in the user's cache, and the lock on it: another call waits until this one ends."""
     room = kit.in_cache("room")
     os.makedirs(os.path.dirname(room), mode=0o700, exist_ok=True)
-    with open(f"{room}.lock", "w", encoding="ascii") as lock:
+    with open(f"{room}.lock", "a+", encoding="ascii") as lock:
         if not is_taken(lock):
-            tell(name, "another call is proving already; waiting for its end")
+            tell(name, f"another call is proving already{who_proves(lock)}; waiting for its end")
             # In one call that waits, a signal that came just before it would wait, too.
             while not is_taken(lock):
                 time.sleep(0.2)
+        take_note(lock)
         shutil.rmtree(room, ignore_errors=True)
         try:
             yield room, lock
@@ -111,10 +125,12 @@ def run(name, crates, edits=None, take=None):
                 pass_fds=[lock.fileno()],
             ) as rt:
                 try:
+                    take_note(lock, str(rt.pid))
                     said = followed(name, rt, log, len(wanted), start)
                 finally:
                     # All that it has started ends with it.
                     rt.kill()
+                    take_note(lock)
             if NOT_PROVED.search(said) or rt.returncode not in ((0, 1) if edits else (0,)):
                 tell_failure(name, rt.returncode, said, log)
                 return None

@@ -239,6 +239,11 @@ class FirstRun(Case):
             "what the program prints", (status, out) == (0, "plain x\ninput\n"), (status, out)
         )
         self.note(
+            "what there is meanwhile",
+            re.search(r"\A.*\n.*bin/forestlab studio.*\./try .*\n", err),
+            err,
+        )
+        self.note(
             "a line of progress",
             re.search(
                 r"^forestplan: 3 of 3 crates proved, \d+ s, the last one forestplan\n"
@@ -342,17 +347,23 @@ class FirstRun(Case):
                 wait_until(lambda: not tree.at_work(), LIMIT),
                 said,
             )
-        # If the script alone is killed, the prover goes on, and the next call waits for it.
+        # If the script alone is killed, the prover goes on, and the next call waits for it. Both name it.
         with tree.begun() as (killed, said):
             self.note("at work once more", wait_until(tree.at_work, LIMIT), said())
-            parent = int(text_in(f"/proc/{tree.at_work()[0]}/stat").rpartition(")")[2].split()[1])
+            prover = tree.at_work()[0]
+            parent = int(text_in(f"/proc/{prover}/stat").rpartition(")")[2].split()[1])
             os.kill(parent, signal.SIGKILL)
             killed.wait(LIMIT)
+            named = f"process {prover}, which `kill {prover}` ends"
+            self.note("what a killed call leaves", f"goes on as {named}\n" in said(), said())
             with tree.begun() as (after, heard):
-                waits = wait_until(lambda: "waiting for its end" in heard(), LIMIT)
+                waits = wait_until(lambda: f"{named}; waiting for its end" in heard(), LIMIT)
                 self.note("the next call waits", waits and tree.at_work(), heard())
+                os.kill(int(prover), signal.SIGTERM)
+                ends = wait_until(lambda: prover not in tree.at_work(), LIMIT)
+                self.note("what was named ends", ends, tree.at_work())
                 write(tree.cached("go"), "")
-                self.same("and goes on then", after.wait(LIMIT), 0)
+                self.same("and the next call goes on", after.wait(LIMIT), 0)
 
     def run_wrong_bodies(self, tree):
         """Edits are tried in the place of the gate's, and each is counted by what `rt ci` says of it."""
