@@ -44,6 +44,8 @@ def run(name, load):
         ):  # as `nohup` has it, and a shell in the background
             signal.signal(number, stop)
     try:
+        # The script that started this has kept Ctrl-C waiting (door.sh).
+        signal.pthread_sigmask(signal.SIG_UNBLOCK, {signal.SIGINT})
         try:
             return load()()
         finally:

@@ -17,8 +17,10 @@ TUNABLES = "glibc.malloc.hugetlb=1"
 SCRIPT = """\
 #!/usr/bin/env bash
 # Runs the program of this name, which is in lib/, with the arguments given.
-top=$(dirname "$(dirname "$(readlink -f "${BASH_SOURCE[0]}")")") name=$(basename "$(readlink -f "$0")")
-source "$top/lab/door.sh"
+self=${BASH_SOURCE[0]}
+[[ $self == */* && ! -L $self ]] || self=$(readlink -f "$self") || exit 4
+top=${self%/*}/.. name=${self##*/}
+source "$top/lab/door.sh" || exit 4
 say_known "$name" "$@"
 run_program "$top/lib/$name" "$name" "$@"
 """

@@ -7,10 +7,12 @@ import signal
 import subprocess
 import sys
 
+from lab.workshop.sandbox import USERS
 from tests import FORESTLAB, TOP
-from tests.cases import Case, called, text_in, wait_until
+from tests.cases import Case, called, copied, text_in, wait_until
 
 LIMIT = 120
+PATH2 = b"c Made by forestlab network path 2\nc at 1 0 0\nc at 2 1 0\np edge 2 1\ne 1 2\n"
 TRIANGLE = os.path.join(TOP, "examples", "triangle.col")
 
 
@@ -85,6 +87,44 @@ class Endings(Case):
                 out, said = run.communicate(timeout=LIMIT)
             got = run.returncode, said
             self.note(f"{number} {times} times", got == wanted and out == b"", got)
+
+    def test_early_interrupt(self):
+        """Ctrl-C while Python itself begins is the same."""
+        late = f'#!/bin/sh\nkill -s INT $$\nexec {sys.executable} "$@"\n'
+        os.chmod(self.file("python3", late), 0o755)
+        path = f"{self.folder}:{os.environ['PATH']}"
+        done = called(
+            FORESTLAB,
+            "network",
+            "path",
+            "3",
+            env=dict(os.environ, PATH=path),
+            limit=LIMIT,
+            preexec_fn=lambda: signal.signal(signal.SIGINT, signal.SIG_DFL),
+        )
+        self.same("Ctrl-C at the start", done, (130, b"", b"network: interrupted\n"))
+
+    def test_limits(self):
+        """A limit with which Python can't begin is one line and status 1. Processes it needs none, beside its own."""
+        copy = os.path.join(self.folder, "copy")
+        copied(copy, "bin", "lab", "examples")
+        os.chmod(self.folder, 0o755)
+        for limit, status, out in (
+            ("-n 4", 1, b""),
+            ("-s 96", 1, b""),
+            ("-v 10000", 1, b""),
+            ("-d 3000", 1, b""),
+            ("-u 1", 0, PATH2),
+        ):
+            done = ended(
+                f'ulimit {limit}; exec "$0" network path 2',
+                os.path.join(copy, "bin", "forestlab"),
+                env={"PATH": "/usr/bin:/bin"},
+                # The system counts no processes of root.
+                preexec_fn=None if os.getuid() else lambda: os.setuid(USERS[-3]),
+            )
+            good = done[:2] == (status, out) and done[2].count(b"\n") == status
+            self.note(f"ulimit {limit}", good, done)
 
     def begun(self, name, words):
         # A shell has what it runs in the background ignore SIGINT.

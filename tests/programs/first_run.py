@@ -211,9 +211,14 @@ class FirstRun(Case):
         ):
             wanted = text_in("lab", "help", f"{name}.txt")
             self.same(f"{script} {words}", tree.run(script, *words), (0, wanted, ""))
-        for where in (">/dev/full", ">&-"):
-            done = tree.run("bash", "-c", f"./forestplan plain --help {where}")
-            self.note(f"a stored help {where}", done[0] == 4 and done[2].count("\n") == 1, done)
+        for line in (
+            "./forestplan plain --help >/dev/full",
+            "./forestplan plain --help >&-",
+            "ulimit -f 0; ./forestplan plain --help >a_file",
+            "set -o pipefail; (sleep 1; exec ./forestplan plain --help) | exec true",
+        ):
+            done = tree.run("bash", "-c", line)
+            self.same(line, done, (4, "", "forestplan: stream\n"))
         tree.source("forestplay", "")
         for words, status, is_drawn, said in (
             ("rounds", 0, True, ""),
