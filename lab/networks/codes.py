@@ -1,9 +1,7 @@
 """`forestlab network tell CODE`: what a code of a fault means, and what to do. docs/claim/FORMATS.md lists the codes,
-and docs/claim/DEFINITIONS.md defines them."""
+and docs/claim/DEFINITIONS.md defines them. `import forestplan` loads this file alone, so it imports nothing of lab/."""
 import re
 from typing import NamedTuple
-
-from lab.networks.network_text import MAX_BARS, MAX_CHANNEL, MAX_DEGREE, MAX_EDGES, MAX_NODES
 
 FIRST, LEAVE = "put the `p` line first", "leave one of them"
 SAME = "is the plan of this network?"
@@ -35,7 +33,7 @@ CODES = {
             "take the line out; `forestlab network read FILE` does",
         ),
         "F7": (
-            f"in {{a line}} NODES is above {MAX_NODES:,}, or it names one more than {MAX_EDGES:,} different edges",
+            "in {a line} NODES is above 20,000, or it names one more than 400,000 different edges",
             "take a smaller network: these are the programs' limits",
         ),
         "F8": (
@@ -47,15 +45,15 @@ CODES = {
         "F11": ("in {a line} the identifier is 2^128 or more", "take a smaller identifier"),
         "F12": ("{a line} is a second `i` line of its vertex", LEAVE),
         "F13": (
-            f"in {{a line}} the barred channel is 0 or above {MAX_CHANNEL:,}",
+            "in {a line} the barred channel is 0 or above 2,048",
             "bar another channel",
         ),
         "F14": (
-            f"{{a line}} bars one more than {MAX_BARS:,} different channels at its vertex",
+            "{a line} bars one more than 1,024 different channels at its vertex",
             "bar fewer",
         ),
         "N1": (
-            f"{{a vertex}} has more than {MAX_DEGREE:,} neighbours",
+            "{a vertex} has more than 1,023 neighbours",
             "take edges out; no lower vertex has too many",
         ),
         "N2": (

@@ -1,6 +1,7 @@
-"""What pip calls to install the module `forestplan` from an installed folder: a wheel of the module, and of the
-programs and of lab/, which go to share/forestplan of the environment. It needs pip alone, no other package and no
+"""What pip calls to install the package `forestplan` from an installed folder: a wheel of the package, with the
+programs and lab/ below it, wherever pip puts packages, and of the commands. It needs pip alone, no other package and no
 network."""
+import ast
 import base64
 import hashlib
 import os
@@ -8,48 +9,68 @@ import sysconfig
 import zipfile
 
 TOP = os.path.dirname(os.path.dirname(os.path.dirname(os.path.realpath(__file__))))
-# What the module calls.
-PARTS = ("bin", "lib", "lab", "LICENSE-MIT", "LICENSE-APACHE", "VERSION")
+PACKAGE = os.path.join("lab", "python", "forestplan")
+# What the package and the commands call.
+FOLDERS = ("bin", "lib", "lab", "examples")
+COMMANDS = ("forestlab", "forestplan", "forestplay")
+LICENSES = ("LICENSE-APACHE", "LICENSE-MIT")
 
 
 def build_wheel(folder, config_settings=None, metadata_directory=None):
     """Writes the wheel into a folder, and returns its name."""
-    with open(os.path.join(TOP, "VERSION"), encoding="utf-8") as file:
-        version = file.readline().split()[1]
+    version = text_in("VERSION").split()[1]
     tag = "py3-none-" + sysconfig.get_platform().replace("-", "_").replace(".", "_")
     name, info = f"forestplan-{version}-{tag}.whl", f"forestplan-{version}.dist-info"
+    said = ast.get_docstring(ast.parse(text_in(PACKAGE, "__init__.py")))
     texts = {
-        f"{info}/METADATA": f"Metadata-Version: 2.1\nName: forestplan\nVersion: {version}\n"
-        "Summary: Channel plans of interference graphs, by proved programs\n"
-        "License: MIT OR Apache-2.0\nRequires-Python: >=3.10\n",
-        f"{info}/WHEEL": f"Wheel-Version: 1.0\nGenerator: forestplan\nRoot-Is-Purelib: false\nTag: {tag}\n",
+        "METADATA": f"""\
+Metadata-Version: 2.1
+Name: forestplan
+Version: {version}
+Summary: {said.splitlines()[0]}
+License: MIT OR Apache-2.0
+License-File: LICENSE-APACHE
+License-File: LICENSE-MIT
+Platform: {sysconfig.get_platform()}
+Requires-Python: >=3.10
+Description-Content-Type: text/plain
+
+{said}
+""",
+        "WHEEL": f"Wheel-Version: 1.0\nGenerator: forestplan\nRoot-Is-Purelib: false\nTag: {tag}\n",
+        "entry_points.txt": "[console_scripts]\n"
+        + "".join(f"{one} = forestplan._programs:command\n" for one in COMMANDS),
     }
-    record = []
-    with zipfile.ZipFile(os.path.join(folder, name), "w", zipfile.ZIP_DEFLATED) as wheel:
-        for path, source in sorted(files(f"forestplan-{version}.data/data/share/forestplan")):
-            wheel.write(source, path)
-            with open(source, "rb") as file:
-                record.append(row(path, file.read()))
-        for path, text in texts.items():
-            wheel.writestr(path, text)
-            record.append(row(path, text.encode()))
-        wheel.writestr(f"{info}/RECORD", "".join(record) + f"{info}/RECORD,,\n")
+    path = os.path.join(folder, name)
+    with zipfile.ZipFile(path, "w", zipfile.ZIP_DEFLATED, strict_timestamps=False) as wheel:
+        for there, here in sorted(files(info)):
+            wheel.write(os.path.join(TOP, here), there)
+        for one, text in texts.items():
+            wheel.writestr(f"{info}/{one}", text)
+        rows = [row(there, wheel.read(there)) for there in wheel.namelist()]
+        wheel.writestr(f"{info}/RECORD", "".join(rows) + f"{info}/RECORD,,\n")
     return name
 
 
-def files(share):
-    """(path in the wheel, file) of all that it has."""
-    yield "forestplan.py", os.path.join(TOP, "lab", "python", "forestplan.py")
-    for part in PARTS:
-        if os.path.isfile(os.path.join(TOP, part)):
-            yield f"{share}/{part}", os.path.join(TOP, part)
-        for at, below, names in os.walk(os.path.join(TOP, part)):
+def text_in(*parts):
+    with open(os.path.join(TOP, *parts), encoding="utf-8") as file:
+        return file.read()
+
+
+def files(info):
+    """(path in the wheel, path here) of all that it has of this folder."""
+    yield from ((f"{info}/{name}", name) for name in LICENSES)
+    yield "forestplan/installed/VERSION", "VERSION"
+    for folder in FOLDERS:
+        for at, below, names in os.walk(os.path.join(TOP, folder)):
             below[:] = [name for name in below if name != "__pycache__"]
             for name in names:
                 path = os.path.relpath(os.path.join(at, name), TOP)
-                yield f"{share}/{path}", os.path.join(TOP, path)
+                inner = f"forestplan/installed/{path}"
+                yield path.removeprefix("lab/python/") if path.startswith(PACKAGE) else inner, path
 
 
 def row(path, data):
+    """The line of a file in the list of all files."""
     digest = base64.urlsafe_b64encode(hashlib.sha256(data).digest()).rstrip(b"=").decode()
     return f"{path},sha256={digest},{len(data)}\n"

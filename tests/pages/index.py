@@ -23,6 +23,14 @@ LIMITS = (
     "command_line/src/programs.rt",
     "whole_streams/src/source.rt",
 )
+OF_NETWORKS = ("MAX_NODES", "MAX_EDGES", "MAX_CHANNEL", "MAX_BARS")
+
+
+def assigned(*names):
+    """The lines of Python that give constants their numbers."""
+    return [f"{name} = {{{name}}} " for name in names]
+
+
 SAID_OF_LIMITS = {
     "README.md": (
         "{MAX_NODES:,} nodes, {MAX_EDGES:,} edges, {MAX_DEGREE:,} neighbours and {MAX_BARS:,} barred",
@@ -63,12 +71,19 @@ SAID_OF_LIMITS = {
     ),
     "docs/learn/TUTORIAL.md": ("every network of up to {MAX_NODES:,} nodes",),
     "docs/work/LOOKUP.md": ("{MAX_DEGREE:,} + {MAX_BARS:,}, below `COLOURS`, {MAX_CHANNEL:,}",),
-    "lab/networks/network_text.py": tuple(
-        f"{name} = {{{name}}} "
-        for name in ("MAX_NODES", "MAX_EDGES", "MAX_DEGREE", "MAX_CHANNEL", "MAX_BARS")
-    ),
+    "lab/networks/network_text.py": assigned(*OF_NETWORKS, "MAX_DEGREE"),
     "lab/definitions/programs.py": ("PASSES = {ALL_PASSES} ",),
-    "lab/python/forestplan.py": ("whole(channel, what, 1, {MAX_CHANNEL})",),
+    "lab/networks/codes.py": (
+        "NODES is above {MAX_NODES:,}, or it names one more than {MAX_EDGES:,} different edges",
+        "the barred channel is 0 or above {MAX_CHANNEL:,}",
+        "bars one more than {MAX_BARS:,} different channels",
+        "has more than {MAX_DEGREE:,} neighbours",
+    ),
+    "lab/python/forestplan/__init__.py": (
+        "`workers`, 1 to {MAX_WORKERS},",
+        "more than {MAX_DEGREE:,} neighbours",
+    ),
+    "lab/python/forestplan/_graphs.py": assigned(*OF_NETWORKS, "MAX_WORKERS", "MAX_PASSES"),
     "lab/studio/page/draw.js": (" > {MAX_CHANNEL})", "numbers from 1 to {MAX_CHANNEL:,},"),
     "lab/studio/page/page.html": (
         'id="workers" type="number" min="1" max="{MAX_WORKERS}"',

@@ -1,29 +1,45 @@
 """Tests of the module `forestplan` of lab/python, and of the notebook examples/forestplan.ipynb that shows it."""
 import ast
 import contextlib
+import copy
+import csv
+import doctest
 import functools
 import io
 import json
 import os
+import pickle
 import random
 import sys
+from concurrent.futures import ProcessPoolExecutor
 from itertools import product
 from xml.etree import ElementTree
 
+from lab import version
 from lab.definitions.colours import colours
+from lab.definitions.programs import program_at
 from lab.definitions.rounds import rounds_text
 from lab.networks.network_text import network_of
+from lab.pictures.palette import CHANNEL_HUES
+from lab.pictures.program_rounds import ProgramRounds
 from tests import TOP
-from tests.cases import Case
+from tests.cases import Case, forestlab
 from tests.tools import need
 
 sys.path.append(os.path.join(TOP, "lab", "python"))
 import forestplan  # noqa: E402
 
+PACKAGE = os.path.dirname(forestplan.__file__)
 NOTEBOOK = os.path.join(TOP, "examples", "forestplan.ipynb")
 # Four nodes in a ring, one with an edge to itself and one in both directions.
 SQUARE = {"Ulm": ["Aue", "Bonn"], "Aue": ["Ulm", "Hof"], "Hof": [], "Bonn": ["Hof", "Bonn"]}
-
+# Three sites, of which the first two are 1.1 km apart, and one has no place; and what csv.DictReader makes of them.
+SITES = [
+    {"site": "Ulm", "lat": 48.4, "lon": 10, "height": 480},
+    {"site": 7, "lat": 48.41, "lon": 10.0, "height": None},
+    {"site": "Hof", "lat": 50.3, "lon": 11.9},
+    {"site": "Aue", "lat": float("nan"), "lon": None},
+]
 
 # By the call and what it raises: words of a refusal, and what is given. A plan is asked of a graph, bars and a licence;
 # and a graph, a plan, bars and a licence are checked.
@@ -34,6 +50,10 @@ REFUSED = {
         ("the neighbours of 'Ulm' are 'Aue'", {"Ulm": "Aue"}),
         ("the neighbours of 'Ulm' are None", {"Ulm": None}),
         ("the neighbours of 'a' are {'b': 0}", {"a": {"b": 0}, "b": {}}),
+        ("bars are [(1, 2)]", SQUARE, [(1, 2)]),
+        ("workers is 2.0", SQUARE, None, None, 2.0),
+        ("workers is True", SQUARE, None, None, True),
+        ("passes is '2'", SQUARE, None, None, None, "2"),
         ("a bar of 'Ulm' is False", SQUARE, {"Ulm": [False, True]}),
         ("a bar of 'Ulm' is '6'", SQUARE, {"Ulm": ["6"]}, [6, 1, 11]),
         ("the bars of 'Ulm' are '16'", SQUARE, {"Ulm": "16"}),
@@ -47,9 +67,13 @@ REFUSED = {
         ("is 'a', which has no entry", {"source": ["a"], "target": ["b"]}),
         ("is ('b', 5), which has no entry", {"a": [("b", 5)], "b": []}),
         ("a bar of 'Ulm' is 0", SQUARE, {"Ulm": [0]}),
-        ("a bar of 'Ulm' is 2049", SQUARE, {"Ulm": [2049]}),
+        ("a bar of 'Ulm' is 2049, and has to be from 1 to 2,048", SQUARE, {"Ulm": [2049]}),
+        ("the number of bars of 'Ulm' is 1025", SQUARE, {"Ulm": range(1, 1026)}),
+        ("the number of nodes is 20001", dict.fromkeys(range(20001), ())),
+        ("workers is 0, and has to be from 1 to 64", SQUARE, None, None, 0),
+        ("passes is 4, and has to be from 0 to 3", SQUARE, None, None, None, 4),
         ("a channel of the licence is -1", SQUARE, None, [0, -1]),
-        ("the licence has 1", SQUARE, None, [36]),
+        ("of the licence is 2049", SQUARE, None, range(2049)),
         ("names a channel twice", SQUARE, None, [36, 36]),
         ("'Prag' is no node", SQUARE, {"Prag": {1}}),
     ),
@@ -61,6 +85,19 @@ REFUSED = {
         ("the channel of 'Ulm' is 0", SQUARE, {"Ulm": 0}),
         ("the plan has 'Prag'", SQUARE, {"Prag": 1}),
         ("isn't in the licence", SQUARE, {"Ulm": 1}, None, [7, 8, 9]),
+    ),
+    (forestplan.sites, TypeError): (
+        ("a row is 'site'", ["site"], 1),
+        ("reach is '1'", SITES, "1"),
+        ("reach is True", SITES, True),
+    ),
+    (forestplan.sites, ValueError): (
+        ("a row has no 'name'", SITES, 1, "name"),
+        ("a second site 'Ulm'", [*SITES, SITES[0]], 1),
+        ("'Ulm': no number", [{**SITES[0], "lat": "north"}], 1),
+        ("the sites: no site has a place", [{"site": "Ulm"}], 1),
+        ("reach is 0.0, and has to be", SITES, 0),
+        ("reach is nan", SITES, float("nan")),
     ),
 }
 
@@ -76,6 +113,22 @@ class Graph:
 
     def edges(self):
         return [(*pair, {}) for pair in self.pairs]
+
+
+def channels_of(network, passes):
+    """The channels of the vertices by the definition."""
+    if not passes:
+        return [c + 1 for _, c in sorted(colours(network).items())]
+    rounds = ProgramRounds(network, program_at("recolouring", passes=passes))
+    return [rounds.nodes[v].present() + 1 for v in network.vertices]
+
+
+def is_proper(graph, plan):
+    return all(plan[node] != plan[other] for node in graph for other in graph[node])
+
+
+def facts_of(network):
+    return network.names, network.edges, network.said, network.places
 
 
 def neighbours_of(nodes, pairs):
@@ -100,14 +153,14 @@ class InPython(Case):
             pairs = [pair for pair in product(nodes, nodes) if source.random() < 0.3]
             bars = {node: {source.randint(1, 3)} for node in nodes if source.random() < 0.3}
             graph = Graph(nodes, pairs) if count % 2 else neighbours_of(nodes, pairs)
-            got = forestplan.plan(graph, bars=bars, workers=2 if count % 4 == 0 else None)
+            workers, passes = 2 if count % 4 == 0 else None, count % 3
+            got = forestplan.plan(graph, bars, workers=workers, passes=passes)
             text, order = forestplan.text_of(graph, bars)
+            network = network_of(text.encode())
             self.same(f"order of plan {count}", order, nodes)
-            channels = [c + 1 for _, c in sorted(colours(network_of(text.encode())).items())]
+            channels = channels_of(network, passes)
             self.same(f"plan {count}", list(got.items()), list(zip(nodes, channels)))
-            edges = {
-                frozenset((order[v - 1], order[w - 1])) for v, w in network_of(text.encode()).edges
-            }
+            edges = {frozenset((order[v - 1], order[w - 1])) for v, w in network.edges}
             meant = {frozenset(pair) for pair in pairs if pair[0] != pair[1]}
             self.same(f"edges {count}", edges, meant)
             self.note(f"check {count}", forestplan.check(graph, got, bars=bars) == max(channels))
@@ -115,10 +168,48 @@ class InPython(Case):
     def test_licence(self):
         triangle = forestplan.plan({"Ulm": ["Aue", "Hof"], "Aue": ["Hof"], "Hof": []})
         self.note("a triangle, by hand", triangle == {"Ulm": 2, "Aue": 3, "Hof": 1}, triangle)
-        got = forestplan.plan(SQUARE, bars={"Ulm": {36, 99}}, licence=[36, 40, 44, 48])
-        self.note("real channels", set(got.values()) <= {36, 40, 44, 48} and got["Ulm"] != 36, got)
-        most = forestplan.check(SQUARE, got, {"Ulm": {36}}, [36, 40, 44, 48])
+        real = [36, 40, 44, 48]
+        got = forestplan.plan(SQUARE, bars={"Ulm": {36, 99}}, licence=real)
+        self.note("real channels", set(got.values()) <= {*real} and got["Ulm"] != 36, got)
+        most = forestplan.check(SQUARE, got, {"Ulm": {36}}, real)
         self.note("they are judged", most <= 4, most)
+        barred, counted = {"Ulm": {40}, "Hof": {99}}, {"Ulm": {2}}
+        self.same(
+            "rounds", forestplan.rounds(SQUARE, barred, real), forestplan.rounds(SQUARE, counted)
+        )
+        self.same(
+            "a transcript",
+            forestplan.transcript(SQUARE, barred, 1, real),
+            forestplan.transcript(SQUARE, counted, 1),
+        )
+        why = self.refused(forestplan.Refused, lambda: forestplan.plan(SQUARE, licence=[36]))
+        self.same("a plan that was found", why.plan, forestplan.plan(SQUARE))
+        lacking = [node for node, channel in why.plan.items() if channel > 1]
+        self.same("who has no channel", (why.code, why.nodes), ("licence", lacking))
+
+    def test_sites(self):
+        """The graph of a table is the one that forestlab reads of it, in which nodes are called as in Python."""
+        columns, text = ("site", "lat", "lon", "identifier"), io.StringIO()
+        rows = [*SITES, {**SITES[0], "site": "Bonn", "identifier": 77, "lon": "10.01"}]
+        got = forestplan.sites(iter(rows), 2)
+        self.same(
+            "who is near",
+            got,
+            {"Ulm": [7, "Bonn"], 7: ["Ulm", "Bonn"], "Hof": [], "Aue": [], "Bonn": ["Ulm", 7]},
+        )
+        writer = csv.DictWriter(text, columns, extrasaction="ignore")
+        writer.writeheader()
+        writer.writerows({**row, "lat": ""} if row["lon"] is None else row for row in rows)
+        read = forestlab(
+            "network", "read", "--sites", "-", "--reach", 2, data=text.getvalue().encode()
+        )
+        network, wanted = (
+            network_of(data) for data in (forestplan.text_of(got)[0].encode(), read[1])
+        )
+        self.same("its network", facts_of(network), facts_of(wanted))
+        self.note(
+            "what isn't read is said", "columns that aren't read: height" in got.notes, got.notes
+        )
 
     def test_kinds(self):
         """What is no graph, no list and no whole number is refused, and says where it is; it isn't taken letter by
@@ -139,10 +230,29 @@ class InPython(Case):
         ):
             why = self.refused(forestplan.Refused, call)
             self.same(f"{code}: its code and nodes", (why.code, why.nodes), (code, nodes))
-        why = self.refused(forestplan.Refused, lambda: forestplan.check(SQUARE, plan))
-        self.note(
-            "its words", "and have the same channel" in why.words and "(Ulm, Aue)" in str(why), why
-        )
+            words = f"{' and '.join(map(repr, nodes))} "
+            self.note(f"{code}: its words", words in str(why), why)
+            for same in (pickle.loads(pickle.dumps(why)), copy.copy(why)):
+                self.same(f"{code}: copied", (str(same), vars(same)), (str(why), vars(why)))
+
+    def test_pool(self):
+        """A thousand graphs in four processes, of which each tenth is refused: nothing is lost."""
+        source = random.Random(7)
+        graphs = [
+            {v: [w for w in range(v) if source.random() < 0.4] for v in range(source.randint(1, 9))}
+            for _ in range(1000)
+        ]
+        licences = [[] if at % 10 == 0 else None for at in range(1000)]
+        with ProcessPoolExecutor(4) as pool:
+            found = [
+                pool.submit(forestplan.plan, graph, licence=licence)
+                for graph, licence in zip(graphs, licences)
+            ]
+        for at, (graph, licence, done) in enumerate(zip(graphs, licences, found)):
+            why = done.exception()
+            plan = why.plan if why else done.result()
+            if (why is None) != (licence is None) or not is_proper(graph, plan):
+                self.note(f"graph {at}", False, (graph, why, plan))
 
     def test_rounds(self):
         """Its pulses, states and messages, put together again node by node, are the rounds by the definition."""
@@ -185,14 +295,27 @@ class InPython(Case):
                 picture.tag.endswith("svg") and len(picture) > 3,
             )
 
-    def test_networkx(self):
-        """A graph of networkx, if that is installed, with loops and edges in both directions; the notebook has more."""
-        need(self, "networkx")
-        import networkx
+    def test_colours(self):
+        """The colours are those of the pictures, of real channels, too."""
+        star = {0: range(1, 10), **dict.fromkeys(range(1, 10), ())}
+        plan = forestplan.plan(star, licence=[40, 36])
+        hues = {40: CHANNEL_HUES[0], 36: CHANNEL_HUES[1]}
+        self.same("by node", plan.colours(), {node: hues[plan[node]] for node in star})
+        self.note("the picture says them", "1 is 40, 2 is 36" in plan._repr_svg_(), plan.title)
+        need(self, "matplotlib")
+        made = forestplan.colour_map(9)
+        self.same("a colour map", made.colors, [*CHANNEL_HUES, CHANNEL_HUES[0]])
 
-        graph = networkx.MultiDiGraph([(1, 2), (2, 1), (2, 2), (2, 3)])
-        got = forestplan.plan(graph)
-        self.note("proper", got[1] != got[2] != got[3] and set(got) == {1, 2, 3}, got)
+    def test_surface(self):
+        """What is public is documented; the examples of its texts are right, and its hints are there to be used."""
+        self.same("its version", forestplan.__version__, version.NUMBER)
+        self.note("it has hints", os.path.isfile(os.path.join(PACKAGE, "py.typed")))
+        self.same("dir", dir(forestplan), sorted(forestplan.__all__))
+        for name in forestplan.__all__:
+            self.note(name, getattr(forestplan, name).__doc__)
+        for module in (forestplan, sys.modules["forestplan._sites"]):
+            done = doctest.testmod(module)
+            self.note(f"examples of {module}", not done.failed and done.attempted, done)
 
     def test_notebook(self):
         """Each cell of the notebook writes what is stored below it; those with networkx only if that is installed."""

@@ -246,36 +246,43 @@ class Install(Case):
             self.same(f"{name}: no room", got, (4, b"", b"%s: stream\n" % name.encode()))
 
     def test_python(self):
-        """`pip install` of the folder has Python import the module, which finds its programs by itself."""
-        room = os.path.join(self.folder, "python")
-        if (
-            run([sys.executable, "-m", "pip", "--version"])[0]
-            or run([sys.executable, "-m", "venv", "--without-pip", room])[0]
-        ):
-            return
-        python = os.path.join(room, "bin", "python")
-        got = run(
-            [
-                sys.executable,
-                "-m",
-                "pip",
-                "--python",
-                python,
-                "install",
-                "-q",
-                "--no-index",
-                "--disable-pip-version-check",
-                self.target,
-            ]
-        )
-        self.note("pip install", got[0] == 0, got)
+        """`pip install` of the folder has Python import the package, which finds its programs by itself, and puts the
+        commands on the PATH."""
+        for way in ("an environment", "a folder", "one user", "all users"):
+            with self.subTest(way):
+                self.installed_by_pip(way, os.path.join(self.folder, way))
+
+    def installed_by_pip(self, way, room):
+        """A way to call pip, in which what it installs comes into a room."""
+        system, inside = ["/usr/bin/python3"], f"{room}/bin/python"
+        alone = ["bwrap", "--dev-bind", "/", "/", "--bind", room, "/usr/local", *system]
+        python, words, settings = {
+            "an environment": ([inside], [], {}),
+            "a folder": ([sys.executable], ["--target", room], {"PYTHONPATH": room}),
+            "one user": (system, ["--user"], {"PYTHONUSERBASE": room}),
+            "all users": (alone, [], {}),
+        }[way]
+        os.mkdir(room)
+        if inside in python:
+            run([sys.executable, "-m", "venv", "--without-pip", "--system-site-packages", room])
+        need(self, python[0])
+        pip = [*python, "-m", "pip"]
+        if run([*pip, "--version"])[0]:
+            self.skipTest(f"pip of {python[-1]} isn't installed")
+        of_pip = ("PIP_NO_INDEX", "PIP_NO_COMPILE", "PIP_BREAK_SYSTEM_PACKAGES")
+        env = ENVIRONMENT | settings | dict.fromkeys(of_pip, "1")
+        got = run([*pip, "install", *words, self.target], env=env)
+        self.assertEqual(got[0], 0, got)
         code = (
-            "import forestplan; plan = forestplan.plan({1: [2, 3], 2: [3], 3: []}); "
-            "print(forestplan.home(), dict(plan), '<svg' in plan._repr_svg_())"
+            "import importlib.metadata as it, forestplan; plan = forestplan.plan({1: [2], 2: []}); "
+            "print(dict(plan), '<svg' in plan._repr_svg_(), *it.metadata('forestplan').get_all('License-File'))"
         )
-        got = run([python, "-c", code], cwd=self.elsewhere)
-        wanted = f"{room}/share/forestplan {{1: 2, 2: 3, 3: 1}} True\n"
-        self.same("a plan in Python", got, (0, wanted.encode(), b""))
+        got = run([*python, "-c", code], cwd=self.elsewhere, env=env)
+        wanted = b"{1: 1, 2: 2} True LICENSE-APACHE LICENSE-MIT\n"
+        self.assertEqual(got, (0, wanted, b""))
+        command = [*python[:-1], os.path.join(room, "bin", "forestplan"), "plain"]
+        got = run(command, b"p edge 1 0\n", cwd=self.elsewhere, env=env)
+        self.assertEqual(got, (0, b"plan\n1 1\n", b""))
 
     def test_unbuilt(self):
         """From a tree that isn't built from its sources, without the toolchain, nothing is installed."""

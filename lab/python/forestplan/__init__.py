@@ -1,0 +1,284 @@
+"""Channel plans of interference graphs in Python, by the proved programs of forestplan.
+
+    plan = forestplan.plan(G)                                     # a dict {node: channel}; in a notebook its picture
+    forestplan.plan(G, bars={"Hof": {6}}, licence=[1, 6, 11])     # channels of the licence, and none that is barred
+    forestplan.plan(G, passes=3)                                  # chosen anew three times, mostly fewer channels
+    forestplan.check(G, {"Ulm": 1, "Hof": 2})                     # has anybody's plan judged: its greatest channel
+    forestplan.sites(rows, reach=5.5)                             # the graph of sites that are near each other
+
+G is a graph of networkx; or a dict with a list or a set of the neighbours of each node, in which each neighbour comes
+once and is a key, too. Nodes are anything that can be a key; directions, weights and edges from a node to itself don't
+count. Only the text that is written here, and what is read of the answer, is not proved.
+
+What is no graph, no list or no whole number raises TypeError, and what is out of its bounds ValueError; what a program
+refuses raises `Refused`, a ValueError, too. If a program isn't built, FileNotFoundError is raised."""
+import tempfile
+from collections.abc import Iterable, Mapping, Sequence
+from typing import Any, NamedTuple
+
+from forestplan._graphs import MAX_PASSES, MAX_WORKERS, Bars, Licence, Node, Sites, text_of, whole
+from forestplan._programs import called, home, lab_called, of_lab, program_at
+from forestplan._sites import sites
+
+__version__ = "0.6.0"
+__all__ = [
+    "Entry",
+    "Message",
+    "Plan",
+    "Pulse",
+    "Refused",
+    "Rounds",
+    "Sites",
+    "Transcript",
+    "check",
+    "colour_map",
+    "home",
+    "plan",
+    "rounds",
+    "sites",
+    "text_of",
+    "transcript",
+]
+
+
+def __dir__() -> list[str]:
+    return __all__
+
+
+class Message(NamedTuple):
+    """What `sender` says to `receiver` in a pulse: a `word`, as hello, and its `value`."""
+
+    sender: Node
+    receiver: Node
+    word: str
+    value: int
+
+
+class Pulse(NamedTuple):
+    """A round: its number, the name of its phase, its messages, and `states`, (node, words) of what a node came to."""
+
+    number: int
+    phase: str
+    messages: list[Message]
+    states: list[tuple[Node, str]]
+
+
+class Entry(NamedTuple):
+    """An event of a run: `kind` is pulse, put or take; `wire` has the words of what was put or taken, and `other` is
+    the neighbour, or for a pulse its number."""
+
+    stamp: int
+    node: Node
+    kind: str
+    other: Node
+    wire: str
+
+
+class Refused(ValueError):
+    """What a program refuses, in words: what it means and what to do. `code` is the fault's, as C4, and `nodes` are
+    those that it names. If a plan takes more channels than the licence has, `code` is licence, `nodes` are those whose
+    channel it lacks, and `plan` is the plan that was found, with channels from 1."""
+
+    def __init__(
+        self, words: str, code: str = "", nodes: Iterable[Node] = (), plan: "Plan | None" = None
+    ):
+        super().__init__(words)
+        self.words, self.code, self.nodes, self.plan = words, code, list(nodes), plan
+
+
+class _Answer:
+    """What a program wrote (`text`) of what it read (`network`), in which nodes have numbers and channels count from 1.
+    A notebook shows its picture, of a `kind`, with an `option` for the text."""
+
+    network = option = kind = ""
+    text: Any = ""
+    title: Any = "graph"
+
+    def _repr_svg_(self) -> str | None:
+        with tempfile.NamedTemporaryFile("w", suffix=".txt") as file:
+            file.write(self.text)
+            file.flush()
+            words = [self.option, file.name] if self.option else []
+            words = ["picture", self.kind, "-", *words, "--title", self.title]
+            return lab_called(words, self.network)[1] or None
+
+
+class Plan(_Answer, dict[Node, int]):
+    """{node: channel}, in the order of the graph."""
+
+    option, kind = "--plan", "plan"
+    licence = Licence(None)
+    order: list[Node] = []
+
+    @property
+    def text(self) -> str:
+        rows = [
+            f"{v} {self.licence.needed(node, self[node])}\n" for v, node in enumerate(self.order, 1)
+        ]
+        return "plan\n" + "".join(rows)
+
+    @property
+    def title(self) -> str:
+        used = sorted(
+            {(self.licence.needed(node, channel), channel) for node, channel in self.items()}
+        )
+        return "graph" + "".join(f", {k} is {real}" for k, real in used if k != real)
+
+    def colours(self) -> dict[Node, str]:
+        """{node: "#0072B2"}: the colours of the channels, the same as in all pictures here, as for
+        `networkx.draw(G, nodelist=list(plan), node_color=list(plan.colours().values()), labels=plan)`. Channels 9 to 16
+        have those of 1 to 8, and so on: draw the channels, too."""
+        hue = of_lab("pictures", "palette").channel_hue
+        return {node: hue(self.licence.needed(node, channel)) for node, channel in self.items()}
+
+
+class Rounds(_Answer, list[Pulse]):
+    """The pulses from 0 on. Colours count from 0: they are the indices of the licence's channels."""
+
+    kind = "rounds"
+
+
+class Transcript(_Answer, list[Entry]):
+    """The events of a run, in an order in which they were possible."""
+
+    option, kind = "--transcript", "run"
+
+
+def plan(
+    G: Any,
+    bars: Bars | None = None,
+    licence: Sequence[int] | None = None,
+    workers: int | None = None,
+    passes: int = 0,
+) -> Plan:
+    """A plan, in which neighbours have different channels.
+
+    `bars` is a dict with the channels barred at a node, and `licence` has the channels that all may use, in order of
+    preference; without it channels count from 1. In each of so many `passes` the nodes choose their channels anew,
+    which mostly takes fewer channels, and without bars never more. With `workers`, 1 to 64, it is found by that many
+    threads without a clock, else on one thread, much sooner: the plan is the same.
+
+    >>> plan({"Ulm": ["Aue", "Hof"], "Aue": ["Hof"], "Hof": []}, licence=[36, 40, 44])
+    {'Ulm': 40, 'Aue': 44, 'Hof': 36}
+
+    Raises `Refused` if it takes more channels than the licence has, or if a node has more than 1,023 neighbours.
+    """
+    more = [] if workers is None else ["--workers", str(whole(workers, "workers", 1, MAX_WORKERS))]
+    command = ["forestplan", "plan" if more else "plain"]
+    if many := whole(passes, "passes", 0, MAX_PASSES):
+        command = ["forestplay", "run" if more else "alone"]
+        more += ["--program", "recolouring", "--passes", str(many)]
+    found = Plan()
+    found.network, found.order, text = _asked([*command, *more], G, bars, licence)
+    lines = text.removeprefix("plan\n").splitlines()
+    number = {node: int(line.split()[-1]) for node, line in zip(found.order, lines, strict=True)}
+    allowed, most = Licence(licence), max(number.values(), default=0)
+    found.update((node, number[node]) for node in dict.fromkeys([*G, *found.order]))
+    if licence is not None and most > len(licence):
+        words = f"the plan takes {most} channels, and the licence has {len(licence)}"
+        raise Refused(
+            words, "licence", (node for node in found if found[node] > len(licence)), found
+        )
+    found.licence = allowed
+    found.update((node, allowed.real(k)) for node, k in found.items())
+    return found
+
+
+def check(
+    G: Any, plan: Mapping, bars: Bars | None = None, licence: Sequence[int] | None = None
+) -> int:
+    """Has a plan judged, whoever made it: returns how many channels it takes, counted from 1 to the greatest.
+
+    >>> check({"Ulm": ["Aue"], "Aue": []}, {"Ulm": 2, "Aue": 1})
+    2
+
+    Raises `Refused` if the plan isn't proper, lacks a node, has a barred channel, or one that is greater than the most
+    neighbours and the most bars of a node together and one more."""
+    network, order = text_of(G, bars, licence)
+    if not isinstance(plan, Mapping):
+        raise TypeError(
+            f"a {type(plan).__name__} is no plan: a dict with the channel of each node is wanted"
+        )
+    number, allowed = {node: v for v, node in enumerate(order, 1)}, Licence(licence)
+    for node in plan:
+        if node not in number:
+            raise ValueError(f"the plan has {node!r}, which is no node of the graph")
+    rows = [f"{number[node]} {allowed.needed(node, channel)}\n" for node, channel in plan.items()]
+    return int(
+        _called(["forestplan", "check"], f"{network}plan\n{''.join(rows)}", order).split()[1]
+    )
+
+
+def rounds(G: Any, bars: Bars | None = None, licence: Sequence[int] | None = None) -> Rounds:
+    """The rounds of the algorithm, all nodes at once, a `Pulse` each. Of a large graph they are a long list.
+
+    >>> [pulse.phase for pulse in rounds({"Ulm": []})][:2]
+    ['greet', 'orient']
+    """
+    found = Rounds()
+    found.network, order, found.text = _asked(["forestplay", "rounds"], G, bars, licence)
+    for line in found.text.splitlines()[1:]:
+        fields = line.split()
+        if fields[0] == "pulse":
+            found.append(Pulse(int(fields[1]), " ".join(fields[2:]), [], []))
+        elif fields[1] == "put":
+            sender, receiver = order[int(fields[0]) - 1], order[int(fields[2]) - 1]
+            found[-1].messages.append(Message(sender, receiver, fields[5], int(fields[6])))
+        else:
+            found[-1].states.append((order[int(fields[0]) - 1], " ".join(fields[1:])))
+    return found
+
+
+def transcript(
+    G: Any, bars: Bars | None = None, workers: int = 2, licence: Sequence[int] | None = None
+) -> Transcript:
+    """A run without a clock, by worker threads: all events, an `Entry` each, in an order in which they were possible.
+    Two calls differ, as runs do, unless there is one worker.
+
+    >>> transcript({"Ulm": ["Aue"], "Aue": []}, workers=1)[0]
+    Entry(stamp=1, node='Ulm', kind='put', other='Aue', wire='payload 0 hello 1')
+    """
+    words = ["transcript", "--workers", str(whole(workers, "workers", 1, MAX_WORKERS))]
+    found = Transcript()
+    found.network, order, found.text = _asked(["forestplan", *words], G, bars, licence)
+    for line in found.text.splitlines()[1:]:
+        stamp, v, kind, other, *wire = line.split()
+        beside = order[int(other) - 1] if kind != "pulse" else int(other)
+        found.append(Entry(int(stamp), order[int(v) - 1], kind, beside, " ".join(wire)))
+    return found
+
+
+def colour_map(channels: int = 8) -> Any:
+    """A ListedColormap of matplotlib with the colours of channels 1 to `channels`, as `Plan.colours` has them.
+
+    Raises ImportError if matplotlib isn't installed."""
+    from matplotlib.colors import ListedColormap
+
+    hue = of_lab("pictures", "palette").channel_hue
+    return ListedColormap([hue(channel + 1) for channel in range(channels)], "forestplan")
+
+
+def _asked(
+    words: list[str], G: Any, bars: Bars | None, licence: Sequence[int] | None
+) -> tuple[str, list[Node], str]:
+    """A graph as the programs read it, its nodes in the order of their numbers, and what a program writes of it."""
+    network, order = text_of(G, bars, licence)
+    return network, order, _called(words, network, order)
+
+
+def _called(words: list[str], text: str, order: list[Node]) -> str:
+    """What a program writes of a text in which nodes have numbers of this order."""
+    status, out, said = called([program_at(words[0]), *words[1:]], text)
+    if not status:
+        return out
+    fault, codes = said.partition(": ")[2], of_lab("networks", "codes")
+    told = codes.code_of(fault)
+    if told is None:
+        raise RuntimeError(f"{words[0]} has ended with status {status}: {said}")
+    what, *numbers = fault.split()[1:] or [""]
+    nodes = [order[int(number) - 1] for number in numbers] if what.startswith("vert") else []
+    meant = "\n".join(codes.tell_code(told))
+    if nodes:
+        named = " and ".join(map(repr, nodes))
+        meant = meant.replace(f"{what} {' and '.join(numbers)}", named)
+    raise Refused(meant, told.name, nodes)

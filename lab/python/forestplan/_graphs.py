@@ -1,0 +1,160 @@
+"""A graph of Python, with bars and a licence, as the text that the programs read. What is given is looked at here."""
+import numbers
+from collections.abc import Hashable, Iterable, Mapping, Sequence
+from typing import Any
+
+Node = Hashable
+Bars = Mapping[Any, Iterable[int]]
+
+# The programs' limits.
+MAX_NODES = 20000
+MAX_EDGES = 400000
+MAX_CHANNEL = 2048
+MAX_BARS = 1024
+MAX_WORKERS = 64
+MAX_PASSES = 3
+# No channel of a licence has a greater number.
+MAX_REAL = 10**12
+
+
+def whole(value: Any, what: str, least: int, most: int) -> int:
+    """A whole number in these bounds; a truth value is none."""
+    if isinstance(value, bool) or not isinstance(value, numbers.Integral):
+        raise TypeError(f"{what} is {value!r}, and has to be a whole number")
+    check_most(int(value), what, least, most)
+    return int(value)
+
+
+def check_most(value: float, what: str, least: float, most: float) -> None:
+    if not least <= value <= most:
+        raise ValueError(f"{what} is {value}, and has to be from {least:,} to {most:,}")
+
+
+class Licence:
+    """The channels that all may use, in order of preference. Channel k of a program is the k-th of them; without a
+    licence it is k itself."""
+
+    def __init__(self, channels: Sequence[int] | None):
+        self.channels = channels
+        if channels is None:
+            return
+        if isinstance(channels, (str, bytes)) or not isinstance(channels, Sequence):
+            raise TypeError(
+                f"the licence is {channels!r}, and has to be a list of whole numbers, in order of preference"
+            )
+        self.channels = [whole(one, "a channel of the licence", 0, MAX_REAL) for one in channels]
+        check_most(len(channels), "the number of channels of the licence", 0, MAX_CHANNEL)
+        self.counted = {channel: k for k, channel in enumerate(self.channels, 1)}
+        if len(self.counted) < len(channels):
+            raise ValueError("the licence names a channel twice")
+
+    def number(self, channel: Any, what: str) -> int | None:
+        """Which channel of a program it is; None if the licence lacks it."""
+        if self.channels is None:
+            return whole(channel, what, 1, MAX_CHANNEL)
+        return self.counted.get(whole(channel, what, 0, MAX_REAL))
+
+    def needed(self, node: Node, channel: Any) -> int:
+        """The same of the channel of a node, which the licence has to have."""
+        found = self.number(channel, f"the channel of {node!r}")
+        if found is None:
+            raise ValueError(f"{node!r} has channel {channel!r}, which isn't in the licence")
+        return found
+
+    def real(self, k: int) -> int:
+        """Channel k of a program."""
+        return k if self.channels is None else self.channels[k - 1]
+
+
+class Sites(dict[Node, list[Node]]):
+    """{site: [the sites within its reach]}, as `sites` makes it: a graph that all functions take. `places` has the
+    place of a site on a map in kilometres, (x, y) with y growing downwards; `identifiers` has those of sites that have
+    one; and `notes` says how the rows were read, and what of them wasn't."""
+
+    def __init__(self, rows: Iterable[Node]):
+        super().__init__((node, []) for node in rows)
+        self.notes: list[str] = []
+        self.places: dict[Node, tuple[float, float]] = {}
+        self.identifiers: dict[Node, int] = {}
+
+
+def text_of(
+    G: Any, bars: Bars | None = None, licence: Sequence[int] | None = None
+) -> tuple[str, list[Node]]:
+    """The graph as the programs read it, and its nodes in the order of their numbers. Raises TypeError and ValueError,
+    as `plan` does."""
+    pairs = pairs_of(G)
+    order = list(dict.fromkeys([*G, *(node for pair in pairs for node in pair)]))
+    number = {node: v for v, node in enumerate(order, 1)}
+    barred = barred_in(bars, number, Licence(licence))
+    ends = [sorted((number[one], number[other])) for one, other in pairs]
+    edges = sorted({(v, w) for v, w in ends if v != w})
+    check_most(len(order), "the number of nodes", 0, MAX_NODES)
+    check_most(len(edges), "the number of edges", 0, MAX_EDGES)
+    lines = [f"c name {v} {' '.join(str(node).split())}" for node, v in number.items()]
+    lines.append(f"p edge {len(order)} {len(edges)}")
+    if isinstance(G, Sites):
+        lines += lines_of_sites(G, number)
+    lines += [f"b {v} {channel}" for v, channel in barred]
+    lines += [f"e {v} {w}" for v, w in edges]
+    return "\n".join(lines) + "\n", order
+
+
+def lines_of_sites(G: Sites, number: dict[Node, int]) -> list[str]:
+    """The places and identifiers of sites."""
+    lines = [f"c at {number[node]} {x} {y}" for node, (x, y) in G.places.items()]
+    return lines + [f"i {number[node]} {own}" for node, own in G.identifiers.items()]
+
+
+def barred_in(
+    bars: Bars | None, number: dict[Node, int], licence: Licence
+) -> list[tuple[int, int]]:
+    """The numbers of nodes and of the channels that are barred at them, ascending."""
+    if not isinstance(bars, Mapping | None):
+        raise TypeError(
+            f"bars are {bars!r}, and have to be a dict with the channels barred at a node"
+        )
+    found = []
+    for node, several in (bars or {}).items():
+        if node not in number:
+            raise ValueError(f"{node!r} is no node of the graph")
+        numbers = {
+            licence.number(channel, f"a bar of {node!r}")
+            for channel in items(several, f"bars of {node!r}")
+        }
+        # A bar of a channel that the licence lacks bars nothing.
+        own = [channel for channel in numbers if channel is not None]
+        check_most(len(own), f"the number of bars of {node!r}", 0, MAX_BARS)
+        found += [(number[node], channel) for channel in own]
+    return sorted(found)
+
+
+def pairs_of(G: Any) -> list[tuple[Node, Node]]:
+    """The edges of a graph of networkx, or of a dict of lists."""
+    if callable(getattr(G, "edges", None)):
+        return [(one, other) for one, other, *_ in G.edges()]
+    if not isinstance(G, Mapping):
+        raise TypeError(
+            f"a {type(G).__name__} is no graph: a graph of networkx is wanted, which has functions that make one "
+            "of pairs, tables and matrices, or a dict with a list of the neighbours of each node"
+        )
+    return [(one, other) for one, several in G.items() for other in neighbours_in(G, one, several)]
+
+
+def neighbours_in(G: Mapping, one: Node, several: Any) -> list[Node]:
+    """The neighbours of a node of a dict: each once, and each with an entry of its own."""
+    found = list(items(several, f"neighbours of {one!r}"))
+    for other in found:
+        if other not in G:
+            raise ValueError(f"a neighbour of {one!r} is {other!r}, which has no entry of its own")
+    if len(set(found)) < len(found):
+        raise ValueError(f"a neighbour of {one!r} comes twice")
+    return found
+
+
+def items(several: Any, what: str) -> Iterable:
+    """What is in a list or a set; a text isn't taken letter by letter."""
+    is_other = isinstance(several, (str, bytes, Mapping))
+    if is_other or not isinstance(several, Iterable):
+        raise TypeError(f"the {what} are {several!r}, and have to be a list or a set")
+    return several
