@@ -56,7 +56,12 @@ in the order of this list, or those whose numbers --columns has. Nodes of a form
 are named by their label, if each has one of its own, or by their name, or by their id.
 
 With a table of sites the nodes are its sites, in its order, and each end of a pair has to
-be one of them.""",
+be one of them.
+
+A network of 1,000 nodes or more is numbered anew by breadth first search, from a node with
+the fewest neighbours, so that a run takes less time. Lines `i V NUMBER` keep identifiers:
+each node has the same channel. What the programs write has the new numbers, and `names`
+puts names in their place. --keep-order leaves the numbers, for plans that have them.""",
         "forestlab network read pairs.csv --sites sites.csv > sites.col\n"
         "  forestlab network read --sites sites.csv --reach 5.5 --bars bars.csv > sites.col",
     ),
@@ -65,8 +70,9 @@ be one of them.""",
         "Numbers the nodes of a network anew, by chance.",
         """\
 A node keeps its name; one without a name gets its old number as name. Identifiers and
-barred channels of lines `i` and `b` go with their nodes.
-The forests depend on the numbers, and so does the plan.""",
+barred channels of lines `i` and `b` go with their nodes. The forests depend on the
+identifiers, and so does the plan. Of 1,000 nodes or more these are the numbers by chance,
+and the nodes are numbered once more, as by `read`; --keep-order leaves that out.""",
         "forestlab network number examples/petersen.col --seed 2 | forestplan forests",
     ),
     "tell": (
@@ -122,6 +128,12 @@ def add_options(command: ArgumentParser, name: str) -> None:
         command.add_argument("--forests", type=int, metavar="U", help="there are U forests")
     if name == "read":
         add_tables(command)
+    if name in ("read", "number"):
+        command.add_argument(
+            "--keep-order",
+            action="store_true",
+            help="leave the numbers of a large network as they are",
+        )
 
 
 def add_tables(command: ArgumentParser) -> None:

@@ -2,8 +2,10 @@
 puts names back on a plan. Nothing of it is proved: what is claimed of a plan begins at the bytes of the network's
 text."""
 from argparse import Namespace
+from collections.abc import Iterable
 import sys
 
+from lab.network import Network
 from lab.networks import tables
 from lab.networks.channels import channels_asked
 from lab.networks.codes import code_of, tell_code
@@ -13,7 +15,7 @@ from lab.networks.kinds import KINDS
 from lab.networks.listed import Listed
 from lab.networks.named import network_at, network_bytes, path_of
 from lab.networks.network_text import reading_of
-from lab.networks.numbering import renumbered
+from lab.networks.numbering import near_each_other, renumbered
 from lab.networks.options import commands_for, stated_by
 from lab.networks.plan_text import rows_of
 from lab.networks.reading import form_read, listed_of, made_of
@@ -25,6 +27,8 @@ from lab.wrong import Wrong
 
 # Kilometres: less than that no two sites are apart, and numbers of places have no such digits.
 LEAST_REACH = 1e-6
+# What is said of a large network.
+NEAR = "numbered anew by breadth first search; nodes keep their identifiers, and so their channels"
 
 
 def say(what: str) -> None:
@@ -70,7 +74,16 @@ def was_read(given: Namespace) -> str:
     for note in notes:
         say(f"{name}: {note}")
     head = [f"Channel {channel} is {real}" for channel, real in enumerate(licence or (), 1)]
-    return text_of(network, head)
+    return numbered_text(given, network, head)
+
+
+def numbered_text(given: Namespace, network: Network, head: Iterable[str] = ()) -> str:
+    """The text of a network; the nodes of a large one are numbered near each other, unless their order is kept."""
+    near = network if given.keep_order else near_each_other(network)
+    if near is network:
+        return text_of(network, head)
+    say(f"{NEAR} (--keep-order leaves the numbers)")
+    return text_of(near, [*head, NEAR.capitalize()])
 
 
 def refuse_words(given: Namespace) -> None:
@@ -122,7 +135,7 @@ def was_told(given: Namespace) -> str:
 
 
 def was_numbered(given: Namespace) -> str:
-    return text_of(renumbered(network_at(given.file), source_of(given.seed)))
+    return numbered_text(given, renumbered(network_at(given.file), source_of(given.seed)))
 
 
 def was_named(given: Namespace) -> str:

@@ -1,28 +1,39 @@
-"""`forestlab network number`: the same network with other numbers. A node keeps its name, or is named by its old
-number; it keeps the identifier that a line gives it, and its barred channels."""
+"""The same network with other numbers: by chance, as `forestlab network number` makes them, or near each other. A node
+keeps its name, or is named by its old number, and keeps its barred channels and its place."""
 import random
-from collections.abc import Mapping
+from collections.abc import Mapping, Sequence
+from dataclasses import replace
 from typing import Any
 
 from lab.network import Network
+from lab.networks.near import LARGE, near_order
 from lab.networks.network_text import checked
 from lab.networks.random_networks import shuffled
 
 
-def renumbered(network: Network, seed: str | int) -> Network:
-    """The vertices in an order by chance."""
-    order = shuffled(random.Random(seed), network.vertices)
+def in_order(network: Network, order: Sequence[int], said: Mapping[int, int]) -> Network:
+    """The network whose vertices are those of `order`, one after the other. `said` has their identifiers."""
     number = {old: new for new, old in enumerate(order, 1)}
-    kept: tuple[Mapping[int, Any], ...] = (network.said, network.bars, network.places)
+    kept: tuple[Mapping[int, Any], ...] = (said, network.bars, network.places)
     said, bars, places = ({number[v]: what for v, what in of.items() if v in number} for of in kept)
-    return checked(
-        Network(
-            network.nodes,
-            {(number[v], number[w]) for v, w in network.edges},
-            said,
-            bars,
-            {new: network.names.get(old, str(old)) for old, new in number.items()},
-            places,
-        ),
-        f"{network.name}, numbered anew",
+    return replace(
+        network,
+        edges={(number[v], number[w]) for v, w in network.edges},
+        said=said,
+        bars=bars,
+        names={new: network.names.get(old, str(old)) for old, new in number.items()},
+        places=places,
     )
+
+
+def renumbered(network: Network, seed: str | int) -> Network:
+    """The vertices in an order by chance. An identifier that a line gives stays; another one is the new number."""
+    order = shuffled(random.Random(seed), network.vertices)
+    return checked(in_order(network, order, network.said), f"{network.name}, numbered anew")
+
+
+def near_each_other(network: Network) -> Network:
+    """A large network whose neighbours have near numbers. Each node keeps its identifier, so the plan is the same."""
+    if network.nodes < LARGE:
+        return network
+    return in_order(network, near_order(network.neighbours), network.identifiers)

@@ -9,13 +9,15 @@ import os
 import random
 import re
 
+from lab.definitions.colours import colours
 from lab.definitions.nodes import last_pulse
 from lab.networks import network
 from lab.networks.describe import most_payloads
 from lab.networks.network_text import network_of
 from lab.words import duration
 from tests.cases import Case, called, example, forestlab, in_process
-from tests.programs.plain_networks import payloads_of, reached
+from tests.programs import plain_networks
+from tests.programs.plain_networks import payloads_of, reached, some_bars
 from tests.settings import PLAY
 
 
@@ -85,6 +87,29 @@ def by_names(text):
         )
         for v in net.vertices
     }
+
+
+def is_near(net):
+    """Whether the numbers are those of a breadth first search of each component, from a node with the fewest
+    neighbours there, and components come by how many these are."""
+    least = {v: min([v, *ws]) for v, ws in net.neighbours.items()}
+    firsts = [v for v in net.vertices if least[v] == v]
+    parents = [least[v] for v in net.vertices if least[v] < v]
+    degrees = [len(net.neighbours[v]) for v in net.vertices]
+    fewest = []
+    for first, after in itertools.pairwise([*firsts, net.nodes + 1]):
+        fewest.append(min(degrees[first - 1 : after - 1]))
+        if set(reached(net, first)) != set(range(first, after)) or degrees[first - 1] > fewest[-1]:
+            return False
+    return parents == sorted(parents) and fewest == sorted(fewest)
+
+
+def large_network(source, nodes):
+    """The text of a network in any order, with identifiers and bars, and with some nodes that no edge is at."""
+    edges = {tuple(sorted(source.sample(range(1, nodes), 2))) for _ in range(nodes)}
+    others = source.sample(range(nodes + 1, 2**60), nodes // 2)
+    names = dict(zip(source.sample(range(1, nodes + 1), nodes // 2), others))
+    return plain_networks.text_of(source, nodes, edges, names, some_bars(source, nodes))
 
 
 def numbers(text):
@@ -253,6 +278,33 @@ class OwnNetworks(Case):
         said = b"1 and 2 have one identifier"
         done = call("number", "-", data=b"p edge 2 0\ni 2 9\ni 1 9\n")
         self.refusal("number of a network with a fault", done, 1, said)
+
+    def test_near(self):
+        """A large network is numbered by breadth first search, where each node has the channel that it has in the
+        order that is kept; a smaller network is written as it is."""
+        many = large_network(random.Random(5), 1000)
+        made = {f"{words} -": many for words in ("read", "number --seed 2")}
+        made["read - --as dimacs"] = self.written("disk", 1100, "--radius", 0.03)
+        for words, data in made.items():
+            kept = self.written(*words.split(), "--keep-order", data=data)
+            near = self.written(*words.split(), data=data)
+            nets = network_of(kept), network_of(near)
+            self.note(f"{words}: neighbours are near", [*map(is_near, nets)] == [False, True])
+            found = []
+            for net, text in zip(nets, (kept, near)):
+                plan, own = colours(net), by_names(text)
+                found.append({})
+                for v in net.vertices:
+                    name = net.names.get(v, str(v))
+                    place, _, *others = own[name]
+                    found[-1][name] = (plan[v], net.identifiers[v], place, *others)
+            self.note(f"{words}: the same nodes and channels", found[0] == found[1])
+        small = large_network(random.Random(6), 999)
+        self.same(
+            "999 nodes",
+            network_of(self.written("read", "-", data=small)).said,
+            network_of(small).said,
+        )
 
     def test_names(self):
         network = self.written(
