@@ -23,7 +23,7 @@ from concurrent.futures import ThreadPoolExecutor
 
 from build import program
 from tests import TOP
-from tests.settings import MORE_HELP, PATHS, built
+from tests.settings import MORE_HELP, NAMED, PATHS
 from tests.tools import not_run
 
 # The modules that take longest, which begin first.
@@ -92,7 +92,7 @@ def what_is_missing(chosen):
     if not any(getattr(test, "needs_programs", True) for test in tests):
         return ""
     for name, path in PATHS.items():
-        if not os.access(path, os.X_OK) or path == built(name) and not program.is_built(name):
+        if not os.access(path, os.X_OK) or not NAMED[name] and not program.is_built(name):
             return (
                 f"{os.path.relpath(path)} isn't built from the sources as they are, and no test proves anything: "
                 f"./test builds it, and so does bin/{name}"

@@ -36,3 +36,5 @@ SECOND_PLAN = os.path.abspath(setting("second_plan", built("forestplan") + ".by-
 SECOND_PLAY = os.path.abspath(setting("second_play", built("forestplay") + ".by-rattle"))
 CRATE_TESTS = setting("crate_tests", f"{TOP}/crates/checks/out/checks_tests")
 PATHS = {"forestplan": PLAN, "forestplay": PLAY}
+# One that a variable names is tested as it is, from whatever sources it was built.
+NAMED = {"forestplan": "TESTS_PLAN" in os.environ, "forestplay": "TESTS_PLAY" in os.environ}
