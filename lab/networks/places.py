@@ -1,4 +1,5 @@
-"""Places of sites, on a plane in kilometres or on the globe, and which of them are near each other."""
+"""Places of sites, on a plane in kilometres or on the globe, and which of them are near each other. `import
+forestplan` loads this file alone, so it imports nothing of lab/."""
 import math
 from collections.abc import Collection, Iterator
 from itertools import product

@@ -2,7 +2,6 @@
 import ast
 import contextlib
 import copy
-import csv
 import doctest
 import functools
 import io
@@ -33,13 +32,8 @@ PACKAGE = os.path.dirname(forestplan.__file__)
 NOTEBOOK = os.path.join(TOP, "examples", "forestplan.ipynb")
 # Four nodes in a ring, one with an edge to itself and one in both directions.
 SQUARE = {"Ulm": ["Aue", "Bonn"], "Aue": ["Ulm", "Hof"], "Hof": [], "Bonn": ["Hof", "Bonn"]}
-# Three sites, of which the first two are 1.1 km apart, and one has no place; and what csv.DictReader makes of them.
-SITES = [
-    {"site": "Ulm", "lat": 48.4, "lon": 10, "height": 480},
-    {"site": 7, "lat": 48.41, "lon": 10.0, "height": None},
-    {"site": "Hof", "lat": 50.3, "lon": 11.9},
-    {"site": "Aue", "lat": float("nan"), "lon": None},
-]
+# Sites with their places; in kilometres the third and the fourth are the reach, 1.5, away from the first.
+SITES = {"Ulm": (0, 0), 7: (0.01, 0.0), "Hof": (0.9, 1.2), "Aue": (-1.2, 0.9), "Kiel": None}
 
 # By the call and what it raises: words of a refusal, and what is given. A plan is asked of a graph, bars and a licence;
 # and a graph, a plan, bars and a licence are checked.
@@ -87,17 +81,17 @@ REFUSED = {
         ("isn't in the licence", SQUARE, {"Ulm": 1}, None, [7, 8, 9]),
     ),
     (forestplan.sites, TypeError): (
-        ("a row is 'site'", ["site"], 1),
-        ("reach is '1'", SITES, "1"),
-        ("reach is True", SITES, True),
+        ("places are [('Ulm', 1, 2)]", [("Ulm", 1, 2)], 1),
+        ("the place of 'Ulm' is 5, and has to be two numbers", {"Ulm": 5}, 1),
+        ("the place of 'Ulm' is 'N', and has to be a number", {"Ulm": "NE"}, 1),
+        ("reach is '1', and has to be a number", SITES, "1"),
     ),
     (forestplan.sites, ValueError): (
-        ("a row has no 'name'", SITES, 1, "name"),
-        ("a second site 'Ulm'", [*SITES, SITES[0]], 1),
-        ("'Ulm': no number", [{**SITES[0], "lat": "north"}], 1),
-        ("the sites: no site has a place", [{"site": "Ulm"}], 1),
-        ("reach is 0.0, and has to be", SITES, 0),
-        ("reach is nan", SITES, float("nan")),
+        ("the place of 'Ulm' is 95, and has to be from -90 to 90", {"Ulm": (95, 10)}, 1),
+        ("the place of 'Ulm' is nan", {"Ulm": (float("nan"), 10)}, 1),
+        ("unit is 'mile'", SITES, 1, "mile"),
+        ("reach is 0, and has to be from", SITES, 0),
+        ("number of edges is 400001", dict.fromkeys(range(1000), (0, 0)), 1),
     ),
 }
 
@@ -125,10 +119,6 @@ def channels_of(network, passes):
 
 def is_proper(graph, plan):
     return all(plan[node] != plan[other] for node in graph for other in graph[node])
-
-
-def facts_of(network):
-    return network.names, network.edges, network.said, network.places
 
 
 def neighbours_of(nodes, pairs):
@@ -188,28 +178,16 @@ class InPython(Case):
         self.same("who has no channel", (why.code, why.nodes), ("licence", lacking))
 
     def test_sites(self):
-        """The graph of a table is the one that forestlab reads of it, in which nodes are called as in Python."""
-        columns, text = ("site", "lat", "lon", "identifier"), io.StringIO()
-        rows = [*SITES, {**SITES[0], "site": "Bonn", "identifier": 77, "lon": "10.01"}]
-        got = forestplan.sites(iter(rows), 2)
-        self.same(
-            "who is near",
-            got,
-            {"Ulm": [7, "Bonn"], 7: ["Ulm", "Bonn"], "Hof": [], "Aue": [], "Bonn": ["Ulm", 7]},
-        )
-        writer = csv.DictWriter(text, columns, extrasaction="ignore")
-        writer.writeheader()
-        writer.writerows({**row, "lat": ""} if row["lon"] is None else row for row in rows)
-        read = forestlab(
-            "network", "read", "--sites", "-", "--reach", 2, data=text.getvalue().encode()
-        )
-        network, wanted = (
-            network_of(data) for data in (forestplan.text_of(got)[0].encode(), read[1])
-        )
-        self.same("its network", facts_of(network), facts_of(wanted))
-        self.note(
-            "what isn't read is said", "columns that aren't read: height" in got.notes, got.notes
-        )
+        """The graph of places is the one that forestlab reads of a table of them."""
+        for unit, columns in (("degrees", "lat,lon"), ("km", "x_km,y_km"), ("m", "x_m,y_m")):
+            rows = [(name, *(place or ("", ""))) for name, place in SITES.items()]
+            table = f"site,{columns}\n" + "".join("{},{},{}\n".format(*row) for row in rows)
+            words = ("network", "read", "--sites", "-", "--reach", 1.5)
+            wanted = network_of(forestlab(*words, data=table.encode())[1])
+            got = forestplan.sites(SITES, 1.5, unit)
+            network = network_of(forestplan.text_of(got)[0].encode())
+            for fact in ("names", "edges", "places"):
+                self.same(f"{unit}: {fact}", getattr(network, fact), getattr(wanted, fact))
 
     def test_kinds(self):
         """What is no graph, no list and no whole number is refused, and says where it is; it isn't taken letter by

@@ -4,7 +4,7 @@
     forestplan.plan(G, bars={"Hof": {6}}, licence=[1, 6, 11])     # channels of the licence, and none that is barred
     forestplan.plan(G, passes=3)                                  # chosen anew three times, mostly fewer channels
     forestplan.check(G, {"Ulm": 1, "Hof": 2})                     # has anybody's plan judged: its greatest channel
-    forestplan.sites(rows, reach=5.5)                             # the graph of sites that are near each other
+    forestplan.sites({"Ulm": (48.4, 10)}, reach=5.5)              # the graph of sites that are near each other
 
 G is a graph of networkx; or a dict with a list or a set of the neighbours of each node, in which each neighbour comes
 once and is a key, too. Nodes are anything that can be a key; directions, weights and edges from a node to itself don't
@@ -16,7 +16,16 @@ import tempfile
 from collections.abc import Iterable, Mapping, Sequence
 from typing import Any, NamedTuple
 
-from forestplan._graphs import MAX_PASSES, MAX_WORKERS, Bars, Licence, Node, Sites, text_of, whole
+from forestplan._graphs import (
+    MAX_PASSES,
+    MAX_WORKERS,
+    Bars,
+    Licence,
+    Node,
+    Sites,
+    text_of,
+    whole,
+)
 from forestplan._programs import called, home, lab_called, of_lab, program_at
 from forestplan._sites import sites
 
@@ -80,7 +89,11 @@ class Refused(ValueError):
     channel it lacks, and `plan` is the plan that was found, with channels from 1."""
 
     def __init__(
-        self, words: str, code: str = "", nodes: Iterable[Node] = (), plan: "Plan | None" = None
+        self,
+        words: str,
+        code: str = "",
+        nodes: Iterable[Node] = (),
+        plan: "Plan | None" = None,
     ):
         super().__init__(words)
         self.words, self.code, self.nodes, self.plan = words, code, list(nodes), plan
@@ -113,14 +126,18 @@ class Plan(_Answer, dict[Node, int]):
     @property
     def text(self) -> str:
         rows = [
-            f"{v} {self.licence.needed(node, self[node])}\n" for v, node in enumerate(self.order, 1)
+            f"{v} {self.licence.needed(node, self[node])}\n"
+            for v, node in enumerate(self.order, 1)
         ]
         return "plan\n" + "".join(rows)
 
     @property
     def title(self) -> str:
         used = sorted(
-            {(self.licence.needed(node, channel), channel) for node, channel in self.items()}
+            {
+                (self.licence.needed(node, channel), channel)
+                for node, channel in self.items()
+            }
         )
         return "graph" + "".join(f", {k} is {real}" for k, real in used if k != real)
 
@@ -129,7 +146,10 @@ class Plan(_Answer, dict[Node, int]):
         `networkx.draw(G, nodelist=list(plan), node_color=list(plan.colours().values()), labels=plan)`. Channels 9 to 16
         have those of 1 to 8, and so on: draw the channels, too."""
         hue = of_lab("pictures", "palette").channel_hue
-        return {node: hue(self.licence.needed(node, channel)) for node, channel in self.items()}
+        return {
+            node: hue(self.licence.needed(node, channel))
+            for node, channel in self.items()
+        }
 
 
 class Rounds(_Answer, list[Pulse]):
@@ -163,7 +183,11 @@ def plan(
 
     Raises `Refused` if it takes more channels than the licence has, or if a node has more than 1,023 neighbours.
     """
-    more = [] if workers is None else ["--workers", str(whole(workers, "workers", 1, MAX_WORKERS))]
+    more = (
+        []
+        if workers is None
+        else ["--workers", str(whole(workers, "workers", 1, MAX_WORKERS))]
+    )
     command = ["forestplan", "plan" if more else "plain"]
     if many := whole(passes, "passes", 0, MAX_PASSES):
         command = ["forestplay", "run" if more else "alone"]
@@ -171,13 +195,19 @@ def plan(
     found = Plan()
     found.network, found.order, text = _asked([*command, *more], G, bars, licence)
     lines = text.removeprefix("plan\n").splitlines()
-    number = {node: int(line.split()[-1]) for node, line in zip(found.order, lines, strict=True)}
+    number = {
+        node: int(line.split()[-1])
+        for node, line in zip(found.order, lines, strict=True)
+    }
     allowed, most = Licence(licence), max(number.values(), default=0)
     found.update((node, number[node]) for node in dict.fromkeys([*G, *found.order]))
     if licence is not None and most > len(licence):
         words = f"the plan takes {most} channels, and the licence has {len(licence)}"
         raise Refused(
-            words, "licence", (node for node in found if found[node] > len(licence)), found
+            words,
+            "licence",
+            (node for node in found if found[node] > len(licence)),
+            found,
         )
     found.licence = allowed
     found.update((node, allowed.real(k)) for node, k in found.items())
@@ -185,7 +215,10 @@ def plan(
 
 
 def check(
-    G: Any, plan: Mapping, bars: Bars | None = None, licence: Sequence[int] | None = None
+    G: Any,
+    plan: Mapping,
+    bars: Bars | None = None,
+    licence: Sequence[int] | None = None,
 ) -> int:
     """Has a plan judged, whoever made it: returns how many channels it takes, counted from 1 to the greatest.
 
@@ -203,34 +236,48 @@ def check(
     for node in plan:
         if node not in number:
             raise ValueError(f"the plan has {node!r}, which is no node of the graph")
-    rows = [f"{number[node]} {allowed.needed(node, channel)}\n" for node, channel in plan.items()]
+    rows = [
+        f"{number[node]} {allowed.needed(node, channel)}\n"
+        for node, channel in plan.items()
+    ]
     return int(
-        _called(["forestplan", "check"], f"{network}plan\n{''.join(rows)}", order).split()[1]
+        _called(
+            ["forestplan", "check"], f"{network}plan\n{''.join(rows)}", order
+        ).split()[1]
     )
 
 
-def rounds(G: Any, bars: Bars | None = None, licence: Sequence[int] | None = None) -> Rounds:
+def rounds(
+    G: Any, bars: Bars | None = None, licence: Sequence[int] | None = None
+) -> Rounds:
     """The rounds of the algorithm, all nodes at once, a `Pulse` each. Of a large graph they are a long list.
 
     >>> [pulse.phase for pulse in rounds({"Ulm": []})][:2]
     ['greet', 'orient']
     """
     found = Rounds()
-    found.network, order, found.text = _asked(["forestplay", "rounds"], G, bars, licence)
+    found.network, order, found.text = _asked(
+        ["forestplay", "rounds"], G, bars, licence
+    )
     for line in found.text.splitlines()[1:]:
         fields = line.split()
         if fields[0] == "pulse":
             found.append(Pulse(int(fields[1]), " ".join(fields[2:]), [], []))
         elif fields[1] == "put":
             sender, receiver = order[int(fields[0]) - 1], order[int(fields[2]) - 1]
-            found[-1].messages.append(Message(sender, receiver, fields[5], int(fields[6])))
+            found[-1].messages.append(
+                Message(sender, receiver, fields[5], int(fields[6]))
+            )
         else:
             found[-1].states.append((order[int(fields[0]) - 1], " ".join(fields[1:])))
     return found
 
 
 def transcript(
-    G: Any, bars: Bars | None = None, workers: int = 2, licence: Sequence[int] | None = None
+    G: Any,
+    bars: Bars | None = None,
+    workers: int = 2,
+    licence: Sequence[int] | None = None,
 ) -> Transcript:
     """A run without a clock, by worker threads: all events, an `Entry` each, in an order in which they were possible.
     Two calls differ, as runs do, unless there is one worker.
@@ -255,7 +302,9 @@ def colour_map(channels: int = 8) -> Any:
     from matplotlib.colors import ListedColormap
 
     hue = of_lab("pictures", "palette").channel_hue
-    return ListedColormap([hue(channel + 1) for channel in range(channels)], "forestplan")
+    return ListedColormap(
+        [hue(channel + 1) for channel in range(channels)], "forestplan"
+    )
 
 
 def _asked(
@@ -276,7 +325,11 @@ def _called(words: list[str], text: str, order: list[Node]) -> str:
     if told is None:
         raise RuntimeError(f"{words[0]} has ended with status {status}: {said}")
     what, *numbers = fault.split()[1:] or [""]
-    nodes = [order[int(number) - 1] for number in numbers] if what.startswith("vert") else []
+    nodes = (
+        [order[int(number) - 1] for number in numbers]
+        if what.startswith("vert")
+        else []
+    )
     meant = "\n".join(codes.tell_code(told))
     if nodes:
         named = " and ".join(map(repr, nodes))

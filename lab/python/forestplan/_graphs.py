@@ -17,17 +17,21 @@ MAX_PASSES = 3
 MAX_REAL = 10**12
 
 
-def whole(value: Any, what: str, least: int, most: int) -> int:
-    """A whole number in these bounds; a truth value is none."""
-    if isinstance(value, bool) or not isinstance(value, numbers.Integral):
-        raise TypeError(f"{what} is {value!r}, and has to be a whole number")
-    check_most(int(value), what, least, most)
-    return int(value)
-
-
-def check_most(value: float, what: str, least: float, most: float) -> None:
+def bounded(
+    value: Any, what: str, least: float, most: float, kind: type = numbers.Real
+) -> Any:
+    """A number in these bounds; a truth value is none."""
+    is_number = isinstance(value, kind) and not isinstance(value, bool)
+    if not is_number:
+        whole = "whole " if kind is numbers.Integral else ""
+        raise TypeError(f"{what} is {value!r}, and has to be a {whole}number")
     if not least <= value <= most:
         raise ValueError(f"{what} is {value}, and has to be from {least:,} to {most:,}")
+    return value
+
+
+def whole(value: Any, what: str, least: int, most: int) -> int:
+    return int(bounded(value, what, least, most, numbers.Integral))
 
 
 class Licence:
@@ -42,8 +46,10 @@ class Licence:
             raise TypeError(
                 f"the licence is {channels!r}, and has to be a list of whole numbers, in order of preference"
             )
-        self.channels = [whole(one, "a channel of the licence", 0, MAX_REAL) for one in channels]
-        check_most(len(channels), "the number of channels of the licence", 0, MAX_CHANNEL)
+        self.channels = [
+            whole(one, "a channel of the licence", 0, MAX_REAL) for one in channels
+        ]
+        bounded(len(channels), "the number of channels of the licence", 0, MAX_CHANNEL)
         self.counted = {channel: k for k, channel in enumerate(self.channels, 1)}
         if len(self.counted) < len(channels):
             raise ValueError("the licence names a channel twice")
@@ -58,7 +64,9 @@ class Licence:
         """The same of the channel of a node, which the licence has to have."""
         found = self.number(channel, f"the channel of {node!r}")
         if found is None:
-            raise ValueError(f"{node!r} has channel {channel!r}, which isn't in the licence")
+            raise ValueError(
+                f"{node!r} has channel {channel!r}, which isn't in the licence"
+            )
         return found
 
     def real(self, k: int) -> int:
@@ -67,15 +75,12 @@ class Licence:
 
 
 class Sites(dict[Node, list[Node]]):
-    """{site: [the sites within its reach]}, as `sites` makes it: a graph that all functions take. `places` has the
-    place of a site on a map in kilometres, (x, y) with y growing downwards; `identifiers` has those of sites that have
-    one; and `notes` says how the rows were read, and what of them wasn't."""
+    """{site: [the sites within its reach]}, as `sites` makes it: a graph that all functions take. `places` has where a
+    site is on a map in kilometres, (x, y) with y growing downwards."""
 
-    def __init__(self, rows: Iterable[Node]):
-        super().__init__((node, []) for node in rows)
-        self.notes: list[str] = []
+    def __init__(self, names: Iterable[Node] = ()):
+        super().__init__((name, []) for name in names)
         self.places: dict[Node, tuple[float, float]] = {}
-        self.identifiers: dict[Node, int] = {}
 
 
 def text_of(
@@ -89,21 +94,19 @@ def text_of(
     barred = barred_in(bars, number, Licence(licence))
     ends = [sorted((number[one], number[other])) for one, other in pairs]
     edges = sorted({(v, w) for v, w in ends if v != w})
-    check_most(len(order), "the number of nodes", 0, MAX_NODES)
-    check_most(len(edges), "the number of edges", 0, MAX_EDGES)
+    bounded(len(order), "the number of nodes", 0, MAX_NODES)
+    bounded(len(edges), "the number of edges", 0, MAX_EDGES)
     lines = [f"c name {v} {' '.join(str(node).split())}" for node, v in number.items()]
     lines.append(f"p edge {len(order)} {len(edges)}")
     if isinstance(G, Sites):
-        lines += lines_of_sites(G, number)
+        lines += [
+            f"c at {number[node]} {x:.3f} {y:.3f}"
+            for node, (x, y) in G.places.items()
+            if node in number
+        ]
     lines += [f"b {v} {channel}" for v, channel in barred]
     lines += [f"e {v} {w}" for v, w in edges]
     return "\n".join(lines) + "\n", order
-
-
-def lines_of_sites(G: Sites, number: dict[Node, int]) -> list[str]:
-    """The places and identifiers of sites."""
-    lines = [f"c at {number[node]} {x} {y}" for node, (x, y) in G.places.items()]
-    return lines + [f"i {number[node]} {own}" for node, own in G.identifiers.items()]
 
 
 def barred_in(
@@ -124,7 +127,7 @@ def barred_in(
         }
         # A bar of a channel that the licence lacks bars nothing.
         own = [channel for channel in numbers if channel is not None]
-        check_most(len(own), f"the number of bars of {node!r}", 0, MAX_BARS)
+        bounded(len(own), f"the number of bars of {node!r}", 0, MAX_BARS)
         found += [(number[node], channel) for channel in own]
     return sorted(found)
 
@@ -138,7 +141,11 @@ def pairs_of(G: Any) -> list[tuple[Node, Node]]:
             f"a {type(G).__name__} is no graph: a graph of networkx is wanted, which has functions that make one "
             "of pairs, tables and matrices, or a dict with a list of the neighbours of each node"
         )
-    return [(one, other) for one, several in G.items() for other in neighbours_in(G, one, several)]
+    return [
+        (one, other)
+        for one, several in G.items()
+        for other in neighbours_in(G, one, several)
+    ]
 
 
 def neighbours_in(G: Mapping, one: Node, several: Any) -> list[Node]:
@@ -146,7 +153,9 @@ def neighbours_in(G: Mapping, one: Node, several: Any) -> list[Node]:
     found = list(items(several, f"neighbours of {one!r}"))
     for other in found:
         if other not in G:
-            raise ValueError(f"a neighbour of {one!r} is {other!r}, which has no entry of its own")
+            raise ValueError(
+                f"a neighbour of {one!r} is {other!r}, which has no entry of its own"
+            )
     if len(set(found)) < len(found):
         raise ValueError(f"a neighbour of {one!r} comes twice")
     return found

@@ -14,15 +14,23 @@ def home() -> str:
     that this file is in.
 
     Raises FileNotFoundError if there is none."""
-    for folder in (os.path.join(HERE, "installed"), os.path.join(HERE, "..", "..", "..")):
+    for folder in (
+        os.path.join(HERE, "installed"),
+        os.path.join(HERE, "..", "..", ".."),
+    ):
         if os.path.isfile(os.path.join(folder, "lab", "programs.py")):
             return os.path.realpath(folder)
-    raise FileNotFoundError("there is no folder of forestplan that is installed or built")
+    raise FileNotFoundError(
+        "there is no folder of forestplan that is installed or built"
+    )
 
 
 def program_at(name: str) -> str:
     """The file of a program. Raises FileNotFoundError if it isn't built."""
-    places = (os.path.join(home(), *parts, name) for parts in (("crates", name, "out"), ("lib",)))
+    places = (
+        os.path.join(home(), *parts, name)
+        for parts in (("crates", name, "out"), ("lib",))
+    )
     found = next((place for place in places if os.access(place, os.X_OK)), None)
     if found is None:
         raise FileNotFoundError(f"{name} isn't built in {home()}")
@@ -31,8 +39,14 @@ def program_at(name: str) -> str:
 
 def called(words: list[str], text: str) -> tuple[int, str, str]:
     """The status and both outputs of a process that reads a text."""
-    done = subprocess.run(words, input=text.encode("utf-8", "replace"), capture_output=True)
-    return done.returncode, done.stdout.decode(), done.stderr.decode("utf-8", "replace").strip()
+    done = subprocess.run(
+        words, input=text.encode("utf-8", "replace"), capture_output=True
+    )
+    return (
+        done.returncode,
+        done.stdout.decode(),
+        done.stderr.decode("utf-8", "replace").strip(),
+    )
 
 
 def lab_called(words: list[str], text: str) -> tuple[int, str, str]:
