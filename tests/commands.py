@@ -11,6 +11,8 @@ EDGE, TRIANGLE, APART, ALONE = (
     "p edge 1 0|",
 )
 PULSES = range(1, 13)
+# 30 is 12 + 3 U (D + B + 1), with U = D = 2 and B = 0.
+ENDS = "node 1 pulse 30 channel 2|node 2 pulse 30 channel 3|node 3 pulse 30 channel 1|"
 STEPS = [
     "greet",
     "orient",
@@ -100,22 +102,16 @@ COMMANDS = (
         "rounds 1 1 0 0 12|" + "".join(f"pulse {p} {step}|" for p, step in enumerate(STEPS)),
         options=("root", "passes"),
     ),
-    # 30 is 12 + 3 U (D + B + 1), with U = D = 2 and B = 0.
     Command(
         "forestplay",
         "run",
         TRIANGLE,
-        "node 1 pulse 30 channel 2|node 2 pulse 30 channel 3|node 3 pulse 30 channel 1|",
+        ENDS,
         options=("root", "passes", "workers", "capacity", "turns"),
         words=("--workers", "2"),
     ),
-    Command(
-        "forestplay",
-        "alone",
-        TRIANGLE,
-        "node 1 pulse 30 channel 2|node 2 pulse 30 channel 3|node 3 pulse 30 channel 1|",
-        options=("root", "passes"),
-    ),
+    Command("forestplay", "alone", TRIANGLE, ENDS, options=("root", "passes")),
+    Command("forestplay", "ends", TRIANGLE, ENDS, options=("root", "passes")),
 )
 PROGRAM_OF = {command.name: command.program for command in COMMANDS}
 PROGRAMS = ("forestplan", "forestplay")

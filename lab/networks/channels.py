@@ -26,9 +26,9 @@ With --back without TABLE, channel 1 is the lowest number that the plan has, cha
 the next, and so on; which is which is said on standard error. Take that only for a
 network without barred channels, which are given by number.
 
-With --run the text is what `forestplay run` writes of a program whose nodes find
-channels, `colouring` or `recolouring`: it is read as the plan that it has. Without TABLE
-that plan is written as it is.
+With --run the text is what `forestplay ends` or `run` writes of a program whose nodes
+find channels, `colouring` or `recolouring`: it is read as the plan that it has. Without
+TABLE that plan is written as it is.
 """
 
 MORE_HELP = """\
@@ -38,7 +38,7 @@ command line is refused.
 Examples:
   forestplan plain < net.col | forestlab channels 1 6 11
   (cat net.col; forestlab channels --back 1 6 11 < real.plan) | forestplan check
-  forestplay run --program recolouring < net.col | forestlab channels --run
+  forestplay ends --program recolouring < net.col | forestlab channels --run
 """
 
 
@@ -150,7 +150,7 @@ def command_line() -> ArgumentParser:
     asked.add_argument(
         "--run",
         action="store_true",
-        help="from the channels of a run, as `forestplay run` writes them",
+        help="from the channels of a run, as `forestplay ends` writes them",
     )
     asked.add_argument(
         "table",

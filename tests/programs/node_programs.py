@@ -7,7 +7,7 @@ from lab.definitions.nodes import synchronous_run
 from lab.definitions.programs import program_at
 from lab.networks.network_text import network_of
 from tests.cases import Case, called, text
-from tests.commands import EDGE
+from tests.commands import EDGE, commands_of
 from tests.settings import PLAY
 
 ROW, ALONE, NONE = "p edge 3 2|e 1 2|e 2 3|", "p edge 1 0|", "p edge 0 0|"
@@ -18,6 +18,8 @@ LONG = "p edge 6 4|i 1 9|i 2 1|i 3 20|i 4 5|i 5 8|e 1 2|e 2 3|e 3 4|e 4 5|"
 SQUARE = "p edge 4 4|i 1 8|i 2 6|i 4 1|e 1 2|e 1 3|e 2 4|e 3 4|"
 # The port is a number of the network, and not of an order of identifiers: vertex 3 is between 5 and 1.
 BETWEEN = "p edge 5 2|i 1 4|i 2 3|i 3 2|i 4 9|i 5 1|e 3 5|e 1 3|"
+# All that print what the nodes end with: by one worker, by three, on one thread without a clock, and in rounds.
+RUNS = ("run", "--workers", 1), ("run", "--workers", 3), ("alone",), ("ends",)
 # What the nodes end with: by program and network, the last pulse, and the result of each node as `run` prints it.
 ENDS = [
     ("colouring", EDGE, 18, "channel 1|channel 2"),
@@ -187,6 +189,8 @@ REFUSED = [
     ("run", "layers --root 1", NONE, "NoRoot vertex 1"),
     ("alone", "layers --root 4", ROW, "NoRoot vertex 4"),
     ("alone", "layers --root 1 --transcript", "p edge 2 0|i 1 5|i 2 5|", "N2 vertices 1 2"),
+    ("ends", "layers --root 4", ROW, "NoRoot vertex 4"),
+    ("ends", "layers --root 2", "p edge 3 0|i 1 1|i 2 1|", "N2 vertices 1 2"),
     ("rounds", "layers --root 9", "p edge 2 1|e 1 1|", "F6 line 2"),
     ("run", "layers --root 1", "p edge 2 0|i 1 5|i 2 5|", "N2 vertices 1 2"),
     # Two vertices of identifier 1 stay two of one identifier, whichever is the root.
@@ -260,20 +264,16 @@ def program_of(asked):
 
 class Programs(Case):
     def test_ends(self):
-        """By one worker, by three, on one thread without workers, in rounds, where nothing is added, and by the
-        definition."""
+        """By each run, in the text of the rounds, where nothing is added, and by the definition."""
         for asked, net, last, said in ENDS:
             ends = said.split("|") if said else []
             wanted = "".join(f"node {v} pulse {last} {end}|" for v, end in enumerate(ends, 1))
-            for workers in (1, 3):
+            for command, *words in RUNS:
                 self.same(
-                    f"run {asked} on {net} by {workers}",
-                    play("run", asked, "--workers", workers, data=net),
+                    f"{command} {asked} on {net} {words}",
+                    play(command, asked, *words, data=net),
                     (0, text(wanted), b""),
                 )
-            self.same(
-                f"alone {asked} on {net}", play("alone", asked, data=net), (0, text(wanted), b"")
-            )
             found = [re.sub(r" (to \d+|elected)$", "", end) for end in ends]
             if asked != "colouring":
                 done = play("rounds", asked, data=net)
@@ -353,7 +353,7 @@ class Programs(Case):
 
     def test_words(self):
         """Only one program takes each option, given once."""
-        for command in ("events", "replay", "rounds", "run", "alone"):
+        for command in (it.name for it in commands_of("forestplay")):
             for words, said in WRONG:
                 done = called(PLAY, command, *words.split())
                 self.refusal(f"{command} {words}", done, 2, said.encode())

@@ -1,6 +1,7 @@
 """The programs that nodes run, on networks by chance: `forestplay rounds` is, byte for byte, what the slow definitions
-of lab/ give; each run by some workers and capacity ends as their nodes do, and so does one on one thread. A checker
-that has nothing but the edges and the bars finds what the theorems say of those that go on after the colouring.
+of lab/ give; each run by some workers and capacity ends as their nodes do, and so does one on one thread, without a
+clock or in rounds. A checker that has nothing but the edges and the bars finds what the theorems say of those that go
+on after the colouring.
 
   ./test programs.sequel_runs                              a few networks
   TESTS_SEQUELS=1000 python3 -m tests programs.sequel_runs     many of them"""
@@ -18,8 +19,11 @@ from tests.programs.sequels import CHECKERS, last_of
 from tests.settings import setting
 
 NODES, SEED = 14, 79
-# Workers and capacity, one after the other over the networks.
-THREADS = [(1, 4), (2, 1), (3, 2), (4, 4), (2, 3), (8, 1)]
+# By how many workers and with which capacity, one after the other over the networks.
+THREADS = [
+    ("run", "--workers", workers, "--capacity", capacity)
+    for workers, capacity in ((1, 4), (2, 1), (3, 2), (4, 4), (2, 3), (8, 1))
+]
 PLAYED = (
     "colouring",
     "leader",
@@ -62,13 +66,6 @@ class SequelRuns(Case):
                     f"node {v} pulse {program.last_pulse(net)} {ended(net, v, node.result())}"
                     for v, node in nodes.items()
                 ]
-                self.same(f"{name} alone", play("alone", asked, data=data), (0, text_of(ends), b""))
-                for workers, capacity in (next(threads), next(threads)):
-                    done = play(
-                        "run", asked, "--workers", workers, "--capacity", capacity, data=data
-                    )
-                    self.same(
-                        f"run of {name} by {workers} workers, capacity {capacity}",
-                        done,
-                        (0, text_of(ends), b""),
-                    )
+                for command, *words in (("alone",), ("ends",), next(threads), next(threads)):
+                    done = play(command, asked, *words, data=data)
+                    self.same(f"{command} of {name} {words}", done, (0, text_of(ends), b""))

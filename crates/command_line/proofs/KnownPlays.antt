@@ -14,7 +14,7 @@ use Rattle.command_line.specs.declared.declined.Declined.{Declined}
 use Rattle.command_line.specs.declared.declined.Declined.TheVariants as given
 use Rattle.command_line.specs.declared.executable.Executable.TheVariants.{Forestplay}
 use Rattle.command_line.specs.declared.play_request.Play.{Play}
-use Rattle.command_line.specs.declared.play_request.Play.TheVariants.{Alone, Events, Replay, Rounds, Run}
+use Rattle.command_line.specs.declared.play_request.Play.TheVariants.{Alone, Ends, Events, Replay, Rounds, Run}
 use Rattle.command_line.specs.declared.play_request.PlayRequest.{PlayRequest}
 use Rattle.command_line.specs.declared.programs.NodeProgramName.{NodeProgramName}
 use Rattle.command_line.proofs.Declining.{taken}
@@ -68,7 +68,10 @@ all_known = (
     play_has_request _ Replay refl tt (λ rows. refl),
     (
       play_has_request _ Rounds refl tt (λ rows. refl),
-      (run_has_request _ refl (λ rows. refl), (alone_has_request _ refl (λ rows. refl), tt)),
+      (
+        run_has_request _ refl (λ rows. refl),
+        (alone_has_request _ refl (λ rows. refl), (play_has_request _ Ends refl tt (λ rows. refl), tt)),
+      ),
     ),
   ),
 )

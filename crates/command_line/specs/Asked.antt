@@ -18,7 +18,7 @@ use Rattle.command_line.specs.declared.declined.Declined.TheVariants as declined
 use Rattle.command_line.specs.declared.executable.Executable.{Executable}
 use Rattle.command_line.specs.declared.executable.Executable.TheVariants.{Forestplan, Forestplay}
 use Rattle.command_line.specs.declared.play_request.Play.{Play}
-use Rattle.command_line.specs.declared.play_request.Play.TheVariants.{Alone, Events, Replay, Rounds, Run}
+use Rattle.command_line.specs.declared.play_request.Play.TheVariants.{Alone, Ends, Events, Replay, Rounds, Run}
 use Rattle.command_line.specs.declared.play_request.PlayRequest.{PlayRequest}
 use Rattle.command_line.specs.declared.programs.NodeProgramName.{NodeProgramName}
 use Rattle.command_line.specs.declared.request.Request.{Request}
@@ -63,6 +63,7 @@ play_named name rows =
     else if bytes_eq name (codes "rounds") then played Rounds rows
     else if bytes_eq name (codes "run") then run_of rows
     else if bytes_eq name (codes "alone") then alone_of rows
+    else if bytes_eq name (codes "ends") then played Ends rows
     else None
 
 -- a run of a program has options in range

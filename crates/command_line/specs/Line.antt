@@ -58,9 +58,12 @@ run_command = with_transcript (with_run_options (play_command (codes "run")))
 abbrev pub alone_command : App
 alone_command = with_transcript (play_command (codes "alone"))
 
--- the commands for lessons in which the nodes have no common clock
+-- the commands for lessons that print where nodes end, each a line
 abbrev pub with_run_commands : App → App
-with_run_commands program = with_subcommand (with_subcommand program run_command.top) alone_command.top
+with_run_commands program =
+    let with_run : App = with_subcommand program run_command.top in
+    let with_alone : App = with_subcommand with_run alone_command.top in
+    with_subcommand with_alone (play_command (codes "ends")).top
 
 -- the commands for lessons, each a line
 abbrev pub with_play_commands : App → App

@@ -287,10 +287,10 @@ pub const FORESTPLAY: Help = Help {
     long_about: "Plays what nodes do to find a channel plan, for lessons.
 
 The program reads a graph from standard input, whose vertices are the nodes, and
-after it, except for `rounds`, `run` and `alone`, what happens; it writes where
-this leads. A fault of the input is one line on standard error, a refused command
-line is several, and standard output then stays empty. If a write fails, standard
-output holds a beginning of the answer.
+after it, for `events` and `replay`, what happens; it writes where this leads. A
+fault of the input is one line on standard error, a refused command line is
+several, and standard output then stays empty. If a write fails, standard output
+holds a beginning of the answer.
 
 With --program NAME the nodes of any command run another program:
   colouring        finds the channel of each node, as `forestplan plain` prints
@@ -537,4 +537,23 @@ prints
   node 1 pulse 3 leader 3
   node 2 pulse 3 leader 3
   node 3 pulse 3 leader 3 elected",
+};
+
+pub const ENDS: Help = Help {
+    about: "Runs nodes in rounds, and prints where they end",
+    long_about: "Runs nodes in rounds, and prints where they end.
+
+One thread makes the rounds that `forestplay rounds` prints, and keeps the last
+states alone. It is to `forestplay run` what `forestplan plain` is to `forestplan
+plan`: it prints the same text for the same input, much sooner.",
+    format: "Input: a graph in the DIMACS format, as `p edge NODES EDGES` and then `e V W`.
+
+Output: the text of `forestplay run` without --transcript.
+
+Example: three nodes in a row
+  printf 'p edge 3 2\\ne 1 2\\ne 2 3\\n' | forestplay ends --program recolouring
+prints
+  node 1 pulse 24 channel 2
+  node 2 pulse 24 channel 1
+  node 3 pulse 24 channel 2",
 };

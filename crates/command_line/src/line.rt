@@ -163,7 +163,8 @@ fn alone_command<'a>(alloc: Global) -> Result<Command<'a>, AllocError>
     with_transcript(alloc, alone)
 }
 
-// The commands for lessons in which the nodes have no common clock: on worker threads, and on one thread.
+// The commands for lessons that print where nodes end: without a common clock, on worker threads and on one thread, and
+// in rounds.
 fn with_run_commands<'a>(alloc: Global, program: Command<'a>) -> Result<Command<'a>, AllocError>
     requires { IsLocal program }
     ensures shape { IfOk result (λ c. app_of c ≡ with_run_commands (app_of program.entry)) }
@@ -172,7 +173,8 @@ fn with_run_commands<'a>(alloc: Global, program: Command<'a>) -> Result<Command<
     let run = run_command(alloc)?;
     let program = with_command(program, run)?;
     let alone = alone_command(alloc)?;
-    with_command(program, alone)
+    let program = with_command(program, alone)?;
+    with_play_command(alloc, program, "ends", help::ENDS)
 }
 
 // The commands for lessons.

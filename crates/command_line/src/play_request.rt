@@ -38,6 +38,8 @@ pub enum Play {
     Run(Options, Shown),
     /// What nodes come to that one thread runs without a common clock.
     Alone(Shown),
+    /// What nodes come to in rounds.
+    Ends,
 }
 
 /// What `forestplay` is asked for.
@@ -81,6 +83,7 @@ fn play_named(name: &str, matches: &ArgMatches<'_>) -> Option<PlayRequest>
         "rounds" => played(matches, Play::Rounds),
         "run" => run_of(matches),
         "alone" => alone_of(matches),
+        "ends" => played(matches, Play::Ends),
         _ => None,
     }
 }

@@ -1,2 +1,4 @@
 pub mod Ended
+mod One
 mod Rows
+mod States

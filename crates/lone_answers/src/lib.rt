@@ -1,18 +1,21 @@
-//! What the command `alone` of `forestplay` computes, from the bytes of a DIMACS text to the bytes of an answer: what
-//! the nodes of a program come to that one thread runs without a common clock. It names no stream, no command line and
-//! no system. `play_commands` calls it; the same of worker threads is in `byte_functions`.
+//! What the commands `alone` and `ends` of `forestplay` compute, from the bytes of a DIMACS text to the bytes of an
+//! answer: what the nodes of a program come to that one thread runs, without a common clock or in rounds. It names no
+//! stream, no command line and no system. `play_commands` calls it; the same of worker threads is in `byte_functions`.
 //!
 //! ```
 //! let text = b"p edge 2 1\ne 1 2\n";
-//! let ends = alone_bytes::<Leader>(alloc, text, None)?;
-//! // "node 1 pulse 2 leader 2", "node 2 pulse 2 leader 2 elected", a line each
+//! let ends = ends_bytes::<Leader>(alloc, text, None)?;
+//! // "node 1 pulse 2 leader 2", "node 2 pulse 2 leader 2 elected", a line each; and so says `alone_bytes`
 //! ```
 //!
 //! Limits: those of `answers`.
 #![tactic(auto)]
 
 mod ends;
+mod last_states;
+pub mod laws;
 mod transcript;
 
 pub use ends::alone_bytes;
+pub use last_states::ends_bytes;
 pub use transcript::alone_transcript_bytes;

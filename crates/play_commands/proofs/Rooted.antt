@@ -7,7 +7,7 @@ use Rattle.program_texts.specs.Texts.{ProgramTexts}
 use Rattle.wire_texts.specs.PayloadTexts.{PayloadTexts}
 use Rattle.command_line.specs.declared.programs.Shown.TheVariants as shown
 use Rattle.command_line.specs.declared.play_request.Play.{Play}
-use Rattle.command_line.specs.declared.play_request.Play.TheVariants.{Alone, Events, Replay, Rounds, Run}
+use Rattle.command_line.specs.declared.play_request.Play.TheVariants.{Alone, Ends, Events, Replay, Rounds, Run}
 use Rattle.answers.specs.Roots.{rooted}
 use Rattle.answers.specs.declared.fault.PlanFault.{PlanFault}
 use Rattle.answers.specs.declared.root.Root.{Root}
@@ -31,6 +31,7 @@ module _ {S M E : Type 0} (program : Program S M E) (texts : ProgramTexts S) (pa
   good (Run options shown.Transcript) input answer is = is
   good (Alone shown.States) input answer (graph, reads, (vertex, (ok, is, solves))) = (graph, reads, (vertex, (ok, is, solved _ vertex ok)))
   good (Alone shown.Transcript) input answer is = is
+  good Ends input answer (graph, reads, (vertex, (ok, is, solves))) = (graph, reads, (vertex, (ok, is, solved _ vertex ok)))
 
   pub plays : (play : Play) (input : List ℕ) (result : Result (List ℕ) PlanFault)
       → MayPlay program texts payloads (Some root) play input result
@@ -41,3 +42,4 @@ module _ {S M E : Type 0} (program : Program S M E) (texts : ProgramTexts S) (pa
   plays Rounds input (Err fault) may = may
   plays (Run options show) input (Err fault) may = may
   plays (Alone show) input (Err fault) may = may
+  plays Ends input (Err fault) may = may

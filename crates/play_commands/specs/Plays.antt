@@ -25,7 +25,7 @@ use Rattle.command_line.specs.declared.programs.Passes.{Passes}
 use Rattle.command_line.specs.declared.programs.Passes.TheVariants.{One, Three, Two}
 use Rattle.command_line.specs.declared.programs.Shown.TheVariants as shown
 use Rattle.command_line.specs.declared.play_request.Play.{Play}
-use Rattle.command_line.specs.declared.play_request.Play.TheVariants.{Alone, Events, Replay, Rounds, Run}
+use Rattle.command_line.specs.declared.play_request.Play.TheVariants.{Alone, Ends, Events, Replay, Rounds, Run}
 use Rattle.independent_set.specs.Knowing.{independent_set}
 use Rattle.independent_set.specs.Texts.{independent_set_texts}
 use Rattle.layers.specs.Layering.{layering}
@@ -54,6 +54,7 @@ module _ {S M E : Type 0} (program : Program S M E) (texts : ProgramTexts S) (pa
       IsProgramTranscript program payloads texts edition.Two root input answer
   IsGoodPlay (Alone shown.States) input answer = IsEndsAnswer program texts root input answer
   IsGoodPlay (Alone shown.Transcript) input answer = IsLoneTranscript program texts payloads root input answer
+  IsGoodPlay Ends input answer = IsEndsAnswer program texts root input answer
 
   -- the fault of an input, a line for each; the options of a command line are never out of range
   abbrev pub IsFaultPlay : Play → List ℕ → PlanFault → Type 0
@@ -61,6 +62,7 @@ module _ {S M E : Type 0} (program : Program S M E) (texts : ProgramTexts S) (pa
   IsFaultPlay Replay input fault = IsFaultOfReplay program payloads texts root input fault
   IsFaultPlay Rounds input fault = IsFaultOfText root input fault
   IsFaultPlay (Alone show) input fault = IsFaultOfText root input fault
+  IsFaultPlay Ends input fault = IsFaultOfText root input fault
   IsFaultPlay (Run options show) input fault = IsFaultOfWorkers root options input fault × (fault ≢ Pool BadOptions)
 
   -- the bytes that nodes may answer, or the fault

@@ -17,7 +17,7 @@ use independent_set::IndependentSet;
 use layers::laws::rounds_end_with_the_distances_from_a_root;
 use layers::{Layers, ROOT_ID};
 use leader::Leader;
-use lone_answers::{alone_bytes, alone_transcript_bytes};
+use lone_answers::{alone_bytes, alone_transcript_bytes, ends_bytes};
 use matching::Matching;
 use program_texts::ProgramText;
 use recolouring::Recolouring;
@@ -59,6 +59,7 @@ fn play_bytes<P: ProgramText, T: Threads + Wait + Sync>(
         ),
         Play::Alone(Shown::States) => alone_bytes::<P>(alloc, input, root),
         Play::Alone(Shown::Transcript) => alone_transcript_bytes::<P>(alloc, input, root),
+        Play::Ends => ends_bytes::<P>(alloc, input, root),
     }
 }
 
