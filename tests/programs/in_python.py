@@ -18,11 +18,13 @@ from lab import version
 from lab.definitions.colours import colours
 from lab.definitions.programs import program_at
 from lab.definitions.rounds import rounds_text
+from lab.network import Network
 from lab.networks.network_text import network_of
 from lab.pictures.palette import CHANNEL_HUES
 from lab.pictures.program_rounds import ProgramRounds
 from tests import TOP
 from tests.cases import Case, forestlab
+from tests.programs.own_networks import is_near
 from tests.tools import need
 
 sys.path.append(os.path.join(TOP, "lab", "python"))
@@ -154,6 +156,21 @@ class InPython(Case):
             meant = {frozenset(pair) for pair in pairs if pair[0] != pair[1]}
             self.same(f"edges {count}", edges, meant)
             self.note(f"check {count}", forestplan.check(graph, got, bars=bars) == max(channels))
+
+    def test_large(self):
+        """A graph of 1,000 nodes is numbered near each other, which nobody sees."""
+        source = random.Random(96)
+        nodes = source.sample(range(10**6), 1000)
+        pairs = [source.sample(nodes, 2) for _ in range(1500)]
+        graph, number = Graph(nodes, pairs), {node: v for v, node in enumerate(nodes, 1)}
+        wanted = colours(Network(1000, [(number[one], number[other]) for one, other in pairs]))
+        got = forestplan.plan(graph)
+        self.same(
+            "its plan", list(got.items()), [(node, wanted[number[node]] + 1) for node in nodes]
+        )
+        self.same("is judged", forestplan.check(graph, got), max(wanted.values()) + 1)
+        text, order = forestplan.text_of(graph)
+        self.note("its numbers", is_near(network_of(text.encode())) and order != nodes)
 
     def test_licence(self):
         triangle = forestplan.plan({"Ulm": ["Aue", "Hof"], "Aue": ["Hof"], "Hof": []})

@@ -3,6 +3,8 @@ import numbers
 from collections.abc import Hashable, Iterable, Mapping, Sequence
 from typing import Any
 
+from forestplan._programs import of_lab
+
 Node = Hashable
 Bars = Mapping[Any, Iterable[int]]
 
@@ -17,9 +19,7 @@ MAX_PASSES = 3
 MAX_REAL = 10**12
 
 
-def bounded(
-    value: Any, what: str, least: float, most: float, kind: type = numbers.Real
-) -> Any:
+def bounded(value: Any, what: str, least: float, most: float, kind: type = numbers.Real) -> Any:
     """A number in these bounds; a truth value is none."""
     is_number = isinstance(value, kind) and not isinstance(value, bool)
     if not is_number:
@@ -46,9 +46,7 @@ class Licence:
             raise TypeError(
                 f"the licence is {channels!r}, and has to be a list of whole numbers, in order of preference"
             )
-        self.channels = [
-            whole(one, "a channel of the licence", 0, MAX_REAL) for one in channels
-        ]
+        self.channels = [whole(one, "a channel of the licence", 0, MAX_REAL) for one in channels]
         bounded(len(channels), "the number of channels of the licence", 0, MAX_CHANNEL)
         self.counted = {channel: k for k, channel in enumerate(self.channels, 1)}
         if len(self.counted) < len(channels):
@@ -64,9 +62,7 @@ class Licence:
         """The same of the channel of a node, which the licence has to have."""
         found = self.number(channel, f"the channel of {node!r}")
         if found is None:
-            raise ValueError(
-                f"{node!r} has channel {channel!r}, which isn't in the licence"
-            )
+            raise ValueError(f"{node!r} has channel {channel!r}, which isn't in the licence")
         return found
 
     def real(self, k: int) -> int:
@@ -89,7 +85,8 @@ def text_of(
     """The graph as the programs read it, and its nodes in the order of their numbers. Raises TypeError and ValueError,
     as `plan` does."""
     pairs = pairs_of(G)
-    order = list(dict.fromkeys([*G, *(node for pair in pairs for node in pair)]))
+    given = list(dict.fromkeys([*G, *(node for pair in pairs for node in pair)]))
+    order = near_order(given, pairs)
     number = {node: v for v, node in enumerate(order, 1)}
     barred = barred_in(bars, number, Licence(licence))
     ends = [sorted((number[one], number[other])) for one, other in pairs]
@@ -98,15 +95,29 @@ def text_of(
     bounded(len(edges), "the number of edges", 0, MAX_EDGES)
     lines = [f"c name {v} {' '.join(str(node).split())}" for node, v in number.items()]
     lines.append(f"p edge {len(order)} {len(edges)}")
-    if isinstance(G, Sites):
-        lines += [
-            f"c at {number[node]} {x:.3f} {y:.3f}"
-            for node, (x, y) in G.places.items()
-            if node in number
-        ]
+    lines += lines_of_nodes(G, given, number)
     lines += [f"b {v} {channel}" for v, channel in barred]
     lines += [f"e {v} {w}" for v, w in edges]
     return "\n".join(lines) + "\n", order
+
+
+def lines_of_nodes(G: Any, given: list[Node], number: dict[Node, int]) -> list[str]:
+    """The places of sites, and identifiers, which count the nodes as they are given."""
+    places = G.places if isinstance(G, Sites) else {}
+    lines = [f"c at {number[v]} {x:.3f} {y:.3f}" for v, (x, y) in places.items() if v in number]
+    return lines + [f"i {number[v]} {k}" for k, v in enumerate(given, 1) if number[v] != k]
+
+
+def near_order(given: list[Node], pairs: list[tuple[Node, Node]]) -> list[Node]:
+    """The nodes as they are given; those of a large graph near their neighbours. Their identifiers stay."""
+    near = of_lab("networks", "near")
+    if len(given) < near.LARGE:
+        return given
+    neighbours: dict[Node, dict[Node, None]] = {node: {} for node in given}
+    for one, other in pairs:
+        if one != other:
+            neighbours[one][other] = neighbours[other][one] = None
+    return near.near_order(neighbours)
 
 
 def barred_in(
@@ -141,11 +152,7 @@ def pairs_of(G: Any) -> list[tuple[Node, Node]]:
             f"a {type(G).__name__} is no graph: a graph of networkx is wanted, which has functions that make one "
             "of pairs, tables and matrices, or a dict with a list of the neighbours of each node"
         )
-    return [
-        (one, other)
-        for one, several in G.items()
-        for other in neighbours_in(G, one, several)
-    ]
+    return [(one, other) for one, several in G.items() for other in neighbours_in(G, one, several)]
 
 
 def neighbours_in(G: Mapping, one: Node, several: Any) -> list[Node]:
@@ -153,9 +160,7 @@ def neighbours_in(G: Mapping, one: Node, several: Any) -> list[Node]:
     found = list(items(several, f"neighbours of {one!r}"))
     for other in found:
         if other not in G:
-            raise ValueError(
-                f"a neighbour of {one!r} is {other!r}, which has no entry of its own"
-            )
+            raise ValueError(f"a neighbour of {one!r} is {other!r}, which has no entry of its own")
     if len(set(found)) < len(found):
         raise ValueError(f"a neighbour of {one!r} comes twice")
     return found
