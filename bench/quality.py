@@ -8,9 +8,8 @@ other; our nodes know their neighbours alone. Largest first (D. J. A. Welsh and 
 chromatic number of a graph, 1967) and greedy by number take the nodes in a fixed order. They are those of networkx,
 which has to be installed.
 
-The plan is that of the slow definitions, which `forestplan plain` prints, too. Once, twice and thrice are the plan
-whose classes have chosen anew, the greatest channel first, in as many passes, as `forestplay rounds --program
-recolouring --passes N` has it."""
+The plan is that of the slow definitions, which `forestplan plain` prints, too. After 1, 2, 4 and 8 passes its classes
+have chosen anew, in the orders of the definitions, as `forestplay rounds --program recolouring --passes N` has it."""
 import argparse
 import math
 import random
@@ -21,11 +20,12 @@ from itertools import combinations
 import networkx
 
 from lab.definitions.colours import colours
+from lab.definitions.recolouring import order
 from lab.network import Edge, Network
 from lab.networks import kinds
 
-# How many passes are made, one after the other.
-PASSES = 3
+# After how many passes the channels are counted.
+PASSES = (1, 2, 4, 8)
 
 
 def of_pairs(nodes: int, edges: Iterable[Edge]) -> Network:
@@ -63,10 +63,14 @@ NETWORKS = {
 
 def counts(network: Network) -> list[int]:
     """The channels of the plan, of each pass, and of each greedy colouring."""
-    graph, found = networkx.Graph(network.neighbours), [colours(network)]
-    for _ in range(PASSES):
-        order = sorted(graph, key=lambda v: -found[-1][v])
-        found.append(networkx.greedy_color(graph, lambda *_, order=order: order))
+    graph, plan = networkx.Graph(network.neighbours), colours(network)
+    found = [plan]
+    for sweep in range(max(PASSES)):
+        places = {colour: q for q, colour in enumerate(order(network.span, False, sweep))}
+        nodes = sorted(graph, key=lambda v: places[plan[v]])
+        plan = networkx.greedy_color(graph, lambda *_: nodes)
+        if sweep + 1 in PASSES:
+            found.append(plan)
     found += [
         networkx.greedy_color(graph, strategy)
         for strategy in ("DSATUR", "smallest_last", "largest_first", lambda *_: sorted(graph))
@@ -82,7 +86,7 @@ def main() -> int:
         description=summary, epilog=more, formatter_class=argparse.RawDescriptionHelpFormatter
     )
     words.parse_args()
-    row = "| {:32} |" + " {:>6} |" * 3 + " {:>13} |" * 8
+    row = "| {:32} |" + " {:>6} |" * 3 + " {:>13} |" * 9
     print(
         row.format(
             "network",
@@ -90,16 +94,14 @@ def main() -> int:
             "edges",
             "most",
             "plan",
-            "once",
-            "twice",
-            "thrice",
+            *(f"{passes} passes" for passes in PASSES),
             "DSATUR",
             "smallest last",
             "largest first",
             "by number",
         )
     )
-    print("|---" * 12 + "|")
+    print("|---" * 13 + "|")
     for name, make in NETWORKS.items():
         network = make()
         print(

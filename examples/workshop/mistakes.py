@@ -276,13 +276,13 @@ OTHERS = {
     ),
     "anew_least": (
         "the least channel chooses first",
-        "if turn != self.width - 1 - self.merged:",
-        "if turn != self.merged:",
+        "mine = self.before if sweep else self.width - 1 - self.before",
+        "mine = self.before",
     ),
     "anew_bars": (
         "barred channels are forgotten in the second choice",
-        "self.anew = self.least_free(self.heard)",
-        "self.anew = min(set(range(self.width)) - self.heard)",
+        "else self.least_free(self.heard)",
+        "else min(set(range(self.width)) - self.heard)",
     ),
     "anew_last": ("only what came last counts", "self.heard |= {colour", "self.heard = {colour"),
 }

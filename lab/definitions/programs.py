@@ -21,7 +21,7 @@ PROGRAMS: dict[str, Program] = {
 # The options that a program has, each of which sets what its class has by this name.
 OPTIONS: dict[str, Program] = {"root": Layers, "passes": Recolouring}
 # How often recolouring may choose anew.
-PASSES = (1, 2, 3)
+PASSES = (1, 2, 3, 4, 5, 6, 7, 8)
 # Those whose nodes don't look at their bars; a file may.
 WITHOUT_BARS = (Leader, Layers, Matching)
 HELP = f"what the nodes run: {', '.join(PROGRAMS)}, or a file of your own, as NAME.py; default: colouring"
@@ -89,7 +89,7 @@ def add_program(words: ArgumentParser) -> None:
         type=int,
         choices=PASSES,
         metavar="N",
-        help="how often recolouring chooses anew, 1 to 3; default: once",
+        help="how often recolouring chooses anew, 1 to 8; default: once",
     )
     words.add_argument(
         "--lots", default="1", metavar="WORD", help="the seed of a file's `me.random`; default: 1"

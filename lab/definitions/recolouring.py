@@ -1,46 +1,68 @@
-"""The classes of a plan choose anew, the greatest colour first (J. C. Culberson, Iterated greedy graph coloring and the
-difficulty landscape, 1992), at one node, by its definition (docs/claim/DEFINITIONS.md), slow and plain."""
+"""The classes of a plan choose anew (J. C. Culberson, Iterated greedy graph coloring and the difficulty landscape, 1992),
+at one node, by its definition (docs/claim/DEFINITIONS.md), slow and plain."""
 from lab.definitions.nodes import Slot, last_pulse
 from lab.definitions.sequel import Sequel
 from lab.network import Network
 
 
+def order(span: int, barring: bool, sweep: int) -> list[int]:
+    """The colours in the order in which they have a pulse in a sweep, counted from 0."""
+    down = list(range(span, -1, -1))
+    if barring:
+        return down[::-1] if sweep % 2 else down
+    if sweep % 3 == 0:
+        return down
+    first = sweep % 3 - 1
+    return sorted(down, key=lambda colour: colour % 2 != first)
+
+
 class Recolouring(Sequel):
-    """A node that chooses its colour anew, once in each pass: `old` is the colour with which it came into the pass,
+    """A node that chooses its colour anew, once in each sweep: `old` is the colour with which it came into the sweep,
     `colour` the one that it chose last, None before it has chosen, and `held` has the colours of the neighbours that
-    have chosen in this pass."""
+    have chosen in this sweep. A pass is a sweep, or two if a node of the network has bars (`barring`): in the first the
+    classes rise."""
 
     name = "recolouring"
     kinds = ("Anew",)
     cut_of = staticmethod(last_pulse)
-    # How many passes there are, 1 to 3.
+    # How many passes there are, 1 to 8.
     passes: int = 1
 
     span: int
+    barring: bool
     old: int | None
     colour: int | None
     held: set[int]
 
     def __init__(self, net: Network, v: int):
         super().__init__(net, v)
-        self.span, self.old, self.colour, self.held = net.span, None, None, set()
+        self.span, self.barring = net.span, net.greatest_bars > 0
+        self.old, self.colour, self.held = None, None, set()
 
     @classmethod
     def last_pulse(cls, net: Network) -> int:
-        """After the colouring each colour has a pulse, in each pass."""
-        return last_pulse(net) + cls.passes * (1 + net.span)
+        """After the colouring each colour has a pulse, in each sweep."""
+        sweeps = 2 if net.greatest_bars else 1
+        return last_pulse(net) + cls.passes * sweeps * net.channels
 
     def go_on(self, pulse: int, inbox: list[Slot]) -> list[Slot]:
-        """The pulse of the nodes of a colour, the greatest first. When that comes again, a pass begins."""
-        later = pulse % (1 + self.span)
+        """The pulse of the nodes of a colour. When all have had theirs, a sweep begins."""
+        sweep, later = divmod(pulse, 1 + self.span)
         if not later:
             self.old, self.held = self.present(), set()
         self.held |= {slot[1] for slot in inbox if slot}
-        if self.old != self.span - later:
+        if self.old != order(self.span, self.barring, sweep)[later]:
             return [None] * self.degree
-        chosen = self.first.least_free(self.held)
-        self.colour = chosen
-        return [("Anew", chosen) if later < self.span else None] * self.degree
+        rises = self.barring and sweep % 2 == 0
+        self.colour = self.risen() if rises else self.first.least_free(self.held)
+        return [("Anew", self.colour) if later < self.span else None] * self.degree
+
+    def risen(self) -> int:
+        """The greatest colour that is neither barred at it nor a chosen neighbour's, and below one of these; or its
+        own, if none above that is so."""
+        above = range(self.old, max(self.held, default=0))
+        free = set(above) - self.first.barred - self.held
+        return max(free, default=self.old)
 
     def present(self) -> int:
         """The colour that it has: that of the colouring until it chooses anew, and then what it chose last."""

@@ -1,4 +1,5 @@
 """Why a node has to do something in a pulse: the rule of the pulse, and this node's numbers, all of which it knows."""
+from lab.definitions.recolouring import order
 from lab.workshop.findings import last_of, listed
 from lab.workshop.protocol import SEQUELS
 from lab.workshop.right_rounds import RightRounds
@@ -37,9 +38,13 @@ RULES = {
     "independent-set": "pulse {p} is the turn of the nodes of colour {turn}, channel {channel}: one of them joins if "
     "no neighbour has sent `joined`, and then sends `joined {turn}` by each port, but nothing in "
     "the last pulse",
-    "recolouring": "pulse {p} is the turn of the nodes that have colour {turn}, channel {channel}, by the plan: such a "
-    "node takes the least colour that isn't barred at it and that no neighbour has sent as `anew`, and "
-    "sends it by each port as `anew`, but nothing in the last pulse",
+    "recolouring": "pulse {p} is the turn of the nodes that have colour {turn}, channel {channel}, {by}: such a "
+    "node takes the least colour that isn't barred at it and that no neighbour has sent as `anew` since pulse "
+    "{first}, and sends it by each port as `anew`, but nothing in the last pulse",
+    "rise": "pulse {p} is the turn of the nodes that have colour {turn}, channel {channel}, by the plan: such a node "
+    "takes the greatest colour that isn't barred at it, that no neighbour has sent as `anew`, and that is below one "
+    "that a neighbour has sent, or keeps its own if that is greater; it sends it by each port as `anew`, but nothing "
+    "in pulse {before}",
 }
 FOUND = {
     "colouring": "the channel is the merged colour and one: the colour that it chose last, or, if it never chose, the "
@@ -116,8 +121,24 @@ class Why:
             given = {"forest": forest, "colour": colour}
             return ("free", "take")[turn % 2], given, [self.in_forest(13, forest), passed]
         if self.program == "recolouring":
-            turn = self.network.channels - 1 - turn
+            return self.of_sweep(p, *divmod(turn, self.network.channels))
         return self.program, {"turn": turn, "channel": turn + 1}, [self.merged(self.start), passed]
+
+    def of_sweep(self, p: int, sweep: int, later: int) -> tuple[str, dict, list[str]]:
+        """The same of a pulse in which classes rise or choose anew."""
+        network = self.network
+        barring = network.greatest_bars > 0
+        turn = order(network.span, barring, sweep)[later]
+        first = self.start + sweep * network.channels
+        given = {
+            "turn": turn,
+            "channel": turn + 1,
+            "by": "as they have risen" if sweep else "by the plan",
+            "first": first,
+            "before": self.start + network.span,
+        }
+        rule = "rise" if barring and not sweep else "recolouring"
+        return rule, given, [self.merged(self.start), self.passed(self.start, p)]
 
     def in_forest(self, p: int, forest: int) -> str:
         """Its colour in a forest before a pulse, its parent there, and its children."""

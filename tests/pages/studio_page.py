@@ -52,14 +52,14 @@ DRAWN = """Array.from(document.querySelectorAll('#net .node circle:last-of-type'
     end = one.getPointAtLength(one.getTotalLength()); return Math.hypot(end.x - studio.stage.X(+b),
     end.y - studio.stage.Y(+b)) < 1 && one.getPointAtLength(0).x - studio.stage.X(+a) < 1; }).every(Boolean)"""
 # What nodes find in the triangle, whose plan is 2 3 1, once a field is changed. In the first pass node 2 chooses first,
-# then 1, then 3; so in the second it is 3, then 1, then 2.
+# then 1, then 3. In the second the odd channels are first, and so it is 3, then 2, then 1.
 FOUND = [
     (
         "program4",
         "recolouring",
         ["channel 2", "channel 1, was channel 3", "channel 3, was channel 1"],
     ),
-    ("passes", "2", ["channel 2", "channel 3", "channel 1"]),
+    ("passes", "2", ["channel 3, was channel 2", "channel 2, was channel 3", "channel 1"]),
 ]
 
 

@@ -67,7 +67,7 @@ REFUSED = {
         ("the number of bars of 'Ulm' is 1025", SQUARE, {"Ulm": range(1, 1026)}),
         ("the number of nodes is 20001", dict.fromkeys(range(20001), ())),
         ("workers is 0, and has to be from 1 to 64", SQUARE, None, None, 0),
-        ("passes is 4, and has to be from 0 to 3", SQUARE, None, None, None, 4),
+        ("passes is 9, and has to be from 0 to 8", SQUARE, None, None, None, 9),
         ("a channel of the licence is -1", SQUARE, None, [0, -1]),
         ("of the licence is 2049", SQUARE, None, range(2049)),
         ("names a channel twice", SQUARE, None, [36, 36]),

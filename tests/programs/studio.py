@@ -167,7 +167,7 @@ class Refusals(Server):
                 ("picture", {"kind": "results"} | asked, words)
                 for asked, words in (
                     ({"program": "matching passes 2"}, "not for matching"),
-                    ({"program": "recolouring passes 4"}, "there are 1 to 3 passes"),
+                    ({"program": "recolouring passes 9"}, "there are 1 to 8 passes"),
                 )
             ),
             ("steps", {"without": "x"}, "no such rule"),
@@ -454,7 +454,7 @@ class Answers(Server):
         edge, row = "p edge 2 1\ne 1 2\n", "p edge 3 2\ne 1 2\ne 2 3\n"
         for network, asked, wanted in (
             (row, {"program": "matching"}, ["partner none", "partner 1", "partner 0"]),
-            (edge, {"program": "recolouring passes 2"}, ["channel 1", "channel 2"]),
+            (edge, {"program": "recolouring passes 3"}, ["channel 1", "channel 2"]),
             (row, {"program": "layers root 3"}, ["layer 2 by 0", "layer 1 by 1", "layer 0"]),
             (edge, {}, ["channel 1", "channel 2"]),
         ):
@@ -469,7 +469,7 @@ class Answers(Server):
         self.note("without a shift", "<svg" in got["picture"] and got["words"], got["words"])
         all_right = f"{right}, and so do those of all 1,094 networks of up to 5 nodes"
         for program, rule, words, bars in (
-            ("recolouring", "bars", right, [[1], []]),
+            ("recolouring", "bars", right, [[1], [], []]),
             ("matching", "last", all_right, None),
         ):
             got = self.answer("broken", network=edge, program=program, without=rule)["answer"]

@@ -4,7 +4,7 @@ ghost use Rattle.std.specs.Prelude.{◌≡◌, ◌<◌, ◌≤◌, ◌+◌, ◌-
 ghost use Rattle.interference.specs.Net.{IsEdge, IsNetwork, Net, count_of, forest_count_of, greatest_bars_of};
 ghost use Rattle.forests.specs.Forests.{number};
 ghost use Rattle.interference.specs.Net.{greatest_degree_of};
-ghost use Rattle.node_api.specs.Program.{Program, last_pulse_on};
+ghost use Rattle.node_api.specs.Program.{Program, last_pulse_on, sizes_of};
 ghost use Rattle.colour_base.specs.Forest.{IsProper, IsWithin};
 ghost use Rattle.cole_vishkin.specs.BitStep.{bit_steps};
 ghost use Rattle.cole_vishkin.specs.Digits.{HasDigits};
@@ -12,7 +12,7 @@ ghost use Rattle.cole_vishkin.specs.declared.step.TheConstants.{IDENTIFIER_DIGIT
 ghost use Rattle.colour_rules.specs.Program.{colouring};
 ghost use Rattle.matching.specs.Knowing.{matching};
 ghost use Rattle.independent_set.specs.Knowing.{independent_set};
-ghost use Rattle.recolouring.specs.Knowing.{recolouring};
+ghost use Rattle.recolouring.specs.Knowing.{recolouring, sweeps};
 ghost use Rattle.leader.specs.Election.{election};
 ghost use Rattle.layers.specs.Layering.{layering};
 ghost use Rattle.bound_laws.specs.Apart.{OutcomesAreApart, SimulatingAreApart};
@@ -80,13 +80,16 @@ pub fn independent_set_is_bounded()
     rounds_end_with_a_maximal_independent_set();
 }
 
-/// With a pass and any number again, the recolouring takes at most 12 + (3·Δ + 1 + again)·(Δ + B + 1) pulses, and sends
-/// at most 13 + 2·U + 2·(again + 1) payloads over an edge: those of the colouring, and one of each end in each pass.
+/// With a pass and any number again, the recolouring takes at most 12 + (3·Δ + s)·(Δ + B + 1) pulses, and sends at most
+/// 13 + 2·U + 2·s payloads over an edge: those of the colouring, and one of each end in each of the s sweeps, which are
+/// again + 1, and twice as many if a node has bars.
 pub fn recolouring_is_bounded()
     ensures pulses { (again : ℕ) (net : Net) → IsNetwork net → last_pulse_on (recolouring again) net
-        ≤ 12 + (3 * greatest_degree_of net + 1 + again) * (greatest_degree_of net + greatest_bars_of net + 1) }
+        ≤ 12 + (3 * greatest_degree_of net + (again + 1) * sweeps (sizes_of net))
+            * (greatest_degree_of net + greatest_bars_of net + 1) }
     ensures payloads { (again : ℕ) (net : Net) → IsNetwork net
-        → SendsAtMost (recolouring again) net (13 + 2 * forest_count_of net + 2 * (again + 1)) }
+        → SendsAtMost (recolouring again) net
+            (13 + 2 * forest_count_of net + 2 * ((again + 1) * sweeps (sizes_of net))) }
 {
     forest_count_is_the_greatest();
 }

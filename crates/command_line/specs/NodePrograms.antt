@@ -103,6 +103,11 @@ passes_with number =
     if number == 1 then Some passes.One
     else if number == 2 then Some passes.Two
     else if number == 3 then Some passes.Three
+    else if number == 4 then Some passes.Four
+    else if number == 5 then Some passes.Five
+    else if number == 6 then Some passes.Six
+    else if number == 7 then Some passes.Seven
+    else if number == 8 then Some passes.Eight
     else None
 
 -- a program with the passes that are given, if they are; only the recolouring takes them

@@ -16,19 +16,21 @@ use graph_limits::MAX_NODES;
 use std::alloc::{AllocError, Global};
 
 /// The most passes of the recolouring.
-pub const MAX_PASSES: u32 = 3;
+pub const MAX_PASSES: u32 = 8;
 
-const _: () = prove!(MAX_PASSES == 3);
+const _: () = prove!(MAX_PASSES == 8);
 
-/// How often the classes of a plan choose anew.
+/// How often the classes of a plan choose anew: once, twice, and so on.
 #[derive(Clone, Copy, Debug, PartialEq, Eq)]
 pub enum Passes {
-    /// Once.
     One,
-    /// Once, and then again.
     Two,
-    /// Once, and then twice again.
     Three,
+    Four,
+    Five,
+    Six,
+    Seven,
+    Eight,
 }
 
 /// The name of a program of nodes.
@@ -219,6 +221,11 @@ fn passes_with(number: u32) -> Option<Passes>
         1 => Some(Passes::One),
         2 => Some(Passes::Two),
         3 => Some(Passes::Three),
+        4 => Some(Passes::Four),
+        5 => Some(Passes::Five),
+        6 => Some(Passes::Six),
+        7 => Some(Passes::Seven),
+        8 => Some(Passes::Eight),
         _ => None,
     }
 }

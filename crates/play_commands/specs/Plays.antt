@@ -22,7 +22,7 @@ use Rattle.command_line.specs.declared.programs.NodeProgramName.{NodeProgramName
 use Rattle.command_line.specs.declared.programs.NodeProgramName.TheVariants.{Colouring, IndependentSet, Layers, Leader}
 use Rattle.command_line.specs.declared.programs.NodeProgramName.TheVariants.{Matching, Recolouring}
 use Rattle.command_line.specs.declared.programs.Passes.{Passes}
-use Rattle.command_line.specs.declared.programs.Passes.TheVariants.{One, Three, Two}
+use Rattle.command_line.specs.declared.programs.Passes.TheVariants.{Eight, Five, Four, One, Seven, Six, Three, Two}
 use Rattle.command_line.specs.declared.programs.Shown.TheVariants as shown
 use Rattle.command_line.specs.declared.play_request.Play.{Play}
 use Rattle.command_line.specs.declared.play_request.Play.TheVariants.{Alone, Ends, Events, Replay, Rounds, Run}
@@ -79,6 +79,11 @@ abbrev pub again_of : Passes → ℕ
 again_of One = 0
 again_of Two = 1
 again_of Three = 2
+again_of Four = 3
+again_of Five = 4
+again_of Six = 5
+again_of Seven = 6
+again_of Eight = 7
 
 -- the same of the recolouring, with one pass and so many more
 abbrev pub MayPass : ℕ → Play → List ℕ → Result (List ℕ) PlanFault → Type 0

@@ -115,6 +115,11 @@ fn recolouring_bytes<T: Threads + Wait + Sync>(
         Passes::One => passes_bytes::<0, T>(rt, alloc, play, input),
         Passes::Two => passes_bytes::<1, T>(rt, alloc, play, input),
         Passes::Three => passes_bytes::<2, T>(rt, alloc, play, input),
+        Passes::Four => passes_bytes::<3, T>(rt, alloc, play, input),
+        Passes::Five => passes_bytes::<4, T>(rt, alloc, play, input),
+        Passes::Six => passes_bytes::<5, T>(rt, alloc, play, input),
+        Passes::Seven => passes_bytes::<6, T>(rt, alloc, play, input),
+        Passes::Eight => passes_bytes::<7, T>(rt, alloc, play, input),
     }
 }
 

@@ -1,11 +1,12 @@
--- The passes, one after the other: with which colours each begins, and to which the last one leads.
-use Rattle.std.proofs.Common.{◌≡◌, ◌≢◌, ℕ, zero, suc, ◌+◌, ◌*◌, ◌≤◌, ◌==◌, Bool, false, List, [], ap, sym, ◌∙◌, arith, subst}
+-- The sweeps, one after the other: with which colours each begins, and to which the last one leads.
+use Rattle.std.proofs.Common.{◌≡◌, ◌≢◌, ℕ, zero, suc, ◌+◌, ◌-◌, ◌*◌, ◌%◌, ◌≤◌, ◌==◌, Bool, true, false, List, [], ap, sym, ◌∙◌, arith, subst, refl}
 use Rattle.std.proofs.lemmas.Bool.{ne_eqb}
 use Rattle.std.proofs.Math.Nat.{suc-mul}
 use Rattle.std.specs.Prelude.{if◌then◌else◌, map, Contains, Option, None}
-use Rattle.interference.specs.Net.{Net, IsNetwork, IsVertex, bars_of, degree_of, forest_count_of, neighbours, neighbour_of, port_to, span_of}
+use Rattle.interference.specs.Net.{Net, IsBarred, IsNetwork, IsVertex, bars_of, degree_of, forest_count_of, neighbours, neighbour_of, port_to, span_of}
 use Rattle.interference.proofs.Neighbours.{port-of}
 use Rattle.node_api.specs.Boxes.{at_port, nothing}
+use Rattle.node_api.specs.Program.{sizes_of}
 use Rattle.node_api.specs.Run.{after, inbox_from, node_at, state_at}
 use Rattle.node_api.proofs.Runs.{node_at-more, node_at-none}
 use Rattle.followed.specs.Followed.{Both}
@@ -16,14 +17,14 @@ use Rattle.colour_rules.specs.declared.payload.Payload.{Payload}
 use Rattle.colour_rules.specs.Node.{Node}
 use Rattle.colour_rules.specs.Program.{colouring}
 use Rattle.colour_laws.specs.Colours.{colours}
-use Rattle.colour_laws.proofs.Choices.{colours_within}
+use Rattle.colour_laws.proofs.Choices.{colours_unbarred, colours_within}
 use Rattle.colour_laws.proofs.Forests.{has_forest, has_start}
 use Rattle.node_api.proofs.Inboxes.{map-members}
 use Rattle.colour_laws.proofs.Proper.{colours_proper}
 use Rattle.colour_laws.proofs.Starts.{colour_at_last}
 use Rattle.recolouring.specs.declared.anew.Anew.{Anew}
-use Rattle.recolouring.specs.Knowing.{Recoloured, Wire, recolouring, recolours}
-use Rattle.recolouring.specs.ProgramLaws.{at, coloured, cut, one-more, recolours_cut, silent_pass}
+use Rattle.recolouring.specs.Knowing.{Recoloured, Wire, has_bars, recolouring, recolours, rises, sweeps}
+use Rattle.recolouring.specs.ProgramLaws.{at, coloured, cut, one-more, recolours_cut, silent_sweep, sweeps-more}
 use Rattle.recolouring.specs.Texts.{plan_of_passes}
 use Rattle.recolouring.proofs.Plans as plans
 use Rattle.recolouring.proofs.Run as run
@@ -55,14 +56,14 @@ module _ (again : ℕ) (net : Net) (ok : IsNetwork net) where
   abbrev span : ℕ
   span = span_of net
 
-  -- the colour with which a node comes into pass k, and the one that it chooses there
+  -- the colour with which a node comes into sweep k, and the one that it chooses there
   abbrev pub old : ℕ → ℕ → ℕ
   old k v = run.old again net ok k v
 
   abbrev pub new : ℕ → ℕ → ℕ
   new k v = run.new again net ok k v
 
-  -- the pulse after which pass k begins
+  -- the pulse after which sweep k begins
   abbrev start : ℕ → ℕ
   start k = cut net ok + (k * (span + 1) + 0)
 
@@ -72,14 +73,17 @@ module _ (again : ℕ) (net : Net) (ok : IsNetwork net) where
   abbrev Differ : ℕ → Type 0
   Differ k = (v w : ℕ) → IsVertex net v → Contains (neighbours net v) w → old k v ≢ old k w
 
+  abbrev Allowed : ℕ → Type 0
+  Allowed k = (v : ℕ) → IsVertex net v → IsBarred net v (old k v) → ⊥
+
   abbrev Quiet : ℕ → Type 0
   Quiet k = (v : ℕ) → IsVertex net v → (at again net ok (start k) v).1 ≡ nothing (degree_of net v)
 
   next-start : (k : ℕ) → start (suc k) ≡ cut net ok + (k * (span + 1) + suc span)
   next-start k = let e : suc k * (span + 1) ≡ k * (span + 1) + (span + 1) = suc-mul k (span + 1) in omega (arith, e)
 
-  -- the first pass begins with the colours of the network
-  first-old : (v : ℕ) → IsVertex net v → old 0 v ≡ colours net v
+  -- the first sweep begins with the colours of the network
+  pub first-old : (v : ℕ) → IsVertex net v → old 0 v ≡ colours net v
   first-old v is_vertex =
       let s : Recoloured = (at again net ok (start 0) v).0.beside in
       let none : 0 * (span + 1) + 0 ≡ 0 = omega arith in
@@ -96,7 +100,7 @@ module _ (again : ℕ) (net : Net) (ok : IsNetwork net) where
       ((colour_at_last net ok (has_forest net ok) (has_start net ok) v is_vertex).1 ∙ sym (same-for_all None (neighbours net v)))
       ∙ said-nothing {A = Payload} {B = Anew} (degree_of net v)))
 
-  -- each later one with those to which the pass before led
+  -- each later one with those to which the sweep before led
   next-old : (k : ℕ) → Low k → Quiet k → (v : ℕ) → IsVertex net v → old (suc k) v ≡ new k v
   next-old k low quiet v is_vertex =
       let s : Recoloured = (at again net ok (start (suc k)) v).0.beside in
@@ -111,57 +115,109 @@ module _ (again : ℕ) (net : Net) (ok : IsNetwork net) where
   next-quiet k v is_vertex =
       let more : (k + 1) * (span + 1) ≡ k * (span + 1) + (span + 1) = one-more k (span + 1) in
       let same : cut net ok + (k + 1) * (span + 1) ≡ start (suc k) = omega (arith, more, next-start k) in
-      subst (λ (n : ℕ). (at again net ok n v).1 ≡ nothing (degree_of net v)) same (silent_pass again net ok k v is_vertex)
+      subst (λ (n : ℕ). (at again net ok n v).1 ≡ nothing (degree_of net v)) same (silent_sweep again net ok k v is_vertex)
 
-  -- so each begins with colours that are within the span and differ on every edge, and with nothing on its way
-  pub entered : (k : ℕ) → Low k × Differ k × Quiet k
+  -- so each begins with colours that are within the span, differ on every edge and aren't barred, and with nothing on its way
+  pub entered : (k : ℕ) → Low k × Differ k × Allowed k × Quiet k
   entered zero = (
     λ v is_vertex. let low : colours net v ≤ span = colours_within net (has_forest net ok) (forest_count_of net) v in
         omega (arith, first-old v is_vertex, low),
     λ v w is_vertex near same. colours_proper net ok v w is_vertex near
         (sym (first-old v is_vertex) ∙ (same ∙ first-old w (inside-of net ok v w is_vertex near))),
+    λ v is_vertex barred. colours_unbarred net (has_forest net ok) (forest_count_of net) v (subst (IsBarred net v) (first-old v is_vertex) barred),
     first-quiet,
   )
   entered (suc k) =
-      let begun = entered k in (
-        λ v is_vertex. omega (
-          arith,
-          next-old k begun.0 begun.2 v is_vertex,
-          plans.within again net ok k begun.0 begun.1 begun.2 v is_vertex,
-          plans.few again net ok k begun.0 begun.1 begun.2 v,
-        ),
-        λ v w is_vertex near same. plans.proper again net ok k begun.0 begun.1 begun.2 v w is_vertex near
-            (sym (next-old k begun.0 begun.2 v is_vertex) ∙ (same ∙ next-old k begun.0 begun.2 w (inside-of net ok v w is_vertex near))),
+      let begun = entered k in
+      let next : (v : ℕ) → IsVertex net v → old (suc k) v ≡ new k v = next-old k begun.0 begun.3 in (
+        λ v is_vertex. omega (arith, next v is_vertex, plans.new-low again net ok k begun.0 begun.1 begun.2 begun.3 v is_vertex),
+        λ v w is_vertex near same. plans.proper again net ok k begun.0 begun.1 begun.2 begun.3 v w is_vertex near
+            (sym (next v is_vertex) ∙ (same ∙ next w (inside-of net ok v w is_vertex near))),
+        λ v is_vertex barred. plans.unbarred again net ok k begun.0 begun.1 begun.2 begun.3 v is_vertex
+            (subst (IsBarred net v) (next v is_vertex) barred),
         next-quiet k,
       )
 
-  -- the colours after pass k
+  -- the colours after sweep k
   pub at-last : (k v : ℕ) → IsVertex net v → (at again net ok (cut net ok + (k + 1) * (span + 1)) v).0.beside.colour ≡ new k v
   at-last k v is_vertex =
       let begun = entered k in
       let more : (k + 1) * (span + 1) ≡ k * (span + 1) + (span + 1) = one-more k (span + 1) in
       let same : cut net ok + (k + 1) * (span + 1) ≡ cut net ok + (k * (span + 1) + suc span) = omega (arith, more) in
-      ap (λ (n : ℕ). (at again net ok n v).0.beside.colour) same ∙ run.last-colour again net ok k begun.0 begun.2 v is_vertex
+      ap (λ (n : ℕ). (at again net ok n v).0.beside.colour) same ∙ run.last-colour again net ok k begun.0 begun.3 v is_vertex
+
+  -- no sweep leads to a colour above the greatest one with which it begins, nor do several
+  pub no_greater : (greatest k d : ℕ) → ((w : ℕ) → IsVertex net w → old k w ≤ greatest) → (v : ℕ) → IsVertex net v → new (k + d) v ≤ greatest
+  no_greater greatest k zero most v is_vertex =
+      let begun = entered k in
+      let same : k + 0 ≡ k = omega arith in
+      subst (λ (n : ℕ). new n v ≤ greatest) (sym same)
+      (plans.no_greater again net ok k begun.0 begun.1 begun.2 begun.3 greatest most v is_vertex)
+  no_greater greatest k (suc d) most v is_vertex =
+      let n : ℕ = k + d in
+      let before = entered n in
+      let begun = entered (suc n) in
+      let same : k + suc d ≡ suc n = omega arith in
+      subst (λ (m : ℕ). new m v ≤ greatest) (sym same)
+      (plans.no_greater again net ok (suc n) begun.0 begun.1 begun.2 begun.3 greatest
+      (λ w inside. let bound : new n w ≤ greatest = no_greater greatest k d most w inside in
+          omega (arith, next-old n before.0 before.3 w inside, bound))
+      v is_vertex)
+
+  abbrev pub barring : Bool
+  barring = has_bars (sizes_of net)
+
+  -- how many sweeps a pass has
+  abbrev pub size : ℕ
+  size = sweeps (sizes_of net)
+
+  -- the last sweep of pass k, from 0
+  abbrev pub end-of : ℕ → ℕ
+  end-of k = (sweeps-more k (sizes_of net)).0
+
+  -- the last pulse of pass k
+  pulse-end : (k : ℕ) → cut net ok + (end-of k + 1) * (span + 1) ≡ cut net ok + (k + 1) * size * (span + 1)
+  pulse-end k = ap (λ (n : ℕ). cut net ok + n * (span + 1)) (sym (sweeps-more k (sizes_of net)).1)
+
+  pub at-end : (k v : ℕ) → IsVertex net v → (at again net ok (cut net ok + (k + 1) * size * (span + 1)) v).0.beside.colour ≡ new (end-of k) v
+  at-end k v is_vertex =
+      ap (λ (n : ℕ). (at again net ok n v).0.beside.colour) (sym (pulse-end k)) ∙ at-last (end-of k) v is_vertex
+
+  -- the classes don't rise in the last sweep of a pass
+  falls-by : (b : Bool) (k n : ℕ) → n ≡ k * (if b then 2 else 1) + ((if b then 2 else 1) - 1) → rises b n ≡ false
+  falls-by true k n e = ne_eqb (n % 2) 0 (λ even. omega (arith, e, even))
+  falls-by false k n e = refl
+
+  pub falls : (k : ℕ) → rises barring (end-of k) ≡ false
+  falls k = falls-by barring k (end-of k) (sweeps-more k (sizes_of net)).2
+
+  pub end-is : (k : ℕ) → end-of k ≡ k * size + (size - 1)
+  end-is k = (sweeps-more k (sizes_of net)).2
+
+  -- without bars each pass is a sweep
+  one-by : (b : Bool) (k : ℕ) → b ≡ false → k * (if b then 2 else 1) + ((if b then 2 else 1) - 1) ≡ k
+  one-by true k e = absurd cc
+  one-by false k e = omega arith
+
+  pub one-sweep : barring ≡ false → (k : ℕ) → end-of k ≡ k
+  one-sweep none k = end-is k ∙ one-by barring k none
+
+  start-by : (b : Bool) (k : ℕ) → b ≡ false → k ≡ k * (if b then 2 else 1)
+  start-by true k e = absurd cc
+  start-by false k e = omega arith
+
+  pub one-start : barring ≡ false → (k : ℕ) → end-of k ≡ k * size
+  one-start none k = one-sweep none k ∙ start-by barring k none
 
   -- a pass begins with the plan of as many passes
-  pub old-is : (k v : ℕ) → IsVertex net v → old k v ≡ plan_of_passes k net v
-  old-is zero v is_vertex = first-old v is_vertex
+  pub old-is : (k v : ℕ) → IsVertex net v → old (k * size) v ≡ plan_of_passes k net v
+  old-is zero v is_vertex = ap (λ (n : ℕ). old n v) (let e : 0 * size ≡ 0 = omega arith in e) ∙ first-old v is_vertex
   old-is (suc k) v is_vertex =
-      let begun = entered k in
-      next-old k begun.0 begun.2 v is_vertex
-      ∙ (sym (at-last k v is_vertex)
+      let n : ℕ = end-of k in
+      let begun = entered n in
+      let same : suc k * size ≡ suc n = omega (arith, (sweeps-more k (sizes_of net)).1, suc-mul k size, one-more k size) in
+      ap (λ (m : ℕ). old m v) same
+      ∙ (next-old n begun.0 begun.3 v is_vertex
+      ∙ (sym (at-end k v is_vertex)
       ∙ ap (λ (node : Both Node Recoloured × List (Option Wire)). node.0.beside.colour)
-      (same_pulses again k net (cut net ok + (k + 1) * (span + 1)) v))
-
-  -- without bars there are no more colours after a pass than before it, and so no more than in the first plan
-  module _ (none : (w : ℕ) → IsVertex net w → bars_of net w ≡ []) (greatest : ℕ) where
-    pub no_more : (k : ℕ) → ((w : ℕ) → IsVertex net w → old k w ≤ greatest) → (v : ℕ) → IsVertex net v → new k v + old k v ≤ greatest
-    no_more k most v is_vertex =
-        let begun = entered k in plans.no_more again net ok k begun.0 begun.1 begun.2 none greatest most v is_vertex
-
-    pub never_more : ((w : ℕ) → IsVertex net w → colours net w ≤ greatest) → (k v : ℕ) → IsVertex net v → new k v ≤ greatest
-    never_more most zero v is_vertex =
-        omega (arith, no_more 0 (λ w inside. omega (arith, first-old w inside, most w inside)) v is_vertex)
-    never_more most (suc k) v is_vertex =
-        let begun = entered k in
-        omega (arith, no_more (suc k) (λ w inside. omega (arith, next-old k begun.0 begun.2 w inside, never_more most k w inside)) v is_vertex)
+      (same_pulses again k net (cut net ok + (k + 1) * size * (span + 1)) v)))

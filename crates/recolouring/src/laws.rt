@@ -1,6 +1,6 @@
 //! What holds of the last states on every network. The law is the contract of a function that does nothing.
 
-ghost use Rattle.std.specs.Prelude.{◌≡◌, ◌≢◌, ◌+◌, ◌<◌, ◌≤◌, ℕ, [], Contains};
+ghost use Rattle.std.specs.Prelude.{◌≡◌, ◌≢◌, ◌+◌, ◌%◌, ◌<◌, ◌≤◌, ℕ, [], Contains};
 ghost use Rattle.std.specs.FinSet.{FinSet, insert};
 ghost use Rattle.std.specs.Ordering.{nat_cmp};
 ghost use Rattle.interference.specs.Net.{IsBarred, IsEdge, IsNetwork, IsVertex, Net, bars_of, bar_count_of, degree_of};
@@ -16,8 +16,9 @@ ghost use Rattle.recolouring.specs.Texts.{plan_of_passes};
 
 /// In the last state of the synchronous run, after a pass and any number again, the new colours differ on every edge,
 /// none is barred at its node, and each is at most the degree and the bars of its node; each lower colour is barred at
-/// the node or is a neighbour's. If nothing is barred, the sum of a node's colours before and after the last pass is at
-/// most the greatest one before it, so that there are no more than before; nor are there more than in the first plan.
+/// the node or is a neighbour's. None is above the greatest one before the last pass (`no_greater`), nor above the
+/// greatest one of the first plan (`never_more`), with bars, too. If nothing is barred, and the last pass takes the
+/// classes from the greatest down, the sum of a node's colours before and after it is at most the greatest before it.
 pub fn rounds_end_with_a_plan_that_none_can_lower()
     ensures proper { (again : ℕ) (net : Net) → IsNetwork net → (v w : ℕ) → IsEdge net v w
         → (last_state (recolouring again) net v).beside.colour ≢ (last_state (recolouring again) net w).beside.colour }
@@ -29,10 +30,14 @@ pub fn rounds_end_with_a_plan_that_none_can_lower()
         → colour < (last_state (recolouring again) net v).beside.colour → (IsBarred net v colour → ⊥)
         → (w : ℕ) × Contains (neighbours net v) w × ((last_state (recolouring again) net w).beside.colour ≡ colour) }
     ensures no_more { (again : ℕ) (net : Net) → IsNetwork net → ((w : ℕ) → IsVertex net w → bars_of net w ≡ [])
+        → again % 3 ≡ 0
         → (greatest : ℕ) → ((w : ℕ) → IsVertex net w → plan_of_passes again net w ≤ greatest)
         → (v : ℕ) → IsVertex net v
         → (last_state (recolouring again) net v).beside.colour + plan_of_passes again net v ≤ greatest }
-    ensures never_more { (again : ℕ) (net : Net) → IsNetwork net → ((w : ℕ) → IsVertex net w → bars_of net w ≡ [])
+    ensures no_greater { (again : ℕ) (net : Net) → IsNetwork net
+        → (greatest : ℕ) → ((w : ℕ) → IsVertex net w → plan_of_passes again net w ≤ greatest)
+        → (v : ℕ) → IsVertex net v → (last_state (recolouring again) net v).beside.colour ≤ greatest }
+    ensures never_more { (again : ℕ) (net : Net) → IsNetwork net
         → (greatest : ℕ) → ((w : ℕ) → IsVertex net w → colours net w ≤ greatest)
         → (v : ℕ) → IsVertex net v → (last_state (recolouring again) net v).beside.colour ≤ greatest }
 {}

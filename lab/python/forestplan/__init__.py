@@ -2,7 +2,7 @@
 
     plan = forestplan.plan(G)                                     # a dict {node: channel}; in a notebook its picture
     forestplan.plan(G, bars={"Hof": {6}}, licence=[1, 6, 11])     # channels of the licence, and none that is barred
-    forestplan.plan(G, passes=3)                                  # chosen anew three times, mostly fewer channels
+    forestplan.plan(G, passes=8)                                  # chosen anew eight times, mostly fewer channels
     forestplan.check(G, {"Ulm": 1, "Hof": 2})                     # has anybody's plan judged: its greatest channel
     forestplan.sites({"Ulm": (48.4, 10)}, reach=5.5)              # the graph of sites that are near each other
 

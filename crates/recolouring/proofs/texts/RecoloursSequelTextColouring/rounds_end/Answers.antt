@@ -9,7 +9,8 @@ returns g c =
         unbarred = λ v is_vertex. ends.unbarred g.row.AGAIN net ok v is_vertex;
         within = λ v is_vertex. ends.within g.row.AGAIN net ok v is_vertex;
         lowest = λ v colour is_vertex less. ends.lowest g.row.AGAIN net ok v colour is_vertex less;
-        no_more = λ none greatest most. ends.no_more g.row.AGAIN net ok none greatest most;
-        never_more = λ none greatest most. ends.never_more g.row.AGAIN net ok none greatest most;
+        no_more = λ none third greatest most. ends.no_more g.row.AGAIN net ok none third greatest most;
+        no_greater = λ greatest most. ends.no_greater g.row.AGAIN net ok greatest most;
+        never_more = λ greatest most. ends.never_more g.row.AGAIN net ok greatest most;
       };
     }
