@@ -42,9 +42,7 @@ Description-Content-Type: text/plain
         + "".join(f"{one} = forestplan._programs:command\n" for one in COMMANDS),
     }
     path = os.path.join(folder, name)
-    with zipfile.ZipFile(
-        path, "w", zipfile.ZIP_DEFLATED, strict_timestamps=False
-    ) as wheel:
+    with zipfile.ZipFile(path, "w", zipfile.ZIP_DEFLATED, strict_timestamps=False) as wheel:
         for there, here in sorted(files(info)):
             wheel.write(os.path.join(TOP, here), there)
         for one, text in texts.items():
@@ -69,14 +67,10 @@ def files(info):
             for name in names:
                 path = os.path.relpath(os.path.join(at, name), TOP)
                 inner = f"forestplan/installed/{path}"
-                yield path.removeprefix("lab/python/") if path.startswith(
-                    PACKAGE
-                ) else inner, path
+                yield path.removeprefix("lab/python/") if path.startswith(PACKAGE) else inner, path
 
 
 def row(path, data):
     """The line of a file in the list of all files."""
-    digest = (
-        base64.urlsafe_b64encode(hashlib.sha256(data).digest()).rstrip(b"=").decode()
-    )
+    digest = base64.urlsafe_b64encode(hashlib.sha256(data).digest()).rstrip(b"=").decode()
     return f"{path},sha256={digest},{len(data)}\n"

@@ -11,20 +11,18 @@ import pickle
 import random
 import sys
 from concurrent.futures import ProcessPoolExecutor
-from itertools import product
 from xml.etree import ElementTree
 
 from lab import version
 from lab.definitions.colours import colours
-from lab.definitions.programs import program_at
 from lab.definitions.rounds import rounds_text
 from lab.network import Network
 from lab.networks.network_text import network_of
 from lab.pictures.palette import CHANNEL_HUES
-from lab.pictures.program_rounds import ProgramRounds
 from tests import TOP
 from tests.cases import Case, forestlab
 from tests.programs.own_networks import is_near
+from tests.programs.plain_networks import networks_by_chance
 from tests.tools import need
 
 sys.path.append(os.path.join(TOP, "lab", "python"))
@@ -98,34 +96,8 @@ REFUSED = {
 }
 
 
-class Graph:
-    """As networkx has it, as far as the module asks."""
-
-    def __init__(self, nodes, pairs):
-        self.nodes, self.pairs = nodes, pairs
-
-    def __iter__(self):
-        return iter(self.nodes)
-
-    def edges(self):
-        return [(*pair, {}) for pair in self.pairs]
-
-
-def channels_of(network, passes):
-    """The channels of the vertices by the definition."""
-    if not passes:
-        return [c + 1 for _, c in sorted(colours(network).items())]
-    rounds = ProgramRounds(network, program_at("recolouring", passes=passes))
-    return [rounds.nodes[v].present() + 1 for v in network.vertices]
-
-
 def is_proper(graph, plan):
     return all(plan[node] != plan[other] for node in graph for other in graph[node])
-
-
-def neighbours_of(nodes, pairs):
-    """The same graph as a dictionary."""
-    return {node: {other for one, other in pairs if one == node} for node in nodes}
 
 
 class InPython(Case):
@@ -135,39 +107,24 @@ class InPython(Case):
             call()
         return caught.exception
 
-    def test_plans(self):
-        """Plans of graphs by chance are those of the definition, whoever finds them; and `check` accepts them."""
-        source = random.Random(81)
-        for count in range(20):
-            nodes = source.sample(
-                [*"abcdefgh", 1, 2.5, (0, 1), "Bad Tölz", "a b", "", "#1"], source.randint(1, 9)
-            )
-            pairs = [pair for pair in product(nodes, nodes) if source.random() < 0.3]
-            bars = {node: {source.randint(1, 3)} for node in nodes if source.random() < 0.3}
-            graph = Graph(nodes, pairs) if count % 2 else neighbours_of(nodes, pairs)
-            workers, passes = 2 if count % 4 == 0 else None, count % 3
-            got = forestplan.plan(graph, bars, workers=workers, passes=passes)
-            text, order = forestplan.text_of(graph, bars)
-            network = network_of(text.encode())
-            self.same(f"order of plan {count}", order, nodes)
-            channels = channels_of(network, passes)
-            self.same(f"plan {count}", list(got.items()), list(zip(nodes, channels)))
-            edges = {frozenset((order[v - 1], order[w - 1])) for v, w in network.edges}
-            meant = {frozenset(pair) for pair in pairs if pair[0] != pair[1]}
-            self.same(f"edges {count}", edges, meant)
-            self.note(f"check {count}", forestplan.check(graph, got, bars=bars) == max(channels))
+    def test_graphs(self):
+        """Graphs of each class, with each kind of names."""
+        need(self, "networkx")
+        from tests.by_hand.graphs_in_python import wrong_of
+
+        for seed, text in enumerate(networks_by_chance(33, 9)):
+            self.same(f"graph {seed}", wrong_of(seed, text), [])
 
     def test_large(self):
         """A graph of 1,000 nodes is numbered near each other, which nobody sees."""
         source = random.Random(96)
         nodes = source.sample(range(10**6), 1000)
-        pairs = [source.sample(nodes, 2) for _ in range(1500)]
-        graph, number = Graph(nodes, pairs), {node: v for v, node in enumerate(nodes, 1)}
-        wanted = colours(Network(1000, [(number[one], number[other]) for one, other in pairs]))
+        graph = {node: set(source.sample(nodes, 2)) for node in nodes}
+        number = {node: v for v, node in enumerate(nodes, 1)}
+        pairs = {(number[one], number[other]) for one in nodes for other in graph[one] - {one}}
+        wanted = colours(Network(1000, pairs))
         got = forestplan.plan(graph)
-        self.same(
-            "its plan", list(got.items()), [(node, wanted[number[node]] + 1) for node in nodes]
-        )
+        self.same("its plan", list(got.items()), [(v, wanted[number[v]] + 1) for v in nodes])
         self.same("is judged", forestplan.check(graph, got), max(wanted.values()) + 1)
         text, order = forestplan.text_of(graph)
         self.note("its numbers", is_near(network_of(text.encode())) and order != nodes)
@@ -313,7 +270,7 @@ class InPython(Case):
             self.note(f"examples of {module}", not done.failed and done.attempted, done)
 
     def test_notebook(self):
-        """Each cell of the notebook writes what is stored below it; those with networkx only if that is installed."""
+        """Each cell of the notebook leaves what is stored below it; those with networkx only if that is installed."""
         with open(NOTEBOOK, encoding="utf-8") as file:
             cells = [cell for cell in json.load(file)["cells"] if cell["cell_type"] == "code"]
         known = {"__name__": "notebook"}
@@ -321,43 +278,25 @@ class InPython(Case):
             code = "".join(cell["source"])
             if "networkx" in code:
                 need(self, "networkx")
-            said, result = run_cell(code, known)
-            stored = "".join(
-                "".join(out.get("text", ""))
-                for out in cell["outputs"]
-                if out["output_type"] == "stream"
-            )
-            self.note(f"cell {count}: what it prints", said == stored, (said, stored))
-            shown = next(
-                (out["data"] for out in cell["outputs"] if out["output_type"] == "execute_result"),
-                {},
-            )
-            words = repr(result) if result is not None else ""
-            self.note(
-                f"cell {count}: its result",
-                words == "".join(shown.get("text/plain", "")),
-                (words, shown),
-            )
-            picture = result._repr_svg_() if hasattr(result, "_repr_svg_") else ""
-            self.note(
-                f"cell {count}: its picture",
-                picture == "".join(shown.get("image/svg+xml", "")),
-                picture[:300],
-            )
+            stored = [joined(out.get("data") or {"": out["text"]}) for out in cell["outputs"]]
+            self.same(f"cell {count}", run_cell(code, known), stored)
         self.note("cells", len(cells) > 6, len(cells))
 
 
+def joined(texts):
+    return {kind: "".join(lines) for kind, lines in texts.items()}
+
+
 def run_cell(code, known):
-    """What a cell prints, and the value of its last line if that is an expression, as Jupyter has it."""
+    """What a cell prints, and the value of its last line if that is an expression, as Jupyter has them."""
     tree, result = ast.parse(code), None
-    last = tree.body.pop() if tree.body and isinstance(tree.body[-1], ast.Expr) else None
-    before, said = os.getcwd(), io.StringIO()
-    os.chdir(os.path.dirname(NOTEBOOK))
-    try:
-        with contextlib.redirect_stdout(said):
-            exec(compile(tree, "cell", "exec"), known)
-            if last:
-                result = eval(compile(ast.Expression(last.value), "cell", "eval"), known)
-    finally:
-        os.chdir(before)
-    return said.getvalue(), result
+    last = tree.body.pop() if isinstance(tree.body[-1], ast.Expr) else None
+    said = io.StringIO()
+    with contextlib.chdir(os.path.dirname(NOTEBOOK)), contextlib.redirect_stdout(said):
+        exec(compile(tree, "cell", "exec"), known)
+        if last:
+            result = eval(compile(ast.Expression(last.value), "cell", "eval"), known)
+    shown = {} if result is None else {"text/plain": repr(result)}
+    if hasattr(result, "_repr_svg_"):
+        shown["image/svg+xml"] = result._repr_svg_()
+    return [out for out in ({"": said.getvalue()}, shown) if any(out.values())]

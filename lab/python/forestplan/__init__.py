@@ -13,13 +13,14 @@ count. Only the text that is written here, and what is read of the answer, is no
 What is no graph, no list or no whole number raises TypeError, and what is out of its bounds ValueError; what a program
 refuses raises `Refused`, a ValueError, too. If a program isn't built, FileNotFoundError is raised."""
 import tempfile
-from collections.abc import Iterable, Mapping, Sequence
+from collections.abc import Iterable, Mapping
 from typing import Any, NamedTuple
 
 from forestplan._graphs import (
     MAX_PASSES,
     MAX_WORKERS,
     Bars,
+    Channels,
     Licence,
     Node,
     Sites,
@@ -89,11 +90,7 @@ class Refused(ValueError):
     channel it lacks, and `plan` is the plan that was found, with channels from 1."""
 
     def __init__(
-        self,
-        words: str,
-        code: str = "",
-        nodes: Iterable[Node] = (),
-        plan: "Plan | None" = None,
+        self, words: str, code: str = "", nodes: Iterable[Node] = (), plan: "Plan | None" = None
     ):
         super().__init__(words)
         self.words, self.code, self.nodes, self.plan = words, code, list(nodes), plan
@@ -126,18 +123,14 @@ class Plan(_Answer, dict[Node, int]):
     @property
     def text(self) -> str:
         rows = [
-            f"{v} {self.licence.needed(node, self[node])}\n"
-            for v, node in enumerate(self.order, 1)
+            f"{v} {self.licence.needed(node, self[node])}\n" for v, node in enumerate(self.order, 1)
         ]
         return "plan\n" + "".join(rows)
 
     @property
     def title(self) -> str:
         used = sorted(
-            {
-                (self.licence.needed(node, channel), channel)
-                for node, channel in self.items()
-            }
+            {(self.licence.needed(node, channel), channel) for node, channel in self.items()}
         )
         return "graph" + "".join(f", {k} is {real}" for k, real in used if k != real)
 
@@ -146,10 +139,7 @@ class Plan(_Answer, dict[Node, int]):
         `networkx.draw(G, nodelist=list(plan), node_color=list(plan.colours().values()), labels=plan)`. Channels 9 to 16
         have those of 1 to 8, and so on: draw the channels, too."""
         hue = of_lab("pictures", "palette").channel_hue
-        return {
-            node: hue(self.licence.needed(node, channel))
-            for node, channel in self.items()
-        }
+        return {node: hue(self.licence.needed(node, channel)) for node, channel in self.items()}
 
 
 class Rounds(_Answer, list[Pulse]):
@@ -165,11 +155,7 @@ class Transcript(_Answer, list[Entry]):
 
 
 def plan(
-    G: Any,
-    bars: Bars | None = None,
-    licence: Sequence[int] | None = None,
-    workers: int | None = None,
-    passes: int = 0,
+    G: Any, bars: Bars = None, licence: Channels = None, workers: int | None = None, passes: int = 0
 ) -> Plan:
     """A plan, in which neighbours have different channels.
 
@@ -183,11 +169,7 @@ def plan(
 
     Raises `Refused` if it takes more channels than the licence has, or if a node has more than 1,023 neighbours.
     """
-    more = (
-        []
-        if workers is None
-        else ["--workers", str(whole(workers, "workers", 1, MAX_WORKERS))]
-    )
+    more = [] if workers is None else ["--workers", str(whole(workers, "workers", 1, MAX_WORKERS))]
     command = ["forestplan", "plan" if more else "plain"]
     if many := whole(passes, "passes", 0, MAX_PASSES):
         command = ["forestplay", "run" if more else "alone"]
@@ -195,31 +177,20 @@ def plan(
     found = Plan()
     found.network, found.order, text = _asked([*command, *more], G, bars, licence)
     lines = text.removeprefix("plan\n").splitlines()
-    number = {
-        node: int(line.split()[-1])
-        for node, line in zip(found.order, lines, strict=True)
-    }
+    number = {node: int(line.split()[-1]) for node, line in zip(found.order, lines, strict=True)}
     allowed, most = Licence(licence), max(number.values(), default=0)
     found.update((node, number[node]) for node in dict.fromkeys([*G, *found.order]))
     if licence is not None and most > len(licence):
         words = f"the plan takes {most} channels, and the licence has {len(licence)}"
         raise Refused(
-            words,
-            "licence",
-            (node for node in found if found[node] > len(licence)),
-            found,
+            words, "licence", (node for node in found if found[node] > len(licence)), found
         )
     found.licence = allowed
     found.update((node, allowed.real(k)) for node, k in found.items())
     return found
 
 
-def check(
-    G: Any,
-    plan: Mapping,
-    bars: Bars | None = None,
-    licence: Sequence[int] | None = None,
-) -> int:
+def check(G: Any, plan: Mapping, bars: Bars = None, licence: Channels = None) -> int:
     """Has a plan judged, whoever made it: returns how many channels it takes, counted from 1 to the greatest.
 
     >>> check({"Ulm": ["Aue"], "Aue": []}, {"Ulm": 2, "Aue": 1})
@@ -236,49 +207,33 @@ def check(
     for node in plan:
         if node not in number:
             raise ValueError(f"the plan has {node!r}, which is no node of the graph")
-    rows = [
-        f"{number[node]} {allowed.needed(node, channel)}\n"
-        for node, channel in plan.items()
-    ]
+    rows = [f"{number[node]} {allowed.needed(node, channel)}\n" for node, channel in plan.items()]
     return int(
-        _called(
-            ["forestplan", "check"], f"{network}plan\n{''.join(rows)}", order
-        ).split()[1]
+        _called(["forestplan", "check"], f"{network}plan\n{''.join(rows)}", order).split()[1]
     )
 
 
-def rounds(
-    G: Any, bars: Bars | None = None, licence: Sequence[int] | None = None
-) -> Rounds:
+def rounds(G: Any, bars: Bars = None, licence: Channels = None) -> Rounds:
     """The rounds of the algorithm, all nodes at once, a `Pulse` each. Of a large graph they are a long list.
 
     >>> [pulse.phase for pulse in rounds({"Ulm": []})][:2]
     ['greet', 'orient']
     """
     found = Rounds()
-    found.network, order, found.text = _asked(
-        ["forestplay", "rounds"], G, bars, licence
-    )
+    found.network, order, found.text = _asked(["forestplay", "rounds"], G, bars, licence)
     for line in found.text.splitlines()[1:]:
         fields = line.split()
         if fields[0] == "pulse":
             found.append(Pulse(int(fields[1]), " ".join(fields[2:]), [], []))
         elif fields[1] == "put":
             sender, receiver = order[int(fields[0]) - 1], order[int(fields[2]) - 1]
-            found[-1].messages.append(
-                Message(sender, receiver, fields[5], int(fields[6]))
-            )
+            found[-1].messages.append(Message(sender, receiver, fields[5], int(fields[6])))
         else:
             found[-1].states.append((order[int(fields[0]) - 1], " ".join(fields[1:])))
     return found
 
 
-def transcript(
-    G: Any,
-    bars: Bars | None = None,
-    workers: int = 2,
-    licence: Sequence[int] | None = None,
-) -> Transcript:
+def transcript(G: Any, bars: Bars = None, workers: int = 2, licence: Channels = None) -> Transcript:
     """A run without a clock, by worker threads: all events, an `Entry` each, in an order in which they were possible.
     Two calls differ, as runs do, unless there is one worker.
 
@@ -302,20 +257,16 @@ def colour_map(channels: int = 8) -> Any:
     from matplotlib.colors import ListedColormap
 
     hue = of_lab("pictures", "palette").channel_hue
-    return ListedColormap(
-        [hue(channel + 1) for channel in range(channels)], "forestplan"
-    )
+    return ListedColormap([hue(channel + 1) for channel in range(channels)], "forestplan")
 
 
-def _asked(
-    words: list[str], G: Any, bars: Bars | None, licence: Sequence[int] | None
-) -> tuple[str, list[Node], str]:
+def _asked(words, G, bars, licence):
     """A graph as the programs read it, its nodes in the order of their numbers, and what a program writes of it."""
     network, order = text_of(G, bars, licence)
     return network, order, _called(words, network, order)
 
 
-def _called(words: list[str], text: str, order: list[Node]) -> str:
+def _called(words, text, order):
     """What a program writes of a text in which nodes have numbers of this order."""
     status, out, said = called([program_at(words[0]), *words[1:]], text)
     if not status:
@@ -325,11 +276,7 @@ def _called(words: list[str], text: str, order: list[Node]) -> str:
     if told is None:
         raise RuntimeError(f"{words[0]} has ended with status {status}: {said}")
     what, *numbers = fault.split()[1:] or [""]
-    nodes = (
-        [order[int(number) - 1] for number in numbers]
-        if what.startswith("vert")
-        else []
-    )
+    nodes = [order[int(number) - 1] for number in numbers] if what.startswith("vert") else []
     meant = "\n".join(codes.tell_code(told))
     if nodes:
         named = " and ".join(map(repr, nodes))

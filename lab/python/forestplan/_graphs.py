@@ -6,7 +6,8 @@ from typing import Any
 from forestplan._programs import of_lab
 
 Node = Hashable
-Bars = Mapping[Any, Iterable[int]]
+Bars = Mapping[Any, Iterable[int]] | None
+Channels = Sequence[int] | None
 
 # The programs' limits.
 MAX_NODES = 20000
@@ -19,10 +20,9 @@ MAX_PASSES = 8
 MAX_REAL = 10**12
 
 
-def bounded(value: Any, what: str, least: float, most: float, kind: type = numbers.Real) -> Any:
+def bounded(value, what, least, most, kind=numbers.Real):
     """A number in these bounds; a truth value is none."""
-    is_number = isinstance(value, kind) and not isinstance(value, bool)
-    if not is_number:
+    if isinstance(value, bool) or not isinstance(value, kind):
         whole = "whole " if kind is numbers.Integral else ""
         raise TypeError(f"{what} is {value!r}, and has to be a {whole}number")
     if not least <= value <= most:
@@ -30,7 +30,7 @@ def bounded(value: Any, what: str, least: float, most: float, kind: type = numbe
     return value
 
 
-def whole(value: Any, what: str, least: int, most: int) -> int:
+def whole(value, what, least, most):
     return int(bounded(value, what, least, most, numbers.Integral))
 
 
@@ -38,7 +38,7 @@ class Licence:
     """The channels that all may use, in order of preference. Channel k of a program is the k-th of them; without a
     licence it is k itself."""
 
-    def __init__(self, channels: Sequence[int] | None):
+    def __init__(self, channels):
         self.channels = channels
         if channels is None:
             return
@@ -52,20 +52,20 @@ class Licence:
         if len(self.counted) < len(channels):
             raise ValueError("the licence names a channel twice")
 
-    def number(self, channel: Any, what: str) -> int | None:
+    def number(self, channel, what):
         """Which channel of a program it is; None if the licence lacks it."""
         if self.channels is None:
             return whole(channel, what, 1, MAX_CHANNEL)
         return self.counted.get(whole(channel, what, 0, MAX_REAL))
 
-    def needed(self, node: Node, channel: Any) -> int:
+    def needed(self, node, channel):
         """The same of the channel of a node, which the licence has to have."""
         found = self.number(channel, f"the channel of {node!r}")
         if found is None:
             raise ValueError(f"{node!r} has channel {channel!r}, which isn't in the licence")
         return found
 
-    def real(self, k: int) -> int:
+    def real(self, k):
         """Channel k of a program."""
         return k if self.channels is None else self.channels[k - 1]
 
@@ -79,9 +79,7 @@ class Sites(dict[Node, list[Node]]):
         self.places: dict[Node, tuple[float, float]] = {}
 
 
-def text_of(
-    G: Any, bars: Bars | None = None, licence: Sequence[int] | None = None
-) -> tuple[str, list[Node]]:
+def text_of(G: Any, bars: Bars = None, licence: Channels = None) -> tuple[str, list[Node]]:
     """The graph as the programs read it, and its nodes in the order of their numbers. Raises TypeError and ValueError,
     as `plan` does."""
     pairs = pairs_of(G)
@@ -101,28 +99,26 @@ def text_of(
     return "\n".join(lines) + "\n", order
 
 
-def lines_of_nodes(G: Any, given: list[Node], number: dict[Node, int]) -> list[str]:
+def lines_of_nodes(G, given, number):
     """The places of sites, and identifiers, which count the nodes as they are given."""
     places = G.places if isinstance(G, Sites) else {}
     lines = [f"c at {number[v]} {x:.3f} {y:.3f}" for v, (x, y) in places.items() if v in number]
     return lines + [f"i {number[v]} {k}" for k, v in enumerate(given, 1) if number[v] != k]
 
 
-def near_order(given: list[Node], pairs: list[tuple[Node, Node]]) -> list[Node]:
+def near_order(given, pairs):
     """The nodes as they are given; those of a large graph near their neighbours. Their identifiers stay."""
     near = of_lab("networks", "near")
     if len(given) < near.LARGE:
         return given
-    neighbours: dict[Node, dict[Node, None]] = {node: {} for node in given}
+    neighbours = {node: {} for node in given}
     for one, other in pairs:
         if one != other:
             neighbours[one][other] = neighbours[other][one] = None
     return near.near_order(neighbours)
 
 
-def barred_in(
-    bars: Bars | None, number: dict[Node, int], licence: Licence
-) -> list[tuple[int, int]]:
+def barred_in(bars, number, licence):
     """The numbers of nodes and of the channels that are barred at them, ascending."""
     if not isinstance(bars, Mapping | None):
         raise TypeError(
@@ -143,7 +139,7 @@ def barred_in(
     return sorted(found)
 
 
-def pairs_of(G: Any) -> list[tuple[Node, Node]]:
+def pairs_of(G):
     """The edges of a graph of networkx, or of a dict of lists."""
     if callable(getattr(G, "edges", None)):
         return [(one, other) for one, other, *_ in G.edges()]
@@ -155,7 +151,7 @@ def pairs_of(G: Any) -> list[tuple[Node, Node]]:
     return [(one, other) for one, several in G.items() for other in neighbours_in(G, one, several)]
 
 
-def neighbours_in(G: Mapping, one: Node, several: Any) -> list[Node]:
+def neighbours_in(G, one, several):
     """The neighbours of a node of a dict: each once, and each with an entry of its own."""
     found = list(items(several, f"neighbours of {one!r}"))
     for other in found:
@@ -166,7 +162,7 @@ def neighbours_in(G: Mapping, one: Node, several: Any) -> list[Node]:
     return found
 
 
-def items(several: Any, what: str) -> Iterable:
+def items(several, what):
     """What is in a list or a set; a text isn't taken letter by letter."""
     is_other = isinstance(several, (str, bytes, Mapping))
     if is_other or not isinstance(several, Iterable):

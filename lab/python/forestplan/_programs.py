@@ -4,7 +4,6 @@ import importlib.util
 import os
 import subprocess
 import sys
-from types import ModuleType
 
 HERE = os.path.dirname(os.path.realpath(__file__))
 
@@ -14,60 +13,45 @@ def home() -> str:
     that this file is in.
 
     Raises FileNotFoundError if there is none."""
-    for folder in (
-        os.path.join(HERE, "installed"),
-        os.path.join(HERE, "..", "..", ".."),
-    ):
+    for folder in (os.path.join(HERE, "installed"), os.path.join(HERE, "..", "..", "..")):
         if os.path.isfile(os.path.join(folder, "lab", "programs.py")):
             return os.path.realpath(folder)
-    raise FileNotFoundError(
-        "there is no folder of forestplan that is installed or built"
-    )
+    raise FileNotFoundError("there is no folder of forestplan that is installed or built")
 
 
-def program_at(name: str) -> str:
+def program_at(name):
     """The file of a program. Raises FileNotFoundError if it isn't built."""
-    places = (
-        os.path.join(home(), *parts, name)
-        for parts in (("crates", name, "out"), ("lib",))
-    )
+    places = (os.path.join(home(), *parts, name) for parts in (("crates", name, "out"), ("lib",)))
     found = next((place for place in places if os.access(place, os.X_OK)), None)
     if found is None:
         raise FileNotFoundError(f"{name} isn't built in {home()}")
     return found
 
 
-def called(words: list[str], text: str) -> tuple[int, str, str]:
+def called(words, text):
     """The status and both outputs of a process that reads a text."""
-    done = subprocess.run(
-        words, input=text.encode("utf-8", "replace"), capture_output=True
-    )
-    return (
-        done.returncode,
-        done.stdout.decode(),
-        done.stderr.decode("utf-8", "replace").strip(),
-    )
+    done = subprocess.run(words, input=text.encode("utf-8", "replace"), capture_output=True)
+    return (done.returncode, done.stdout.decode(), done.stderr.decode("utf-8", "replace").strip())
 
 
-def lab_called(words: list[str], text: str) -> tuple[int, str, str]:
+def lab_called(words, text):
     """The same of a command of forestlab."""
     return called([sys.executable, "-S", os.path.join(home(), "lab"), *words], text)
 
 
 @functools.cache
-def of_lab(*parts: str) -> ModuleType:
+def of_lab(*parts):
     """A module of lab/ that stands alone; the package `lab` itself isn't imported, since users may have one of that
     name."""
     spec = importlib.util.spec_from_file_location(
         f"forestplan.lab.{parts[-1]}", os.path.join(home(), "lab", *parts) + ".py"
     )
-    assert spec and spec.loader
     module = importlib.util.module_from_spec(spec)
     spec.loader.exec_module(module)
     return module
 
 
-def command() -> None:
+def command():
     """What pip puts on the PATH as forestplan, forestplay and forestlab: the script of this name in place of this
     process."""
     name = os.path.basename(sys.argv[0])

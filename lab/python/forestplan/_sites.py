@@ -2,16 +2,12 @@
 from collections.abc import Mapping
 from typing import Any
 
-from forestplan._graphs import MAX_EDGES, Node, Sites, bounded
+from forestplan._graphs import MAX_EDGES, Sites, bounded
 from forestplan._programs import of_lab
 
 FAR = (-1e9, 1e9)
 # What a place is in: what makes kilometres of it, and the bounds of its two numbers.
-UNITS = {
-    "degrees": (1, (-90, 90), (-180, 360)),
-    "km": (1, FAR, FAR),
-    "m": (0.001, FAR, FAR),
-}
+UNITS = {"degrees": (1, (-90, 90), (-180, 360)), "km": (1, FAR, FAR), "m": (0.001, FAR, FAR)}
 
 
 def sites(places: Mapping[Any, Any], reach: float, unit: str = "degrees") -> Sites:
@@ -26,17 +22,13 @@ def sites(places: Mapping[Any, Any], reach: float, unit: str = "degrees") -> Sit
     Raises TypeError of what is no place, and ValueError of another unit, of what is out of its bounds, and of more than
     400,000 edges."""
     if not isinstance(places, Mapping):
-        raise TypeError(
-            f"places are {places!r}, and have to be a dict with the place of each site"
-        )
+        raise TypeError(f"places are {places!r}, and have to be a dict with the place of each site")
     if unit not in UNITS:
         raise ValueError(f"unit is {unit!r}, and has to be one of {', '.join(UNITS)}")
     bounded(reach, "reach", 1e-6, 20000)
     near, found = of_lab("networks", "places"), Sites(places)
     known = {
-        site: place_of(site, place, unit)
-        for site, place in places.items()
-        if place is not None
+        site: place_of(site, place, unit) for site, place in places.items() if place is not None
     }
     names, is_globe = list(known), unit == "degrees"
     if is_globe:
@@ -52,7 +44,7 @@ def sites(places: Mapping[Any, Any], reach: float, unit: str = "degrees") -> Sit
     return found
 
 
-def place_of(site: Node, place: Any, unit: str) -> tuple[float, float]:
+def place_of(site, place, unit):
     """A place in degrees or in kilometres."""
     factor, *bounds = UNITS[unit]
     try:
@@ -60,8 +52,5 @@ def place_of(site: Node, place: Any, unit: str) -> tuple[float, float]:
     except (TypeError, ValueError):
         what = f"the place of {site!r} is {place!r}, and has to be two numbers"
         raise TypeError(what) from None
-    x, y = (
-        factor * bounded(one, f"the place of {site!r}", *bound)
-        for one, bound in zip((x, y), bounds)
-    )
-    return x, y
+    both = zip((x, y), bounds)
+    return [factor * bounded(one, f"the place of {site!r}", *bound) for one, bound in both]
