@@ -16,7 +16,7 @@ from tests.programs.plain_networks import networks_by_chance
 from tests.programs.sequels import channels
 
 GRAPHS, NODES, SEED = 5000, 30, 95
-PROCESSES = 2
+PROCESSES = 1
 
 
 class Own(networkx.Graph):
