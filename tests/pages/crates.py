@@ -59,7 +59,6 @@ UNCITED = {
     "interference": {"count-le", "count-lt", "degree_in-le", "place_more", "starts_from"},
     "link_rule": {"stops"},
     "lone_runs": {"stuck_all", "stuck_first", "stuck_none"},
-    "node_api": {"get-replicate", "get-set_same", "made-none", "read-none"},
     "node_pool": {"beside_more", "each_more", "longer", "rows_more"},
     "outcomes": {"as_long", "no_rows_met", "none_met", "slot_found", "slot_same"},
     "stamps": {"KeepsStamps-prop", "entry_more", "more_stamp"},

@@ -109,7 +109,7 @@ impl Sequel<Counted<3>> for Pauses {
         &mut self,
         _first: &Counted<3>,
         pulse: u32,
-        _inbox: &mut Inbox<Said<Best, Paused>>,
+        _inbox: &Inbox<Said<Best, Paused>>,
         _out: &mut Outbox<Said<Best, Paused>>,
     ) -> Result<(), Refused> {
         self.made = pulse;

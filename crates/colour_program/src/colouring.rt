@@ -48,20 +48,17 @@ impl Colouring {
     fn take_pulse(
         &mut self,
         pulse: u32,
-        inbox: &mut Inbox<Payload>,
+        inbox: &Inbox<Payload>,
         out: &mut Outbox<Payload>,
     ) -> Result<(), Refused>
-        requires rewound { inbox.old.cursor ≡ 0 }
-        requires inbox { length inbox.old.slots ≡ ports self.old }
+        requires inbox { length inbox.now.slots ≡ ports self.old }
         requires out { out.old ≡ nothing (ports self.old) }
-        ensures answer { Matches result (next self.old pulse inbox.old.slots) (self.new, out.new) }
+        ensures answer { Matches result (next self.old pulse inbox.now.slots) (self.new, out.new) }
         ensures refused { OnErr result ((self.new ≡ self.old) × (out.new ≡ out.old)) }
-        ensures inbox { inbox.new.slots ≡ inbox.old.slots }
     {
         if self.node.hear(self.idle, pulse, inbox) {
             return Ok(());
         }
-        inbox.rewind();
         self.idle = self.node.pulse(pulse, inbox, out)?;
         Ok(())
     }

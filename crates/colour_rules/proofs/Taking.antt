@@ -5,7 +5,7 @@ use Rattle.std.specs.Ordering.{nat_cmp}
 use Rattle.std.specs.FinSet.{FinSet, insert}
 use Rattle.std.proofs.lemmas.Bool.Decides.{nat_tests}
 use Rattle.node_api.specs.Boxes.{HasFrom, Mail, Reads, at_port, unread}
-use Rattle.node_api.proofs.Reading.{fold_rest, fold_rest-read, fold_rest-end}
+use Rattle.node_api.proofs.Reading.{fold_rest-read, fold_rest-end}
 use Rattle.forests.specs.declared.numbering.Role.{Role}
 use Rattle.forests.specs.declared.numbering.Role.TheVariants.{Unknown, Up, Down}
 use Rattle.node_api.specs.Program.{span}
@@ -64,9 +64,8 @@ module _ (node : Node) (f : ℕ) (slots : List (Option Payload)) (same : length 
   passed-fine passed s some = (looked-end node (Merge f s) slots same [] (passed s some)).0
 
 -- one colour came, and nothing else
-pub one-taken : (set : FinSet nat_cmp) (old new : Mail Payload) (c : ℕ) → old ≡ unread old.slots → Reads old (Chosen c) new →
-    (HasFrom new.slots new.cursor → ⊥) → insert set c ≡ with_chosen set old.slots
-one-taken set old new c first reads end =
+pub one-taken : (set : FinSet nat_cmp) (slots : List (Option Payload)) (new : Mail Payload) (c : ℕ) → Reads (unread slots) (Chosen c) new →
+    (HasFrom new.slots new.cursor → ⊥) → insert set c ≡ with_chosen set slots
+one-taken set slots new c reads end =
     sym (fold_rest-end taken_in new (insert set c) end)
-    ∙ (sym (fold_rest-read taken_in old (Chosen c) new set reads)
-    ∙ (ap (fold_rest taken_in set) first ∙ with_chosen-fold set 0 old.slots))
+    ∙ (sym (fold_rest-read taken_in (unread slots) (Chosen c) new set reads) ∙ with_chosen-fold set 0 slots)

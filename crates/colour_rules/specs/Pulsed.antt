@@ -1,6 +1,6 @@
 -- What a node is given at a pulse, and what it leaves.
 use Rattle.std.specs.Prelude.{◌≡◌, ℕ, List, Option, length, Result, IfOk, OnErr}
-use Rattle.node_api.specs.Boxes.{Mail, nothing}
+use Rattle.node_api.specs.Boxes.{nothing}
 use Rattle.node_api.specs.Program.{Matches}
 use Rattle.node_api.specs.declared.program.Refused.{Refused}
 use Rattle.colour_rules.specs.declared.idle.IdlePulses.{IdlePulses}
@@ -9,10 +9,9 @@ use Rattle.colour_rules.specs.Idle.{IsIdle, IsWaiting}
 use Rattle.colour_rules.specs.Node.{Node, ports}
 use Rattle.colour_rules.specs.Program.{next}
 
--- an inbox with a slot for each port, of which nothing has been read, and an outbox in which nothing is
-pub record HasBoxes (node : Node) (mail : Mail Payload) (box : List (Option Payload)) : Type 0 where
-  pub rewound : mail.cursor ≡ 0
-  pub inbox : length mail.slots ≡ ports node
+-- an inbox with a slot for each port, and an outbox in which nothing is
+pub record HasBoxes (node : Node) (slots box : List (Option Payload)) : Type 0 where
+  pub inbox : length slots ≡ ports node
   pub out : box ≡ nothing (ports node)
 
 -- What a pulse makes of a node and its outbox when this came: what the program says, or a refusal with both as before.

@@ -1,7 +1,7 @@
 //! A step of the merging of a forest with those before it.
 ghost use Rattle.std.specs.Prelude.{◌≡◌, ◌<◌, ◌≤◌, ◌*◌, ◌↔◌, ℕ, IsTrue, Some, None, [], true, if◌then◌else◌, length};
 ghost use Rattle.forest_merge.specs.Free.{HasFree};
-ghost use Rattle.node_api.specs.Boxes.{at_port, nothing, unread};
+ghost use Rattle.node_api.specs.Boxes.{at_port, nothing};
 ghost use Rattle.node_api.specs.Program.{span};
 ghost use Rattle.colour_rules.specs.declared.payload.Payload.TheVariants.{Chosen};
 ghost use Rattle.colour_rules.specs.declared.phase.Phase.TheVariants.{Merge};
@@ -17,14 +17,13 @@ use forest_merge::ColourSet;
 use node_api::{Inbox, Outbox};
 
 // Puts the colours that came as chosen into a set.
-pub(crate) fn add_chosen<const N: usize>(chosen: &mut ColourSet<N>, inbox: &mut Inbox<Payload>)
-    requires unread { inbox.old ≡ unread inbox.old.slots }
-    requires colours { (port c : ℕ) → at_port inbox.old.slots port ≡ Some (Chosen c) → c < 64 * N }
-    ensures chosen { chosen.new ≡ with_chosen chosen.old inbox.old.slots }
-    ensures slots { inbox.new.slots ≡ inbox.old.slots }
+pub(crate) fn add_chosen<const N: usize>(chosen: &mut ColourSet<N>, inbox: &Inbox<Payload>)
+    requires colours { (port c : ℕ) → at_port inbox.now.slots port ≡ Some (Chosen c) → c < 64 * N }
+    ensures chosen { chosen.new ≡ with_chosen chosen.old inbox.now.slots }
 {
-    while inbox.has_next() {
-        if let Payload::Chosen(colour) = inbox.next() {
+    let mut reader = inbox.reader();
+    while reader.has_next() {
+        if let Payload::Chosen(colour) = reader.next() {
             chosen.add(colour.get());
         }
     }
@@ -49,14 +48,12 @@ impl ColourNode {
     }
 
     // Whether the node has to choose at this step and every colour is taken.
-    pub(crate) fn has_no_choice(&self, forest: u16, step: u32, inbox: &mut Inbox<Payload>) -> bool
+    pub(crate) fn has_no_choice(&self, forest: u16, step: u32, inbox: &Inbox<Payload>) -> bool
         requires forest { forest < self.now.sizes.forests }
         requires step { step < steps self.now.sizes }
-        requires unread { inbox.old ≡ unread inbox.old.slots }
-        requires colours { ChosenWithin (span self.now.sizes) inbox.old.slots }
-        ensures refused { let rule = own_rule self.now (Merge forest step) inbox.old.slots in
+        requires colours { ChosenWithin (span self.now.sizes) inbox.now.slots }
+        ensures refused { let rule = own_rule self.now (Merge forest step) inbox.now.slots in
             rule ≡ (if result then Some COLOUR_RANGE else None) }
-        ensures slots { inbox.new.slots ≡ inbox.old.slots }
     {
         if !self.chooses(forest, step) {
             return false;
@@ -65,12 +62,10 @@ impl ColourNode {
     }
 
     // Whether neighbours have left a colour free in the forest, with what came at this step of it.
-    fn has_free_at(&self, step: u32, inbox: &mut Inbox<Payload>) -> bool
-        requires unread { inbox.old ≡ unread inbox.old.slots }
-        requires colours { ChosenWithin (span self.now.sizes) inbox.old.slots }
-        ensures free { let here = with_heard self.now step inbox.old.slots in
+    fn has_free_at(&self, step: u32, inbox: &Inbox<Payload>) -> bool
+        requires colours { ChosenWithin (span self.now.sizes) inbox.now.slots }
+        ensures free { let here = with_heard self.now step inbox.now.slots in
             IsTrue result ↔ HasFree (span self.now.sizes) (is_taken here) }
-        ensures slots { inbox.new.slots ≡ inbox.old.slots }
     {
         step == 0 || self.taken.has_free_with(self.span(), inbox)
     }
@@ -81,18 +76,16 @@ impl ColourNode {
         &mut self,
         forest: u16,
         step: u32,
-        inbox: &mut Inbox<Payload>,
+        inbox: &Inbox<Payload>,
         out: &mut Outbox<Payload>,
     )
         requires real { IsPhase self.old.sizes (Merge forest step) }
-        requires unread { inbox.old ≡ unread inbox.old.slots }
-        requires ports { length inbox.old.slots ≡ ports self.old }
+        requires ports { length inbox.now.slots ≡ ports self.old }
         requires out { out.old ≡ nothing (ports self.old) }
-        requires colours { ChosenWithin (span self.old.sizes) inbox.old.slots }
-        requires free { let here = with_heard self.old step inbox.old.slots in
+        requires colours { ChosenWithin (span self.old.sizes) inbox.now.slots }
+        requires free { let here = with_heard self.old step inbox.now.slots in
             chooses here forest step ≡ true → free_for here ≤ span self.old.sizes }
-        ensures node { (self.new, out.new) ≡ work_of self.old (Merge forest step) inbox.old.slots }
-        ensures slots { inbox.new.slots ≡ inbox.old.slots }
+        ensures node { (self.new, out.new) ≡ work_of self.old (Merge forest step) inbox.now.slots }
     {
         let is_turn = self.chooses(forest, step);
         self.gather(step, inbox);
@@ -105,11 +98,9 @@ impl ColourNode {
     }
 
     // Hears what was chosen; at the first step of a forest, begins with the colour so far.
-    fn gather(&mut self, step: u32, inbox: &mut Inbox<Payload>)
-        requires unread { inbox.old ≡ unread inbox.old.slots }
-        requires colours { ChosenWithin (span self.old.sizes) inbox.old.slots }
-        ensures node { self.new ≡ with_heard self.old step inbox.old.slots }
-        ensures slots { inbox.new.slots ≡ inbox.old.slots }
+    fn gather(&mut self, step: u32, inbox: &Inbox<Payload>)
+        requires colours { ChosenWithin (span self.old.sizes) inbox.now.slots }
+        ensures node { self.new ≡ with_heard self.old step inbox.now.slots }
     {
         if step == 0 {
             self.colour_before = self.merged;

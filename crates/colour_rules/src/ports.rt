@@ -2,7 +2,7 @@
 ghost use Rattle.std.specs.Prelude.{◌≡◌, ◌==◌, ◌≤◌, ◌<◌, ℕ, if◌then◌else◌, IfOk, MatchResult, None, Some, false};
 ghost use Rattle.std.specs.Prelude.{length, slice_index_or, take};
 ghost use Rattle.forest_merge.specs.Free.{is_among};
-ghost use Rattle.node_api.specs.Boxes.{HasFrom, unread};
+ghost use Rattle.node_api.specs.Boxes.{HasFrom};
 ghost use Rattle.forests.specs.declared.numbering.Role.{Role};
 ghost use Rattle.forests.specs.declared.numbering.Role.TheVariants.{Unknown};
 ghost use Rattle.colour_rules.specs.declared.payload.Payload.TheVariants.{Hello};
@@ -20,7 +20,7 @@ use crate::rules::{COLOUR_RANGE, FOREST_RANGE, MISSING};
 use crate::table::cell;
 use cole_vishkin::Identifier;
 use forests::Role;
-use node_api::{Inbox, Refused};
+use node_api::{Inbox, Reader, Refused};
 
 // Whether a port of a role has to bring a payload in a phase.
 fn is_due(phase: Phase, role: Role) -> bool
@@ -156,21 +156,21 @@ impl ColourNode {
         phase: Phase,
         from: u32,
         earlier: &[Identifier],
-        inbox: &mut Inbox<Payload>,
+        reader: &mut Reader<'_, Payload>,
     ) -> Result<Payload, Refused>
-        requires more { HasFrom inbox.old.slots inbox.old.cursor }
-        requires from { from ≡ inbox.old.cursor }
-        requires ports { length inbox.old.slots ≡ ports self.now }
-        requires looked { Looked self.now phase inbox.old.slots from earlier.now }
-        ensures slots { inbox.new.slots ≡ inbox.old.slots }
+        requires more { HasFrom reader.old.slots reader.old.cursor }
+        requires from { from ≡ reader.old.cursor }
+        requires ports { length reader.old.slots ≡ ports self.now }
+        requires looked { Looked self.now phase reader.old.slots from earlier.now }
+        ensures slots { reader.new.slots ≡ reader.old.slots }
         ensures hello { IfOk result (λ payload. (id : ℕ) → payload ≡ Hello id → phase ≡ Orient) }
-        ensures later { (inbox.old.cursor < inbox.new.cursor) × (inbox.new.cursor ≤ ports self.now) }
+        ensures later { (reader.old.cursor < reader.new.cursor) × (reader.new.cursor ≤ ports self.now) }
         ensures answer { MatchResult result
-            (λ payload. Looked self.now phase inbox.old.slots inbox.new.cursor (and_id earlier.now (Some payload)))
-            (λ refused. first_refusal self.now phase inbox.old.slots ≡ Some refused) }
+            (λ payload. Looked self.now phase reader.old.slots reader.new.cursor (and_id earlier.now (Some payload)))
+            (λ refused. first_refusal self.now phase reader.old.slots ≡ Some refused) }
     {
-        let payload = inbox.next();
-        let port = inbox.sender();
+        let payload = reader.next();
+        let port = reader.sender();
         self.none_due(phase, from, port)?;
         self.look_at(phase, earlier, port, &payload)?;
         Ok(payload)
@@ -182,29 +182,28 @@ impl ColourNode {
         &self,
         phase: Phase,
         identifiers: &mut [Identifier],
-        inbox: &mut Inbox<Payload>,
+        inbox: &Inbox<Payload>,
     ) -> Result<usize, Refused>
-        requires unread { inbox.old ≡ unread inbox.old.slots }
-        requires ports { length inbox.old.slots ≡ ports self.now }
+        requires ports { length inbox.now.slots ≡ ports self.now }
         requires room { phase ≡ Orient → ports self.now ≤ length identifiers.old }
-        ensures slots { inbox.new.slots ≡ inbox.old.slots }
         ensures answer { MatchResult result
-            (λ _. first_refusal self.now phase inbox.old.slots ≡ None)
-            (λ refused. first_refusal self.now phase inbox.old.slots ≡ Some refused) }
+            (λ _. first_refusal self.now phase inbox.now.slots ≡ None)
+            (λ refused. first_refusal self.now phase inbox.now.slots ≡ Some refused) }
         ensures came { IfOk result
-            (λ count. (count ≤ length identifiers.new) × (take count identifiers.new ≡ ids_in inbox.old.slots)) }
+            (λ count. (count ≤ length identifiers.new) × (take count identifiers.new ≡ ids_in inbox.now.slots)) }
         ensures room { length identifiers.new ≡ length identifiers.old }
     {
         let ports = self.roles.len() as u32;
         let mut count = 0;
         let mut from = 0;
-        while inbox.has_next() {
-            let payload = self.look_at_next(phase, from, &identifiers[..count], inbox)?;
+        let mut reader = inbox.reader();
+        while reader.has_next() {
+            let payload = self.look_at_next(phase, from, &identifiers[..count], &mut reader)?;
             if let Payload::Hello(id) = payload {
                 identifiers[count] = id.get();
                 count += 1;
             }
-            from = inbox.sender() + 1;
+            from = reader.sender() + 1;
         }
         self.none_due(phase, from, ports)?;
         Ok(count)

@@ -1,7 +1,7 @@
 //! A whole pulse of a node: what it refuses, and the work of the phase.
 ghost use Rattle.std.specs.Prelude.{◌≡◌, ◌≤◌, IfOk, MatchResult, None, OnErr, Some, count_by, length, nat_lt};
 ghost use Rattle.std.specs.List.{list_any};
-ghost use Rattle.node_api.specs.Boxes.{nothing, unread};
+ghost use Rattle.node_api.specs.Boxes.{nothing};
 ghost use Rattle.node_api.specs.Program.{Matches};
 ghost use Rattle.colour_rules.specs.Idle.{IsIdle, IsWaiting};
 ghost use Rattle.colour_rules.specs.declared.phase.Phase.TheVariants.{Orient};
@@ -37,17 +37,15 @@ impl ColourNode {
     pub fn pulse(
         &mut self,
         pulse: u32,
-        inbox: &mut Inbox<Payload>,
+        inbox: &Inbox<Payload>,
         out: &mut Outbox<Payload>,
     ) -> Result<IdlePulses, Refused>
-        requires rewound { inbox.old.cursor ≡ 0 }
-        requires inbox { length inbox.old.slots ≡ ports self.old }
+        requires inbox { length inbox.now.slots ≡ ports self.old }
         requires out { out.old ≡ nothing (ports self.old) }
-        ensures answer { Matches result (next self.old pulse inbox.old.slots) (self.new, out.new) }
+        ensures answer { Matches result (next self.old pulse inbox.now.slots) (self.new, out.new) }
         ensures idle { IfOk result (IsIdle self.new) }
         ensures waits { IfOk result (IsWaiting self.new) }
         ensures refused { OnErr result ((self.new ≡ self.old) × (out.new ≡ out.old)) }
-        ensures inbox { inbox.new.slots ≡ inbox.old.slots }
     {
         if self.phase(pulse) == Phase::Orient {
             self.pulse_at_orient(pulse, inbox, out)
@@ -62,12 +60,11 @@ impl ColourNode {
     fn pulse_at_orient(
         &mut self,
         pulse: u32,
-        inbox: &mut Inbox<Payload>,
+        inbox: &Inbox<Payload>,
         out: &mut Outbox<Payload>,
     ) -> Result<IdlePulses, Refused>
-        requires boxes { HasBoxes self.old inbox.old out.old }
-        ensures pulsed { Pulsed pulse inbox.old.slots (self.old, out.old) (self.new, out.new) result }
-        ensures inbox { inbox.new.slots ≡ inbox.old.slots }
+        requires boxes { HasBoxes self.old inbox.now.slots out.old }
+        ensures pulsed { Pulsed pulse inbox.now.slots (self.old, out.old) (self.new, out.new) result }
     {
         if self.roles.len() <= FEW_PORTS {
             self.pulse_with(pulse, &mut [0; FEW_PORTS], inbox, out)
@@ -81,19 +78,16 @@ impl ColourNode {
         &mut self,
         pulse: u32,
         identifiers: &mut [Identifier],
-        inbox: &mut Inbox<Payload>,
+        inbox: &Inbox<Payload>,
         out: &mut Outbox<Payload>,
     ) -> Result<IdlePulses, Refused>
         requires room { phase_of self.old.sizes pulse ≡ Orient → ports self.old ≤ length identifiers.old }
-        requires boxes { HasBoxes self.old inbox.old out.old }
-        ensures pulsed { Pulsed pulse inbox.old.slots (self.old, out.old) (self.new, out.new) result }
-        ensures inbox { inbox.new.slots ≡ inbox.old.slots }
+        requires boxes { HasBoxes self.old inbox.now.slots out.old }
+        ensures pulsed { Pulsed pulse inbox.now.slots (self.old, out.old) (self.new, out.new) result }
     {
         let phase = self.phase(pulse);
         let count = self.look_at_ports(phase, identifiers, inbox)?;
-        inbox.rewind();
         self.look_at_own(phase, &identifiers[..count], inbox)?;
-        inbox.rewind();
         self.do_work(phase, &identifiers[..count], inbox, out);
         Ok(self.idle_after(pulse, phase))
     }
@@ -103,15 +97,13 @@ impl ColourNode {
         &mut self,
         phase: Phase,
         identifiers: &[Identifier],
-        inbox: &mut Inbox<Payload>,
+        inbox: &Inbox<Payload>,
         out: &mut Outbox<Payload>,
     )
-        requires accepted { IsAccepted self.old phase inbox.old.slots }
-        requires unread { inbox.old ≡ unread inbox.old.slots }
+        requires accepted { IsAccepted self.old phase inbox.now.slots }
         requires out { out.old ≡ nothing (ports self.old) }
-        requires came { identifiers.now ≡ ids_in inbox.old.slots }
-        ensures node { (self.new, out.new) ≡ work_of self.old phase inbox.old.slots }
-        ensures slots { inbox.new.slots ≡ inbox.old.slots }
+        requires came { identifiers.now ≡ ids_in inbox.now.slots }
+        ensures node { (self.new, out.new) ≡ work_of self.old phase inbox.now.slots }
     {
         match phase {
             Phase::Orient => self.orient(identifiers, out),
@@ -127,16 +119,14 @@ impl ColourNode {
         &self,
         phase: Phase,
         identifiers: &[Identifier],
-        inbox: &mut Inbox<Payload>,
+        inbox: &Inbox<Payload>,
     ) -> Result<(), Refused>
         requires real { IsPhase self.now.sizes phase }
-        requires unread { inbox.old ≡ unread inbox.old.slots }
-        requires came { identifiers.now ≡ ids_in inbox.old.slots }
-        requires accepted { first_refusal self.now phase inbox.old.slots ≡ None }
-        requires inbox { length inbox.old.slots ≡ ports self.now }
-        ensures answer { let rule = own_rule self.now phase inbox.old.slots in
+        requires came { identifiers.now ≡ ids_in inbox.now.slots }
+        requires accepted { first_refusal self.now phase inbox.now.slots ≡ None }
+        requires inbox { length inbox.now.slots ≡ ports self.now }
+        ensures answer { let rule = own_rule self.now phase inbox.now.slots in
             MatchResult result (λ _. rule ≡ None) (λ refused. without_port rule ≡ Some refused) }
-        ensures slots { inbox.new.slots ≡ inbox.old.slots }
     {
         let broken = match phase {
             Phase::Orient if self.has_many_higher(identifiers) => Some(FOREST_RANGE),

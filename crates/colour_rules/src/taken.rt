@@ -4,7 +4,7 @@ ghost use Rattle.std.specs.Prelude.{◌≡◌, ◌+◌, ◌<◌, ◌≤◌, ◌*
 ghost use Rattle.std.specs.FinSet.{contains, empty, insert};
 ghost use Rattle.forest_merge.specs.Free.{HasFree, least_free_colour};
 ghost use Rattle.forest_merge.specs.declared.chosen.TheConstants.{COLOURS, WORDS};
-ghost use Rattle.node_api.specs.Boxes.{at_port, unread};
+ghost use Rattle.node_api.specs.Boxes.{at_port};
 ghost use Rattle.colour_rules.specs.declared.payload.Payload.TheVariants.{Chosen};
 ghost use Rattle.colour_rules.specs.Choice.{with_chosen};
 ghost use Rattle.colour_rules.specs.Node.{up_to};
@@ -123,13 +123,11 @@ impl TakenColours {
     }
 
     // Puts the colours that came as chosen among the chosen ones.
-    pub(crate) fn add_all(&mut self, inbox: &mut Inbox<Payload>)
-        requires unread { inbox.old ≡ unread inbox.old.slots }
-        requires colours { (port c : ℕ) → at_port inbox.old.slots port ≡ Some (Chosen c) → c < room_of self.old }
-        ensures chosen { chosen_in self.new ≡ with_chosen (chosen_in self.old) inbox.old.slots }
+    pub(crate) fn add_all(&mut self, inbox: &Inbox<Payload>)
+        requires colours { (port c : ℕ) → at_port inbox.now.slots port ≡ Some (Chosen c) → c < room_of self.old }
+        ensures chosen { chosen_in self.new ≡ with_chosen (chosen_in self.old) inbox.now.slots }
         ensures barred { barred_in self.new ≡ barred_in self.old }
         ensures room { room_of self.new ≡ room_of self.old }
-        ensures slots { inbox.new.slots ≡ inbox.old.slots }
     {
         match self {
             TakenColours::Few(chosen, _) => add_chosen(chosen, inbox),
@@ -151,12 +149,10 @@ impl TakenColours {
     }
 
     // Whether one of the colours 0 to `greatest` is neither taken nor came as chosen.
-    pub(crate) fn has_free_with(&self, greatest: u16, inbox: &mut Inbox<Payload>) -> bool
-        requires unread { inbox.old ≡ unread inbox.old.slots }
-        requires colours { (port c : ℕ) → at_port inbox.old.slots port ≡ Some (Chosen c) → c < room_of self.now }
-        ensures free { let chosen = with_chosen (chosen_in self.now) inbox.old.slots in
+    pub(crate) fn has_free_with(&self, greatest: u16, inbox: &Inbox<Payload>) -> bool
+        requires colours { (port c : ℕ) → at_port inbox.now.slots port ≡ Some (Chosen c) → c < room_of self.now }
+        ensures free { let chosen = with_chosen (chosen_in self.now) inbox.now.slots in
             IsTrue result ↔ HasFree greatest (λ c. contains chosen c || contains (barred_in self.now) c) }
-        ensures slots { inbox.new.slots ≡ inbox.old.slots }
     {
         match self {
             TakenColours::Few(chosen, barred) => {
@@ -177,14 +173,12 @@ fn has_free_among<const N: usize>(
     mut chosen: ColourSet<N>,
     barred: &Barred<N>,
     greatest: u16,
-    inbox: &mut Inbox<Payload>,
+    inbox: &Inbox<Payload>,
 ) -> bool
     requires room { N ≤ WORDS }
-    requires unread { inbox.old ≡ unread inbox.old.slots }
-    requires colours { (port c : ℕ) → at_port inbox.old.slots port ≡ Some (Chosen c) → c < 64 * N }
-    ensures free { let chosen = with_chosen chosen.entry inbox.old.slots in
+    requires colours { (port c : ℕ) → at_port inbox.now.slots port ≡ Some (Chosen c) → c < 64 * N }
+    ensures free { let chosen = with_chosen chosen.entry inbox.now.slots in
         IsTrue result ↔ HasFree greatest (λ c. contains chosen c || contains (set_in barred.now) c) }
-    ensures slots { inbox.new.slots ≡ inbox.old.slots }
 {
     add_chosen(&mut chosen, inbox);
     has_outside(&chosen, barred, greatest)

@@ -3,7 +3,6 @@ ghost use Rattle.std.specs.Prelude.{◌≡◌, ◌≢◌, ◌<◌, ◌≤◌, �
 ghost use Rattle.std.specs.FinSet.{contains, empty};
 ghost use Rattle.cole_vishkin.specs.BitStep.{bit_by};
 ghost use Rattle.interference.specs.declared.limits.TheConstants.{MAX_DEGREE};
-ghost use Rattle.node_api.specs.Boxes.{unread};
 ghost use Rattle.colour_rules.specs.InForests.{AreTurned, IsReadyAt, before_in, colours_in, in_forest, turned_in};
 ghost use Rattle.colour_rules.specs.Program.{AreReady, BringColours, IsReady, colour_in, from_parent};
 ghost use Rattle.colour_rules.specs.Program.{kept_colour, kept_all, next_colour, turned_all};
@@ -31,16 +30,14 @@ impl InForests {
         reduction: Reduction,
         id: Identifier,
         roles: &[Role],
-        inbox: &mut Inbox<Payload>,
+        inbox: &Inbox<Payload>,
     )
-        requires unread { inbox.old ≡ unread inbox.old.slots }
-        requires brought { BringColours (length (before_in self.old)) roles.now inbox.old.slots }
+        requires brought { BringColours (length (before_in self.old)) roles.now inbox.now.slots }
         requires ready { AreReady reduction (colours_in id self.old) (before_in self.old)
-            (λ f. from_parent f roles.now inbox.old.slots) }
+            (λ f. from_parent f roles.now inbox.now.slots) }
         ensures colours { colours_in id self.new ≡ turned_all reduction (colours_in id self.old) (before_in self.old)
-            (λ f. from_parent f roles.now inbox.old.slots) }
+            (λ f. from_parent f roles.now inbox.now.slots) }
         ensures before { before_in self.new ≡ kept_all reduction (colours_in id self.old) (before_in self.old) }
-        ensures slots { inbox.new.slots ≡ inbox.old.slots }
     {
         let mut heard = ForestSet::new();
         self.turn_as_child(reduction, id, roles, inbox, &mut heard);
@@ -55,22 +52,21 @@ impl InForests {
         reduction: Reduction,
         id: Identifier,
         roles: &[Role],
-        inbox: &mut Inbox<Payload>,
+        inbox: &Inbox<Payload>,
         heard: &mut ForestSet,
     )
-        requires unread { inbox.old ≡ unread inbox.old.slots }
-        requires brought { BringColours (length (before_in self.old)) roles.now inbox.old.slots }
+        requires brought { BringColours (length (before_in self.old)) roles.now inbox.now.slots }
         requires ready { AreReady reduction (colours_in id self.old) (before_in self.old)
-            (λ f. from_parent f roles.now inbox.old.slots) }
+            (λ f. from_parent f roles.now inbox.now.slots) }
         requires none { heard.old ≡ empty }
-        ensures turned { AreTurned reduction id (λ f. from_parent f roles.now inbox.old.slots) (contains heard.new)
+        ensures turned { AreTurned reduction id (λ f. from_parent f roles.now inbox.now.slots) (contains heard.new)
             self.old self.new }
-        ensures rest { (f : ℕ) → contains heard.new f ≡ false → from_parent f roles.now inbox.old.slots ≡ None }
-        ensures slots { inbox.new.slots ≡ inbox.old.slots }
+        ensures rest { (f : ℕ) → contains heard.new f ≡ false → from_parent f roles.now inbox.now.slots ≡ None }
     {
-        while inbox.has_next() {
-            let payload = inbox.next();
-            if let Role::Up(forest) = roles[inbox.sender() as usize] {
+        let mut reader = inbox.reader();
+        while reader.has_next() {
+            let payload = reader.next();
+            if let Role::Up(forest) = roles[reader.sender() as usize] {
                 if !heard.has(forest) {
                     heard.add(forest);
                     self.turn(reduction, id, forest, colour_of(payload));

@@ -2,7 +2,7 @@
 ghost use Rattle.std.specs.Prelude.{◌≡◌, ◌≢◌, ◌≤◌, Some, count_by, length, map, nat_lt};
 ghost use Rattle.std.specs.List.{All, AllPairs};
 ghost use Rattle.forests.specs.Forests.{role_by};
-ghost use Rattle.node_api.specs.Boxes.{nothing, unread};
+ghost use Rattle.node_api.specs.Boxes.{nothing};
 ghost use Rattle.colour_rules.specs.declared.phase.Phase.TheVariants.{Seed, Work};
 ghost use Rattle.colour_rules.specs.Node.{ports};
 ghost use Rattle.colour_rules.specs.Refusals.{IsAccepted};
@@ -35,13 +35,11 @@ impl ColourNode {
 
     // Makes children of the ports that brought a label, begins with the identifier as the colour in
     // each forest, and sends it to each child.
-    pub(crate) fn seed(&mut self, inbox: &mut Inbox<Payload>, out: &mut Outbox<Payload>)
-        requires unread { inbox.old ≡ unread inbox.old.slots }
-        requires ports { length inbox.old.slots ≡ ports self.old }
-        requires labels { LabelsBelow self.old.sizes.forests inbox.old.slots }
+    pub(crate) fn seed(&mut self, inbox: &Inbox<Payload>, out: &mut Outbox<Payload>)
+        requires ports { length inbox.now.slots ≡ ports self.old }
+        requires labels { LabelsBelow self.old.sizes.forests inbox.now.slots }
         requires out { out.old ≡ nothing (ports self.old) }
-        ensures node { (self.new, out.new) ≡ work_of self.old Seed inbox.old.slots }
-        ensures slots { inbox.new.slots ≡ inbox.old.slots }
+        ensures node { (self.new, out.new) ≡ work_of self.old Seed inbox.now.slots }
     {
         self.label(inbox);
         self.colours.seed();
@@ -49,16 +47,15 @@ impl ColourNode {
     }
 
     // Makes children of the ports that brought a label.
-    fn label(&mut self, inbox: &mut Inbox<Payload>)
-        requires unread { inbox.old ≡ unread inbox.old.slots }
-        requires ports { length inbox.old.slots ≡ ports self.old }
-        requires labels { LabelsBelow self.old.sizes.forests inbox.old.slots }
-        ensures node { self.new ≡ with_roles self.old (all_labelled self.old.roles inbox.old.slots) }
-        ensures slots { inbox.new.slots ≡ inbox.old.slots }
+    fn label(&mut self, inbox: &Inbox<Payload>)
+        requires ports { length inbox.now.slots ≡ ports self.old }
+        requires labels { LabelsBelow self.old.sizes.forests inbox.now.slots }
+        ensures node { self.new ≡ with_roles self.old (all_labelled self.old.roles inbox.now.slots) }
     {
-        while inbox.has_next() {
-            let payload = inbox.next();
-            let port = inbox.sender() as usize;
+        let mut reader = inbox.reader();
+        while reader.has_next() {
+            let payload = reader.next();
+            let port = reader.sender() as usize;
             self.roles[port] = role_after_seed(self.roles[port], payload);
         }
     }
@@ -69,14 +66,12 @@ impl ColourNode {
     pub(crate) fn work(
         &mut self,
         reduction: Reduction,
-        inbox: &mut Inbox<Payload>,
+        inbox: &Inbox<Payload>,
         out: &mut Outbox<Payload>,
     )
-        requires accepted { IsAccepted self.old (Work reduction) inbox.old.slots }
-        requires unread { inbox.old ≡ unread inbox.old.slots }
+        requires accepted { IsAccepted self.old (Work reduction) inbox.now.slots }
         requires out { out.old ≡ nothing (ports self.old) }
-        ensures node { (self.new, out.new) ≡ work_of self.old (Work reduction) inbox.old.slots }
-        ensures slots { inbox.new.slots ≡ inbox.old.slots }
+        ensures node { (self.new, out.new) ≡ work_of self.old (Work reduction) inbox.now.slots }
     {
         self.colours
             .turn_all(reduction, self.id, &self.roles, inbox);

@@ -28,20 +28,16 @@ fn put_first<A: Copy, B: Copy>(own: &mut Inbox<A>, port: u32, payload: Said<A, B
 }
 
 /// Puts the payloads of the first program into its own inbox; returns the first port at which another came.
-pub(crate) fn hear<A: Copy, B: Copy>(
-    inbox: &mut Inbox<Said<A, B>>,
-    own: &mut Inbox<A>,
-) -> Option<u32>
-    requires rewound { inbox.old.cursor ≡ 0 }
-    requires own { own.old ≡ unread (nothing (length inbox.old.slots)) }
-    ensures misplaced { result ≡ misplaced inbox.old.slots }
-    ensures heard { own.new ≡ unread (firsts inbox.old.slots) }
-    ensures inbox { inbox.new.slots ≡ inbox.old.slots }
+pub(crate) fn hear<A: Copy, B: Copy>(inbox: &Inbox<Said<A, B>>, own: &mut Inbox<A>) -> Option<u32>
+    requires own { own.old ≡ unread (nothing (length inbox.now.slots)) }
+    ensures misplaced { result ≡ misplaced inbox.now.slots }
+    ensures heard { own.new ≡ unread (firsts inbox.now.slots) }
 {
     let mut found = None;
-    while inbox.has_next() {
-        let payload = inbox.next();
-        let other = put_first(own, inbox.sender(), payload);
+    let mut reader = inbox.reader();
+    while reader.has_next() {
+        let payload = reader.next();
+        let other = put_first(own, reader.sender(), payload);
         found = found.or(other);
     }
     found

@@ -61,15 +61,13 @@ pub trait Sequel<P: NodeProgram>: Sized + Drop + Send {
         &mut self,
         first: &P,
         pulse: u32,
-        inbox: &mut Inbox<Said<P::Payload, Self::Payload>>,
+        inbox: &Inbox<Said<P::Payload, Self::Payload>>,
         out: &mut Outbox<Said<P::Payload, Self::Payload>>,
     ) -> Result<(), Refused>
-        requires rewound { inbox.old.cursor ≡ 0 }
-        requires inbox { length inbox.old.slots ≡ before.ports first.now }
+        requires inbox { length inbox.now.slots ≡ before.ports first.now }
         requires out { out.old ≡ nothing (before.ports first.now) }
-        ensures answer { Matches result (sequel.next first.now self.old pulse inbox.old.slots) (self.new, out.new) }
-        ensures refused { OnErr result ((self.new ≡ self.old) × (out.new ≡ out.old)) }
-        ensures inbox { inbox.new.slots ≡ inbox.old.slots };
+        ensures answer { Matches result (sequel.next first.now self.old pulse inbox.now.slots) (self.new, out.new) }
+        ensures refused { OnErr result ((self.new ≡ self.old) × (out.new ≡ out.old)) };
 
     /// The first program is that of the nodes.
     ghost same: { before ≡ P.program };

@@ -21,19 +21,14 @@ fn rule_broken(last: u32, pulse: u32, hops: u32) -> Option<u16>
 }
 
 // The first port at which a payload came.
-pub(crate) fn first_port(
-    last: u32,
-    pulse: u32,
-    inbox: &mut Inbox<Hops>,
-) -> Result<Option<u32>, Refused>
-    requires rewound { inbox.old.cursor ≡ 0 }
-    ensures heard { result ≡ heard last pulse inbox.old.slots }
-    ensures inbox { inbox.new.slots ≡ inbox.old.slots }
+pub(crate) fn first_port(last: u32, pulse: u32, inbox: &Inbox<Hops>) -> Result<Option<u32>, Refused>
+    ensures heard { result ≡ heard last pulse inbox.now.slots }
 {
     let mut first = None;
-    while inbox.has_next() {
-        let Hops(hops) = inbox.next();
-        let port = Some(inbox.sender());
+    let mut reader = inbox.reader();
+    while reader.has_next() {
+        let Hops(hops) = reader.next();
+        let port = Some(reader.sender());
         match rule_broken(last, pulse, hops) {
             Some(rule) => return Err(Refused { rule, port }),
             None => first = first.or(port),

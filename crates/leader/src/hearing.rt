@@ -12,19 +12,18 @@ pub(crate) fn greatest(
     known: u128,
     last: u32,
     pulse: u32,
-    inbox: &mut Inbox<Candidate>,
+    inbox: &Inbox<Candidate>,
 ) -> Result<u128, Refused>
-    requires rewound { inbox.old.cursor ≡ 0 }
-    ensures heard { result ≡ heard known last pulse inbox.old.slots }
-    ensures inbox { inbox.new.slots ≡ inbox.old.slots }
+    ensures heard { result ≡ heard known last pulse inbox.now.slots }
 {
     let mut best = known;
-    while inbox.has_next() {
-        let Candidate(id) = inbox.next();
+    let mut reader = inbox.reader();
+    while reader.has_next() {
+        let Candidate(id) = reader.next();
         if last < pulse {
             return Err(Refused {
                 rule: AFTER_LAST,
-                port: Some(inbox.sender()),
+                port: Some(reader.sender()),
             });
         }
         best = best.max(id);

@@ -35,17 +35,16 @@ impl Model for Turns {
 }
 
 // The first port at which something came.
-fn first_port(inbox: &mut Inbox<Said<Payload, Proposal>>) -> Option<u32>
-    requires rewound { inbox.old.cursor ≡ 0 }
-    ensures first { result ≡ first_came inbox.old.slots }
-    ensures within { IfSome result (λ port. port < length inbox.old.slots) }
-    ensures slots { inbox.new.slots ≡ inbox.old.slots }
+fn first_port(inbox: &Inbox<Said<Payload, Proposal>>) -> Option<u32>
+    ensures first { result ≡ first_came inbox.now.slots }
+    ensures within { IfSome result (λ port. port < length inbox.now.slots) }
 {
-    if !inbox.has_next() {
+    let mut reader = inbox.reader();
+    if !reader.has_next() {
         return None;
     }
-    let _payload = inbox.next();
-    Some(inbox.sender())
+    let _payload = reader.next();
+    Some(reader.sender())
 }
 
 // A free node tells its parent in a forest that it is free.
@@ -161,7 +160,7 @@ impl Sequel<Colouring> for Turns {
         &mut self,
         first: &Colouring,
         pulse: u32,
-        inbox: &mut Inbox<Said<Payload, Proposal>>,
+        inbox: &Inbox<Said<Payload, Proposal>>,
         out: &mut Outbox<Said<Payload, Proposal>>,
     ) -> Result<(), Refused> {
         let came = first_port(inbox);

@@ -1,7 +1,7 @@
 -- The first port at which something came.
 use Rattle.std.proofs.Common.{◌≡◌, ℕ, zero, suc, ◌+◌, ◌<◌, List, [], ◌∷◌, length, refl, ap, sym, ◌∙◌, arith, get_or}
 use Rattle.std.specs.Prelude.{map, Option, Some, None}
-use Rattle.node_api.specs.Boxes.{Mail, Reads, HasFrom, at_port, nothing}
+use Rattle.node_api.specs.Boxes.{Mail, Reads, HasFrom, at_port, nothing, unread}
 use Rattle.node_api.proofs.Reading.{nothing-came}
 use Rattle.node_api.specs.First.{first_came, first_from}
 
@@ -21,20 +21,18 @@ first_from-is (None ∷ slots) i (suc k) x h e none =
     ∙ ap (λ (n : ℕ). Some n) (let same : i + 1 + k ≡ i + suc k = omega arith in same)
 
 -- what is read first came there
-pub first-read : {M : Type 0} (old new : Mail M) (x : M) (port : ℕ) → old.cursor ≡ 0 → Reads old x new → port + 1 ≡ new.cursor →
-    (Some port ≡ first_came old.slots) × (port < length old.slots)
-first-read old new x port start r at =
-    let below : port < length old.slots = omega (arith, r.within) in (
+pub first-read : {M : Type 0} (slots : List (Option M)) (new : Mail M) (x : M) (port : ℕ) → Reads (unread slots) x new → port + 1 ≡ new.cursor →
+    (Some port ≡ first_came slots) × (port < length slots)
+first-read slots new x port r at =
+    let below : port < length slots = omega (arith, r.within) in (
       ap (λ (n : ℕ). Some n) (let same : port ≡ 0 + port = omega arith in same)
-          ∙ sym (first_from-is old.slots 0 port x below (r.here port at) (λ j l. r.first j (omega (arith, start)) (omega (arith, at)))),
+          ∙ sym (first_from-is slots 0 port x below (r.here port at) (λ j l. r.first j (omega arith) (omega (arith, at)))),
       below,
     )
 
 -- an inbox in which nothing is left from the first port has none
-pub first-none : {M : Type 0} (mail : Mail M) → mail.cursor ≡ 0 → (HasFrom mail.slots mail.cursor → ⊥) → None ≡ first_came mail.slots
-first-none {M = M} mail start quiet =
-    sym (ap (first_from 0) (nothing-came mail.slots (λ some. quiet (some.0, omega (arith, start), some.2, some.3)))
-    ∙ first_from-nothing M (length mail.slots) 0)
+pub first-none : {M : Type 0} (slots : List (Option M)) → (HasFrom slots 0 → ⊥) → None ≡ first_came slots
+first-none {M = M} slots quiet = sym (ap (first_from 0) (nothing-came slots quiet) ∙ first_from-nothing M (length slots) 0)
 
 -- by what comes from each of a list
 pub record Comes {M : Type 0} (sent : ℕ → Option M) (ws : List ℕ) (k : ℕ) : Type 0 where

@@ -1,5 +1,5 @@
 -- A payload that is put at a free port: its slot is written, and the port is marked.
-use Rattle.std.proofs.Common.{◌≡◌, ◌≢◌, ℕ, zero, suc, ◌+◌, ◌<◌, ◌≤◌, Bool, true, false, List, [], ◌∷◌, length, get_or, set, take, replicate}
+use Rattle.std.proofs.Common.{◌≡◌, ◌≢◌, ℕ, zero, suc, ◌+◌, ◌<◌, ◌≤◌, Bool, true, false, List, [], ◌∷◌, length, get_or, set, take}
 use Rattle.std.proofs.Common.{cond, refl, ap, sym, ◌∙◌, arith, inl, inr}
 use Rattle.std.specs.Prelude.{Some, None, slice_get, slice_set, if◌then◌else◌}
 use Rattle.std.proofs.lemmas.Bool.{cases_eq}
@@ -9,22 +9,12 @@ use Rattle.node_api.proofs.Counting.{count-cons, count-some}
 use Rattle.node_api.specs.Slots.{slot_of, slots_of, AreMade, IsRead}
 use Rattle.node_api.proofs.Slots.{length-slots_of, at-slots_of}
 
-pub get-set_same : {M : Type 0} (xs : List M) (k : ℕ) (x : M) → k < length xs → slice_get (slice_set xs k x) k ≡ Some x
-get-set_same [] k x h = absurd (omega arith)
-get-set_same (y ∷ xs) zero x h = refl
-get-set_same (y ∷ xs) (suc k) x h = get-set_same xs k x (omega arith)
-
 pub get-set_other : {M : Type 0} (xs : List M) (k j : ℕ) (x : M) → j ≢ k → slice_get (slice_set xs k x) j ≡ slice_get xs j
 get-set_other [] k j x h = refl
 get-set_other (y ∷ xs) zero zero x h = absurd (h refl)
 get-set_other (y ∷ xs) zero (suc j) x h = refl
 get-set_other (y ∷ xs) (suc k) zero x h = refl
 get-set_other (y ∷ xs) (suc k) (suc j) x h = get-set_other xs k j x (λ e. h (ap suc e))
-
-pub get-replicate : {M : Type 0} (n k : ℕ) (x : M) → k < n → slice_get (replicate n x) k ≡ Some x
-get-replicate zero k x h = absurd (omega arith)
-get-replicate (suc n) zero x h = refl
-get-replicate (suc n) (suc k) x h = get-replicate n k x (omega arith)
 
 -- a payload is put at a free port
 take-set_later : (marks : List Bool) (cursor port : ℕ) (x : Bool) → cursor ≤ port → take cursor (set marks port x) ≡ take cursor marks

@@ -1,5 +1,5 @@
 -- The slots of an inbox against its marks.
-use Rattle.std.proofs.Common.{◌≡◌, ◌≢◌, ℕ, zero, suc, ◌<◌, Bool, true, false, List, [], ◌∷◌, length, take, replicate}
+use Rattle.std.proofs.Common.{◌≡◌, ◌≢◌, ℕ, zero, suc, ◌<◌, Bool, true, false, List, [], ◌∷◌, length, replicate}
 use Rattle.std.proofs.Common.{refl, ap, sym, subst, ◌∙◌, arith, inl, inr}
 use Rattle.std.specs.Prelude.{Option, Some, None, IsSome, is_some, IsTrue, slice_get, if◌then◌else◌}
 use Rattle.std.proofs.lemmas.List.{same_lists, get_or-replicate, get_or_default, get_or_past, length-replicate}
@@ -8,9 +8,9 @@ use Rattle.std.proofs.lemmas.Bool.{cases_Bool}
 use native.Mathlib.Decide.{dec_lt}
 use Prim.{yes, no}
 use Rattle.node_api.specs.Marks.{count_marks, is_marked}
-use Rattle.node_api.proofs.Counting.{count-cons, count-some, count-none}
+use Rattle.node_api.proofs.Counting.{count-cons, count-some}
 use Rattle.node_api.specs.Boxes.{at_port, nothing}
-use Rattle.node_api.specs.Slots.{slot_of, slots_of, AreMade, IsRead}
+use Rattle.node_api.specs.Slots.{slot_of, slots_of, AreMade}
 
 pub at_port-nothing : {M : Type 0} (n port : ℕ) → at_port {M = M} (nothing n) port ≡ None
 at_port-nothing {M} n port =
@@ -96,12 +96,3 @@ unmarked-all (false ∷ marks) e = ap (λ l. false ∷ l) (unmarked-all marks (o
 pub slots_of-uncounted : {M : Type 0} (marks : List Bool) (slots : List M) → count_marks marks ≡ 0 → slots_of marks slots ≡ nothing (length marks)
 slots_of-uncounted marks slots e =
     ap (λ (l : List Bool). slots_of l slots) (unmarked-all marks e) ∙ slots_of-none (length marks) slots
-
-pub made-none : (n made : ℕ) → (0 < made → made ≡ n) → AreMade (replicate n false) made
-made-none n made h = record {
-  all = λ some. h some ∙ sym (length-replicate n false);
-  some = λ counted. absurd (omega (arith, counted, count-none n));
-}
-
-pub read-none : (n : ℕ) → IsRead (replicate n false) 0 0
-read-none n = record { counted = sym (ap count_marks (let e : take 0 (replicate n false) ≡ [] = refl in e)); within = omega arith }

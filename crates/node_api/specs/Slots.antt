@@ -22,6 +22,12 @@ pub record IsRead (marks : List Bool) (read cursor : ℕ) : Type 0 where
   pub counted : read ≡ count_marks (take cursor marks)
   pub within : cursor ≤ length marks
 
+-- The marks, the slots and the count of what was read of a reader are as those of an inbox.
+pub record IsReader (marks : List Bool) (slot_count read_count cursor : ℕ) : Type 0 where
+  pub degree : length marks ≤ MAX_DEGREE
+  pub made : AreMade marks slot_count
+  pub read : IsRead marks read_count cursor
+
 -- Every inbox has at most MAX_DEGREE ports, room for a slot at each, and its slots and its count of what was read as
 -- above.
 pub record IsInbox (marks : List Bool) (capacity slot_count read_count cursor : ℕ) : Type 0 where

@@ -6,6 +6,7 @@ ghost use Rattle.interference.specs.declared.limits.TheConstants.{MAX_DEGREE};
 ghost use Rattle.node_api.specs.Boxes.{Mail, nothing, at_port, unread, HasFrom, Reads};
 
 use crate::marks::Marks;
+use crate::reader::Reader;
 use interference::Memory;
 use std::alloc::Global;
 use std::marker::Model;
@@ -88,6 +89,13 @@ impl<T: Copy> Inbox<T> {
         if port < self.cursor {
             self.read += 1;
         }
+    }
+
+    /// A reader of the inbox, which begins at the first port, wherever the inbox itself is read.
+    pub fn reader(&self) -> Reader<'_, T>
+        ensures unread { result ≡ unread self.now.slots }
+    {
+        Reader::new(&self.marks, self.slots.as_slice())
     }
 
     /// Begins reading again at the first port.

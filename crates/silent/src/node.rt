@@ -60,7 +60,8 @@ impl NodeProgram for Silent {
 
     fn pre_step(&mut self, _pulse: u32) {}
 
-    // Place 4: what it makes of an inbox, and sends. `while inbox.has_next() { let Word(x) = inbox.next(); .. }`
+    // Place 4: what it makes of an inbox, and sends. `let mut reader = inbox.reader();`, and then
+    // `while reader.has_next() { let Word(x) = reader.next(); .. }`
     fn handle_messages(
         &mut self,
         _pulse: u32,

@@ -4,12 +4,12 @@ use Rattle.colour_rules.specs.Choice.{with_chosen}
 use Rattle.colour_rules.proofs.Reading.{taken_in}
 use Rattle.colour_rules.proofs.merge.add_chosen.Given as goal
 
-abbrev pub invariant-loop-inbox : goal.invariant-loop-inbox
-invariant-loop-inbox g l =
+abbrev pub invariant-loop-reader : goal.invariant-loop-reader
+invariant-loop-reader g l =
     record {
-      same : l.inbox.slots ≡ l.fn.inbox.slots;
-      rest : fold_rest taken_in l.chosen l.inbox ≡ with_chosen l.fn.chosen l.fn.inbox.slots;
+      same : l.reader.slots ≡ l.fn.inbox.slots;
+      rest : fold_rest taken_in l.chosen l.reader ≡ with_chosen l.fn.chosen l.fn.inbox.slots;
     }
 
-abbrev pub decreases-loop-inbox : goal.decreases-loop-inbox
-decreases-loop-inbox g l = length l.inbox.slots - l.inbox.cursor
+abbrev pub decreases-loop-reader : goal.decreases-loop-reader
+decreases-loop-reader g l = length l.reader.slots - l.reader.cursor

@@ -4,14 +4,14 @@ use Rattle.followed.specs.Said.{and_misplaced, misplaced}
 use Rattle.followed.proofs.HeardTo.{HeardTo}
 use Rattle.followed.proofs.hearing.hear.Given as goal
 
-abbrev pub invariant-loop-inbox : goal.invariant-loop-inbox
-invariant-loop-inbox g l =
+abbrev pub invariant-loop-reader : goal.invariant-loop-reader
+invariant-loop-reader g l =
     record {
-      same : l.inbox.slots ≡ l.fn.inbox.slots;
+      same : l.reader.slots ≡ l.fn.inbox.slots;
       cursor : l.own.cursor ≡ 0;
-      heard : HeardTo l.fn.inbox.slots l.own.slots l.inbox.cursor;
-      rest : fold_rest and_misplaced l.found l.inbox ≡ misplaced l.fn.inbox.slots;
+      heard : HeardTo l.fn.inbox.slots l.own.slots l.reader.cursor;
+      rest : fold_rest and_misplaced l.found l.reader ≡ misplaced l.fn.inbox.slots;
     }
 
-abbrev pub decreases-loop-inbox : goal.decreases-loop-inbox
-decreases-loop-inbox g l = length l.inbox.slots - l.inbox.cursor
+abbrev pub decreases-loop-reader : goal.decreases-loop-reader
+decreases-loop-reader g l = length l.reader.slots - l.reader.cursor

@@ -4,12 +4,12 @@ use Rattle.node_api.proofs.Reading.{fold_rest}
 use Rattle.leader.specs.Election.{and_heard, heard}
 use Rattle.leader.proofs.hearing.greatest.Given as goal
 
-abbrev pub invariant-loop-inbox : goal.invariant-loop-inbox
-invariant-loop-inbox l =
+abbrev pub invariant-loop-reader : goal.invariant-loop-reader
+invariant-loop-reader l =
     record {
-      same : l.inbox.slots ≡ l.fn.inbox.slots;
-      rest : fold_rest (and_heard l.last l.pulse) (Ok l.best) l.inbox ≡ heard l.known l.last l.pulse l.fn.inbox.slots;
+      same : l.reader.slots ≡ l.fn.inbox.slots;
+      rest : fold_rest (and_heard l.last l.pulse) (Ok l.best) l.reader ≡ heard l.known l.last l.pulse l.fn.inbox.slots;
     }
 
-abbrev pub decreases-loop-inbox : goal.decreases-loop-inbox
-decreases-loop-inbox l = length l.inbox.slots - l.inbox.cursor
+abbrev pub decreases-loop-reader : goal.decreases-loop-reader
+decreases-loop-reader l = length l.reader.slots - l.reader.cursor

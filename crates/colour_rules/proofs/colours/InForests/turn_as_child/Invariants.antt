@@ -5,14 +5,14 @@ use Rattle.colour_rules.specs.InForests.{AreTurned}
 use Rattle.colour_rules.specs.Program.{from_parent}
 use Rattle.colour_rules.proofs.colours.InForests.turn_as_child.Given as goal
 
-abbrev pub invariant-loop-reduction : goal.invariant-loop-reduction
-invariant-loop-reduction l =
+abbrev pub invariant-loop-reader : goal.invariant-loop-reader
+invariant-loop-reader l =
     record {
-      same : l.inbox.slots ≡ l.fn.inbox.slots;
+      same : l.reader.slots ≡ l.fn.inbox.slots;
       turned : AreTurned l.reduction l.id (λ f. from_parent f l.roles l.fn.inbox.slots) (contains l.heard) l.fn.self l.self;
       rest : (f : ℕ) → contains l.heard f ≡ false →
-          from_parent f (drop l.inbox.cursor l.roles) (drop l.inbox.cursor l.fn.inbox.slots) ≡ from_parent f l.roles l.fn.inbox.slots;
+          from_parent f (drop l.reader.cursor l.roles) (drop l.reader.cursor l.fn.inbox.slots) ≡ from_parent f l.roles l.fn.inbox.slots;
     }
 
-abbrev pub decreases-loop-reduction : goal.decreases-loop-reduction
-decreases-loop-reduction l = length l.inbox.slots - l.inbox.cursor
+abbrev pub decreases-loop-reader : goal.decreases-loop-reader
+decreases-loop-reader l = length l.reader.slots - l.reader.cursor

@@ -47,14 +47,21 @@ merge-requires-clause-colours c =
     chosen-within c.args.self.now c.in-Merge.forest c.in-Merge.step c.args.inbox.now.slots c.requires.accepted.size
     (subst (λ (phase : Phase). first_refusal c.args.self.now phase c.args.inbox.now.slots ≡ None) c.in-Merge.is c.requires.accepted.by_ports)
 
-pub returns-in-Orient-clause-node : goal.returns-in-Orient-clause-node
-returns-in-Orient-clause-node c =
-    let at = (goal.at.returns-in-Orient-clause-node c).In-Orient in
-    oriented-is c.args.self.now c.orient.new.self c.args.phase c.args.identifiers.now c.args.inbox.now.slots c.orient.new.out c.in-Orient.is
-    c.requires.came (hellos at) c.orient.ensures.node c.orient.ensures.out
+pub returns-in-Orient : goal.returns-in-Orient
+returns-in-Orient c =
+    record {
+      node =
+          let at = (goal.at.returns-in-Orient c).In-Orient in
+          oriented-is c.args.self.now c.orient.new.self c.args.phase c.args.identifiers.now c.args.inbox.now.slots c.orient.new.out c.in-Orient.is
+          c.requires.came (hellos at) c.orient.ensures.node c.orient.ensures.out;
+    }
 
-pub returns-in-Greet-clause-node : goal.returns-in-Greet-clause-node
-returns-in-Greet-clause-node c =
-    let at = λ (phase : Phase). work_of c.args.self.now phase c.args.inbox.now.slots in
-    idle-is c.args.self.now c.args.phase c.args.inbox.now.slots c.args.out.now (elim c.in-Greet.is [ inl greet ↦ ap at greet | inr halted ↦ ap at halted ])
-    c.requires.out
+pub returns-in-Greet : goal.returns-in-Greet
+returns-in-Greet c =
+    record {
+      node =
+          let at = λ (phase : Phase). work_of c.args.self.now phase c.args.inbox.now.slots in
+          idle-is c.args.self.now c.args.phase c.args.inbox.now.slots c.args.out.now
+          (elim c.in-Greet.is [ inl greet ↦ ap at greet | inr halted ↦ ap at halted ])
+          c.requires.out;
+    }

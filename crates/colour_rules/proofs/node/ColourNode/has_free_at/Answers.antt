@@ -9,10 +9,13 @@ use Rattle.colour_rules.specs.Node.{Node}
 use Rattle.colour_rules.proofs.node.ColourNode.has_free_at.Goals as goal
 
 -- at the first step nothing is chosen, and the bars leave a colour free
-pub returns-then-step-eq0-clause-free : goal.returns-then-step-eq0-clause-free
-returns-then-step-eq0-clause-free c =
-    let some : HasFree (span c.args.self.now.sizes) (contains c.args.self.now.barred) =
-    subst (λ (n : Node). HasFree (span n.sizes) (contains n.barred)) c.self.view_is c.self.invariant.0.free in (
-      λ h. (some.0, some.1, rw (c.if-step-eq0.true) (ap (λ b. b || contains c.args.self.now.barred some.0) (contains-empty nat_cmp some.0) ∙ some.2)),
-      λ h. grind (arith, nat_tests),
-    )
+pub returns-then-step-eq0 : goal.returns-then-step-eq0
+returns-then-step-eq0 c =
+    record {
+      free =
+          let some : HasFree (span c.args.self.now.sizes) (contains c.args.self.now.barred) =
+          subst (λ (n : Node). HasFree (span n.sizes) (contains n.barred)) c.self.view_is c.self.invariant.0.free in (
+            λ h. (some.0, some.1, rw (c.if-step-eq0.true) (ap (λ b. b || contains c.args.self.now.barred some.0) (contains-empty nat_cmp some.0) ∙ some.2)),
+            λ h. grind (arith, nat_tests),
+          );
+    }

@@ -5,14 +5,14 @@ use Rattle.colour_rules.specs.contracts.node.ColourNode.{the_view}
 use Rattle.colour_rules.proofs.Labelling.{Labelled}
 use Rattle.colour_rules.proofs.node.ColourNode.label.Given as goal
 
-abbrev pub invariant-loop-self : goal.invariant-loop-self
-invariant-loop-self l =
+abbrev pub invariant-loop-reader : goal.invariant-loop-reader
+invariant-loop-reader l =
     record {
-      same : l.inbox.slots ≡ l.fn.inbox.slots;
+      same : l.reader.slots ≡ l.fn.inbox.slots;
       room : l.self-inside.greatest_degree + l.self-inside.greatest_bars < room_of l.self-inside.taken;
       node : the_view l.self-inside ≡ with_roles l.fn.self l.self-inside.roles.items;
-      roles : Labelled l.fn.self.roles l.fn.inbox.slots l.inbox.cursor l.self-inside.roles.items;
+      roles : Labelled l.fn.self.roles l.fn.inbox.slots l.reader.cursor l.self-inside.roles.items;
     }
 
-abbrev pub decreases-loop-self : goal.decreases-loop-self
-decreases-loop-self l = length l.inbox.slots - l.inbox.cursor
+abbrev pub decreases-loop-reader : goal.decreases-loop-reader
+decreases-loop-reader l = length l.reader.slots - l.reader.cursor

@@ -15,32 +15,32 @@ use Rattle.colour_rules.proofs.node.ColourNode.look_at_ports.Goals.{After-none_d
 all : (c : After-none_due) → c.len-ports.result ≡ ports c.args.self.now
 all c = c.len-ports.ensures ∙ (c.self.inside.roles.ok.0 ∙ ap (λ (node : Node). ports node) c.self.view_is)
 
-none : (c : After-none_due) → (q : ℕ) → c.loop-identifiers.from ≤ q → q < length c.args.inbox.now.slots → at_port c.args.inbox.now.slots q ≡ None
+none : (c : After-none_due) → (q : ℕ) → c.loop-reader.from ≤ q → q < length c.args.inbox.now.slots → at_port c.args.inbox.now.slots q ≡ None
 none c =
-    none-left c.args.inbox.now.slots c.loop-identifiers.from c.loop-identifiers.inbox c.loop-identifiers.invariant.same c.loop-identifiers.invariant.cursor
-    (λ h. let e : IsTrue false = c.loop-identifiers-test.ensures.more.1 h in (cc))
+    none-left c.args.inbox.now.slots c.loop-reader.from c.loop-reader.reader c.loop-reader.invariant.same c.loop-reader.invariant.cursor
+    (λ h. let e : IsTrue false = c.loop-reader-test.ensures.more.1 h in (cc))
 
-end : (c : After-none_due) → ((q : ℕ) → c.loop-identifiers.from ≤ q → q < c.len-ports.result →
+end : (c : After-none_due) → ((q : ℕ) → c.loop-reader.from ≤ q → q < c.len-ports.result →
     is_due c.args.phase (slice_index_or c.args.self.now.roles q Unknown) ≡ false) → (first_refusal c.args.self.now c.args.phase c.args.inbox.now.slots ≡ None)
-    × (take c.loop-identifiers.count c.loop-identifiers.identifiers ≡ ids_in c.args.inbox.now.slots)
+    × (take c.loop-reader.count c.loop-reader.identifiers ≡ ids_in c.args.inbox.now.slots)
 end c undue =
     let node = c.args.self.now in
     let slots = c.args.inbox.now.slots in
-    let ids = take c.loop-identifiers.count c.loop-identifiers.identifiers in
+    let ids = take c.loop-reader.count c.loop-reader.identifiers in
     let looked : Looked node c.args.phase slots (ports node) ids =
-    looked-to node c.args.phase slots c.requires.ports c.loop-identifiers.from (ports node) ids c.loop-identifiers.invariant.within (omega arith)
+    looked-to node c.args.phase slots c.requires.ports c.loop-reader.from (ports node) ids c.loop-reader.invariant.within (omega arith)
     (λ q low high. none c q low (omega (arith, high, c.requires.ports)))
     (λ q low high. undue q low (omega (arith, all c, high)))
-    c.loop-identifiers.invariant.looked in
+    c.loop-reader.invariant.looked in
     looked-end node c.args.phase slots c.requires.ports ids looked
 
 pub returns-in_err-none_due-clause-answer : goal.returns-in_err-none_due-clause-answer
 returns-in_err-none_due-clause-answer c =
     let at = (goal.at.returns-in_err-none_due-clause-answer c).After-none_due in
     let refused : first_refusal c.args.self.now c.args.phase c.args.inbox.now.slots ≡ Some c.in_err-none_due.field-0.0 =
-    looked-missing c.args.self.now c.args.phase c.args.inbox.now.slots c.requires.ports c.loop-identifiers.from c.len-ports.result
-    (take c.loop-identifiers.count c.loop-identifiers.identifiers) c.in_err-none_due.field-0.0 (omega (arith, all at))
-    (λ q low high. none at q low (omega (arith, all at, high, c.requires.ports))) c.in_err-none_due.ensures c.loop-identifiers.invariant.looked in
+    looked-missing c.args.self.now c.args.phase c.args.inbox.now.slots c.requires.ports c.loop-reader.from c.len-ports.result
+    (take c.loop-reader.count c.loop-reader.identifiers) c.in_err-none_due.field-0.0 (omega (arith, all at))
+    (λ q low high. none at q low (omega (arith, all at, high, c.requires.ports))) c.in_err-none_due.ensures c.loop-reader.invariant.looked in
     search rules
 
 pub returns-clause-answer : goal.returns-clause-answer
@@ -48,6 +48,6 @@ returns-clause-answer c = (end (goal.at.returns-clause-answer c).After-none_due 
 
 pub returns-clause-came : goal.returns-clause-came
 returns-clause-came c = (
-  c.loop-identifiers.invariant.fit,
+  c.loop-reader.invariant.fit,
   (end (goal.at.returns-clause-came c).After-none_due c.in_ok-none_due.ensures).1,
 )

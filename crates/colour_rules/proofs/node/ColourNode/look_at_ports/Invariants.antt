@@ -3,11 +3,11 @@ use Rattle.colour_rules.specs.Node.{ports}
 use Rattle.colour_rules.specs.Refusals.{Looked}
 use Rattle.colour_rules.proofs.node.ColourNode.look_at_ports.Given as goal
 
-abbrev pub invariant-loop-identifiers : goal.invariant-loop-identifiers
-invariant-loop-identifiers l =
+abbrev pub invariant-loop-reader : goal.invariant-loop-reader
+invariant-loop-reader l =
     record {
-      same : l.inbox.slots ≡ l.fn.inbox.slots;
-      cursor : l.from ≡ l.inbox.cursor;
+      same : l.reader.slots ≡ l.fn.inbox.slots;
+      cursor : l.from ≡ l.reader.cursor;
       within : l.from ≤ ports l.fn.self;
       room : length l.identifiers ≡ length l.fn.identifiers;
       few : l.count ≤ l.from;
@@ -15,5 +15,5 @@ invariant-loop-identifiers l =
       looked : Looked l.fn.self l.fn.phase l.fn.inbox.slots l.from (take l.count l.identifiers);
     }
 
-abbrev pub decreases-loop-identifiers : goal.decreases-loop-identifiers
-decreases-loop-identifiers l = length l.inbox.slots - l.inbox.cursor
+abbrev pub decreases-loop-reader : goal.decreases-loop-reader
+decreases-loop-reader l = length l.reader.slots - l.reader.cursor

@@ -15,9 +15,6 @@ tell_colours-requires c =
     length-labelled c.args.self.now.roles c.args.inbox.now.slots c.requires.ports in
     c.requires.out ∙ ap (λ (n : ℕ). nothing {M = Payload} n) (sym (ap (λ (node : Node). ports node) c.self.view_is ∙ as_many))
 
-pub label-requires-clause-unread : goal.label-requires-clause-unread
-label-requires-clause-unread c = c.requires.unread
-
 pub label-requires-clause-ports : goal.label-requires-clause-ports
 label-requires-clause-ports c = c.requires.ports
 
@@ -38,6 +35,3 @@ invariant_of-self c =
           (ap length before ∙ v.each_before) (subst (AreBelow 6) (sym before) v.six),
       i.1,
     )
-
-pub returns-clause-slots : goal.returns-clause-slots
-returns-clause-slots c = c.label.ensures.slots

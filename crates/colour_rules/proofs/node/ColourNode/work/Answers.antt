@@ -91,12 +91,18 @@ invariant_of-self c = (stays (goal.at.invariant_of-self c).After-turn_all, c.sel
 pub invariant_of-self-else-not-is_last : goal.invariant_of-self-else-not-is_last
 invariant_of-self-else-not-is_last c = (stays (goal.at.invariant_of-self-else-not-is_last c).After-turn_all, c.self.invariant.1)
 
-pub returns-then-not-is_last-clause-node : goal.returns-then-not-is_last-clause-node
-returns-then-not-is_last-clause-node c =
-    tells-on c.args.self.now _ c.args.reduction _ _ (worked (goal.at.returns-then-not-is_last-clause-node c).After-turn_all) c.tell_colours.new.out
-    (sym c.if-not-is_last.ensures) c.tell_colours.ensures
+pub returns-then-not-is_last : goal.returns-then-not-is_last
+returns-then-not-is_last c =
+    record {
+      node =
+          tells-on c.args.self.now _ c.args.reduction _ _ (worked (goal.at.returns-then-not-is_last c).After-turn_all) c.tell_colours.new.out
+          (sym c.if-not-is_last.ensures) c.tell_colours.ensures;
+    }
 
-pub returns-else-not-is_last-clause-node : goal.returns-else-not-is_last-clause-node
-returns-else-not-is_last-clause-node c =
-    tells-nothing c.args.self.now _ c.args.reduction _ _ (worked (goal.at.returns-else-not-is_last-clause-node c).After-turn_all) c.args.out.now
-    (sym c.if-not-is_last.ensures) c.requires.out
+pub returns-else-not-is_last : goal.returns-else-not-is_last
+returns-else-not-is_last c =
+    record {
+      node =
+          tells-nothing c.args.self.now _ c.args.reduction _ _ (worked (goal.at.returns-else-not-is_last c).After-turn_all) c.args.out.now
+          (sym c.if-not-is_last.ensures) c.requires.out;
+    }

@@ -18,15 +18,15 @@ has_room old taken slots e low port colour came = subst (λ (sets : TakenColours
 
 pub add_chosen-requires : goal.add_chosen-requires
 add_chosen-requires c =
-    (lit< tt, (c.requires.unread, has_room c.args.self.now _ c.args.inbox.now.slots c.in-Few.is c.requires.colours))
+    (lit< tt, has_room c.args.self.now _ c.args.inbox.now.slots c.in-Few.is c.requires.colours)
 
 pub add_chosen-requires-in-More : goal.add_chosen-requires-in-More
 add_chosen-requires-in-More c =
-    (lit< tt, (c.requires.unread, has_room c.args.self.now _ c.args.inbox.now.slots c.in-More.is c.requires.colours))
+    (lit< tt, has_room c.args.self.now _ c.args.inbox.now.slots c.in-More.is c.requires.colours)
 
 pub add_chosen-requires-in-Many : goal.add_chosen-requires-in-Many
 add_chosen-requires-in-Many c =
-    (lit< tt, (c.requires.unread, has_room c.args.self.now _ c.args.inbox.now.slots c.in-Many.is c.requires.colours))
+    (lit< tt, has_room c.args.self.now _ c.args.inbox.now.slots c.in-Many.is c.requires.colours)
 
 pub returns-in-Few-clause-chosen : goal.returns-in-Few-clause-chosen
 returns-in-Few-clause-chosen c =
@@ -39,9 +39,6 @@ returns-in-Few-clause-barred c = ap barred_in (sym c.in-Few.is)
 pub returns-in-Few-clause-room : goal.returns-in-Few-clause-room
 returns-in-Few-clause-room c = ap room_of (sym c.in-Few.is)
 
-pub returns-in-Few-clause-slots : goal.returns-in-Few-clause-slots
-returns-in-Few-clause-slots c = c.add_chosen.ensures.slots
-
 pub returns-in-More-clause-chosen : goal.returns-in-More-clause-chosen
 returns-in-More-clause-chosen c =
     c.add_chosen-in-More.ensures.chosen ∙ ap (λ (set : FinSet nat_cmp). with_chosen set c.args.inbox.now.slots) c.deref_mut.ensures.value
@@ -53,9 +50,6 @@ returns-in-More-clause-barred c = ap barred_in (sym c.in-More.is)
 pub returns-in-More-clause-room : goal.returns-in-More-clause-room
 returns-in-More-clause-room c = ap room_of (sym c.in-More.is)
 
-pub returns-in-More-clause-slots : goal.returns-in-More-clause-slots
-returns-in-More-clause-slots c = c.add_chosen-in-More.ensures.slots
-
 pub returns-in-Many-clause-chosen : goal.returns-in-Many-clause-chosen
 returns-in-Many-clause-chosen c =
     c.add_chosen-in-Many.ensures.chosen ∙ ap (λ (set : FinSet nat_cmp). with_chosen set c.args.inbox.now.slots) c.deref_mut-in-Many.ensures.value
@@ -66,6 +60,3 @@ returns-in-Many-clause-barred c = ap barred_in (sym c.in-Many.is)
 
 pub returns-in-Many-clause-room : goal.returns-in-Many-clause-room
 returns-in-Many-clause-room c = ap room_of (sym c.in-Many.is)
-
-pub returns-in-Many-clause-slots : goal.returns-in-Many-clause-slots
-returns-in-Many-clause-slots c = c.add_chosen-in-Many.ensures.slots
