@@ -6,33 +6,33 @@ import http.client
 import json
 import os
 import re
-import shutil
 import signal
 import socket
 import subprocess
 import sys
-import tempfile
 import threading
-import time
 from itertools import combinations
 
 from lab.schedules.policies import POLICIES
 from tests import TOP
-from tests.cases import Case, examples, said_by
+from tests.cases import Case, copied, example, examples, said_by, text_in, wait_until
 
 TRIANGLE = "p edge 3 3\ne 1 2\ne 1 3\ne 2 3\n"
 # A run of twelve nodes that are all neighbours takes seconds.
 SLOW = "p edge 12 66\n" + "".join(f"e {v} {w}\n" for v, w in combinations(range(1, 13), 2))
+BUILDER = """\
+import sys, time
+print(*sys.argv[1:], '3 of 9 crates proved', file=sys.stderr, flush=True)
+time.sleep(100)
+"""
 HUNGRY = (
     "def greet(node):\n    return bytearray(3 << 30)\n\n\ndef next(node, pulse, inbox):\n    return []\n\n\n"
     "def result(node):\n    return ''\n"
 )
 
 
-def processes_of(parent):
-    """The processes that one has started."""
-    with open(f"/proc/{parent}/task/{parent}/children", encoding="ascii") as file:
-        return [int(number) for number in file.read().split()]
+def is_running(process):
+    return os.path.exists(f"/proc/{process}")
 
 
 def begin(*words, top=TOP):
@@ -62,8 +62,21 @@ class Server(Case):
         self.process.wait(60)
         self.process.stderr.close()
 
+    def calls(self):
+        """The processes that the server has started."""
+        pid = self.process.pid
+        return text_in(f"/proc/{pid}/task/{pid}/children").split()
+
+    def interrupt(self, what):
+        """Ctrl-C ends the server, and what it has started."""
+        started = self.calls()
+        self.process.send_signal(signal.SIGINT)
+        self.same("Ctrl-C ends the server", self.process.wait(30), 0)
+        are_ended = wait_until(lambda: not any(map(is_running, started)), 20)
+        self.note(f"and {what}", started and are_ended, started)
+
     def ask(self, path, body="{}", method="POST", **headers):
-        """(status, text) of a request; a header is None to be left out."""
+        """(status, text) of a request; a header is None to be left out. Those that came are `headers`."""
         given = {
             "Content-Length": str(len(body.encode())),
             "Host": f"127.0.0.1:{self.port}",
@@ -78,50 +91,43 @@ class Server(Case):
         end.endheaders()
         end.send(body.encode())
         got = end.getresponse()
-        text = got.read().decode()
+        text, self.headers = got.read().decode(), got.headers
         end.close()
         return got.status, text
+
+    def get(self, path, **headers):
+        return self.ask(path, "", "GET", **headers)
 
     def answer(self, call, /, **asked):
         status, text = self.ask(f"/call/{call}", json.dumps(asked))
         return json.loads(text.split("\n")[-2]) if status == 200 else {"status": status}
 
-    def waits(self, is_so, seconds=20):
-        until = time.monotonic() + seconds
-        while not is_so() and time.monotonic() < until:
-            time.sleep(0.05)
-        return is_so()
+    def found(self, call, /, **asked):
+        """The answer to a call that is no refusal."""
+        return self.answer(call, **asked)["answer"]
+
+    def refuses(self, name, words, call, /, **asked):
+        """The row of a call that is refused in words."""
+        got = self.answer(call, **asked)
+        self.note(name, words in got.get("wrong", ""), got)
 
 
 class Refusals(Server):
     def test_refused(self):
         """Who isn't the page gets nothing."""
         own = f"http://127.0.0.1:{self.port}"
-        rows = [
-            ("the page's own call", 200, {"Origin": own, "Sec_Fetch_Site": "same-origin"}),
-            ("no token", 403, {"X_Token": None}),
-            ("another token", 403, {"X_Token": "x" * 32}),
-            ("a token that is no ASCII", 403, {"X_Token": "\xff"}),
-            *(
-                (f"origin {origin}", 403, {"Origin": origin})
-                for origin in ("http://evil.example", "null", "http://127.0.0.1:1")
-            ),
-            *(
-                (f"a page that is {site}", 403, {"Sec_Fetch_Site": site})
-                for site in ("cross-site", "same-site")
-            ),
-            *(
-                (f"host {host}", 403, {"Host": host})
-                for host in (f"evil.example:{self.port}", None)
-            ),
-            *(
-                (f"length {length}", 413, {"Content_Length": length})
-                for length in ("99999999", None, "-1")
-            ),
-        ]
-        for name, wanted, headers in rows:
-            status, text = self.ask("/call/hello", **headers)
-            self.note(name, status == wanted, (status, text[:200]))
+        status, text = self.ask("/call/hello", Origin=own, Sec_Fetch_Site="same-origin")
+        self.note("the page's own call", status == 200, text)
+        for header, wanted, values in (
+            ("X_Token", 403, (None, "x" * 32, "\xff")),
+            ("Origin", 403, ("http://evil.example", "null", "http://127.0.0.1:1")),
+            ("Sec_Fetch_Site", 403, ("cross-site", "same-site")),
+            ("Host", 403, (f"evil.example:{self.port}", None)),
+            ("Content_Length", 413, ("99999999", None, "-1")),
+        ):
+            for value in values:
+                status, text = self.ask("/call/hello", **{header: value})
+                self.note(f"{header} {value!a}", status == wanted, (status, text))
         for path in ("/call/nothing", "/call/__class__", "/frame/hello", "/call/", "/", "/x/y/z"):
             self.note(f"no call {path}", self.ask(path)[0] in (403, 404), self.ask(path))
         for path in (
@@ -131,59 +137,38 @@ class Refusals(Server):
             "/%2e%2e/asked.py",
             "//etc/passwd",
         ):
-            self.note(
-                f"no file {path}", self.ask(path, "", "GET")[0] == 404, self.ask(path, "", "GET")
-            )
-        self.note("the page", self.ask("/", "", "GET", X_Token=None)[0] == 200)
-        self.note(
-            "the page by another name", self.ask("/", "", "GET", Host="evil.example")[0] == 403
-        )
-        self.note("no token in what needs none", self.token not in self.ask("/", "", "GET")[1])
-        end = http.client.HTTPConnection("127.0.0.1", self.port, timeout=60)
-        end.request("GET", "/api.js")
-        headers = end.getresponse().headers
-        end.close()
-        self.same("no script of others", headers["Cross-Origin-Resource-Policy"], "same-origin")
-        policy = headers["Content-Security-Policy"]
+            self.same(f"no file {path}", self.get(path)[0], 404)
+        self.same("the page by another name", self.get("/", Host="evil.example")[0], 403)
+        status, text = self.get("/", X_Token=None)
+        self.note("the page, without the token", status == 200 and self.token not in text)
+        self.get("/api.js")
+        policy = self.headers["Cross-Origin-Resource-Policy"]
+        self.same("no script of others", policy, "same-origin")
+        policy = self.headers["Content-Security-Policy"]
         self.note("no frame of others", "frame-ancestors 'none'" in policy, policy)
 
     def test_no_files(self):
         """No call reads a file that it names, or runs a program that the command line hasn't given."""
         for name in ("../lab/door", "/etc/passwd", "petersen.col", "../examples/petersen"):
-            self.note(
-                f"example {name}",
-                "no example" in self.answer("example", name=name).get("wrong", ""),
-            )
+            self.refuses(f"example {name}", "no example", "example", name=name)
         for name in ("/x.py", "x.py", "examples/algorithms/independent_set.py", "?"):
             for call in ("run", "steps", "rounds"):
-                got = self.answer(call, network=TRIANGLE, program=name, policy="random")
-                self.note(f"{call} of program {name}", "no program" in got.get("wrong", ""), got)
+                asked = {"network": TRIANGLE, "program": name, "policy": "random"}
+                self.refuses(f"{call} of program {name}", "no program", call, **asked)
         rows = [
             ("run", {"policy": "random", "slow": [[1, 9]]}, "isn't in this network"),
             ("plan", {"network": "p edge 2 1\ne 1 3\n"}, "(F5)"),
             ("broken", {"without": "x"}, "no such rule"),
             ("picture", {"kind": "x"}, "there is no picture x"),
-            *(
-                ("picture", {"kind": "results"} | asked, words)
-                for asked, words in (
-                    ({"program": "matching passes 2"}, "not for matching"),
-                    ({"program": "recolouring passes 9"}, "there are 1 to 8 passes"),
-                )
-            ),
+            ("picture", {"kind": "results", "program": "matching passes 2"}, "not for matching"),
+            ("picture", {"kind": "results", "program": "recolouring passes 9"}, "1 to 8 passes"),
             ("steps", {"without": "x"}, "no such rule"),
-            ("steps", {"steps": "1"}, "isn't possible there"),
-            *(("steps", {"steps": word}, "isn't possible there") for word in ("1-9", "x", "1-2-1")),
-            *(
-                ("steps", {"list": f"c a list\n{event}"}, words)
-                for event, words in {
-                    "put 1 0\nput 1 0": "line 3: `put 1 0` isn't",
-                    "take 1 0 1": "overtakes",
-                }.items()
-            ),
+            *(("steps", {"steps": step}, "isn't possible") for step in ("1", "1-9", "x", "1-2-1")),
+            ("steps", {"list": "c a list\nput 1 0\nput 1 0"}, "line 3: `put 1 0` isn't"),
+            ("steps", {"list": "take 1 0 1"}, "overtakes"),
         ]
         for call, asked, words in rows:
-            got = self.answer(call, **{"network": TRIANGLE} | asked)
-            self.note(f"{call} {asked}", words in got.get("wrong", ""), got)
+            self.refuses(f"{call} {asked}", words, call, **{"network": TRIANGLE} | asked)
         for asked in ({}, {"network": 7}, {"network": TRIANGLE, "vertex": "x"}):
             self.note(f"nonsense {asked}", "wrong" in self.answer("why", **asked))
         for size in ("", "1e2", "-1", None, float("inf"), 401):
@@ -192,7 +177,7 @@ class Refusals(Server):
         nested = "[" * 100_000
         self.same("what is nested deeply", self.ask("/call/plan", nested)[0], 400)
         self.note("half a letter", "\ud800" not in str(self.answer("example", name="\ud800")))
-        self.note("still there", self.answer("hello")["answer"]["examples"])
+        self.note("still there", self.found("hello")["examples"])
 
     def test_silent(self):
         """Connections whose bytes come slowly, or never, keep nobody waiting for long."""
@@ -221,44 +206,22 @@ class Refusals(Server):
             end.close()
 
     def test_port(self):
-        done = subprocess.run(
-            [
-                sys.executable,
-                "-S",
-                os.path.join(TOP, "lab"),
-                "studio",
-                "--port",
-                str(self.port),
-                "--no-browser",
-            ],
-            capture_output=True,
-            text=True,
-            timeout=60,
-        )
-        self.note(
-            "a port that is taken",
-            done.returncode == 1 and f"port {self.port}: " in done.stderr,
-            done,
-        )
+        done = said_by("studio", "--port", self.port, "--no-browser", limit=60)
+        self.refusal("a port that is taken", done, 1, f"port {self.port}: ")
 
 
 class Memory(Server):
     def setUp(self):
-        self.folder = tempfile.TemporaryDirectory()
-        self.addCleanup(self.folder.cleanup)
-        hungry = os.path.join(self.folder.name, "hungry.py")
-        with open(hungry, "w", encoding="ascii") as file:
-            file.write(HUNGRY)
         own = os.path.join(TOP, "examples", "algorithms", "independent_set.py")
-        self.words = ["--own", hungry, "--own", own]
+        self.words = ["--own", self.file("hungry.py", HUNGRY), "--own", own]
         super().setUp()
 
     def test_memory(self):
         asked = {"network": TRIANGLE, "program": "independent_set", "policy": "random"}
-        judge = self.answer("run", **asked)["answer"]["judge"]
+        judge = self.found("run", **asked)["judge"]
         self.same("one's own program", (judge["ok"], judge["by"]), (True, "Python (not proved)"))
-        got = self.answer("rounds", network=TRIANGLE, program="hungry")
-        self.note("3 GB are refused", "MemoryError" in got.get("wrong", ""), got)
+        asked["program"] = "hungry"
+        self.refuses("3 GB are refused", "MemoryError", "rounds", **asked)
         self.note("still there", self.answer("hello").get("answer"))
 
 
@@ -289,12 +252,12 @@ class Answers(Server):
             self.note(f"stated as {words}", "wrong" in got, got)
 
     def test_answers(self):
-        lessons = self.answer("hello")["answer"]["lessons"]
+        lessons = self.found("hello")["lessons"]
         self.note("all lessons", [one["number"] for one in lessons] == [*range(1, 8)], lessons)
-        plan = self.answer("plan", network=TRIANGLE)["answer"]
+        plan = self.found("plan", network=TRIANGLE)
         self.note("plan", plan["plan"] == [2, 3, 1], plan)
-        self.note("rounds", self.answer("rounds", network=TRIANGLE)["answer"]["last"] == 30)
-        run = self.answer("run", network=TRIANGLE, how="seed", policy="random", seed="7")["answer"]
+        self.note("rounds", self.found("rounds", network=TRIANGLE)["last"] == 30)
+        run = self.found("run", network=TRIANGLE, how="seed", policy="random", seed="7")
         good = (
             run["judge"]["ok"] and run["results"] == [2, 3, 1] and run["same"][0] == run["same"][1]
         )
@@ -304,24 +267,21 @@ class Answers(Server):
             "its safes and closes", (run["costs"]["safe"], run["costs"]["close"]), (6 * 30, 6)
         )
         self.same("its acks", run["costs"]["ack"], run["costs"]["payload"])
-        slow = self.answer("run", network=TRIANGLE, policy="slow-node", seed="7")["answer"]
+        slow = self.found("run", network=TRIANGLE, policy="slow-node", seed="7")
         self.note(
             "which node waits",
             slow["of"] in ("node 1", "node 2", "node 3") and not run["of"],
             slow["of"],
         )
         lines = run["text"].split("\n")
-        got = self.answer("replay", network=TRIANGLE, transcript="\n".join(lines[:101]))["answer"]
+        got = self.found("replay", network=TRIANGLE, transcript="\n".join(lines[:101]))
         self.note(
             "a beginning of it",
             got["ok"] and got["entries"] == 100 and len(got["pulses"]) == 3,
             got,
         )
         spoilt = "\n".join(lines[:50] + lines[51:])
-        self.note(
-            "a line less",
-            not self.answer("judge", network=TRIANGLE, transcript=spoilt)["answer"]["ok"],
-        )
+        self.note("a line less", not self.found("judge", network=TRIANGLE, transcript=spoilt)["ok"])
         rows = [
             ([2, 3, 1], "proper 3"),
             ([2, 2, 1], "C4 vertices 1 2"),
@@ -330,71 +290,63 @@ class Answers(Server):
             ([0, 4, 4], "C5 vertex 2"),
         ]
         for given, said in rows:
-            got = self.answer("check", network=TRIANGLE, plan=given)["answer"]
+            got = self.found("check", network=TRIANGLE, plan=given)
             self.note(f"check {given}", got["said"] == said, got)
-        got = self.answer("check", network=TRIANGLE + "b 1 2\n", plan=[2, 3, 1])["answer"]
+        got = self.found("check", network=TRIANGLE + "b 1 2\n", plan=[2, 3, 1])
         self.note("a barred channel", (got["code"], got["at"]) == ("C8", [1]), got)
 
     def test_seeds(self):
         """A run by a seed is that of `forestlab simulate`, under each policy."""
-        path = os.path.join(TOP, "examples", "two.col")
-        with open(path, encoding="ascii") as file:
-            network = file.read()
+        two = example("two").decode()
         for policy in POLICIES:
-            asked = {"network": network, "how": "seed", "policy": policy, "seed": "7"}
-            words = [path, "--policy", policy, "--seed", "7"]
-            wanted = said_by("simulate", *words)[1]
-            got = self.answer("run", **asked)["answer"]
+            wanted = said_by("simulate", "two", "--policy", policy, "--seed", "7")[1]
+            got = self.found("run", network=two, how="seed", policy=policy, seed="7")
             self.same(f"policy {policy}", got["text"], wanted)
 
     def test_steps(self):
         """A run made by hand: what is possible, what goes wrong without a rule, and the rest of it by chance."""
         two = "p edge 2 1\ne 1 2\n"
-        start = self.answer("steps", network=two)["answer"]
+        start = self.found("steps", network=two)
         self.note(
             "two greetings are on their way",
             start["steps"] == ["1-2", "2-1"] and not start["made"],
             start,
         )
-        done = self.answer("steps", network=two, by=200, seed="3")["answer"]
+        done = self.found("steps", network=two, by=200, seed="3")
         found = [look["c"] for look in done["looks"]]
         self.note("chance ends it", found == [1, 2] and done["judge"]["ok"], done)
-        other = self.answer("steps", network=two, by=200, seed="4")["answer"]
+        other = self.found("steps", network=two, by=200, seed="4")
         self.note("by its seed", other["made"] != done["made"], other)
-        turn = self.answer("steps", network=two, without="fifo", steps="2-1_1-2-1")["answer"]
-        again = self.answer("steps", network=two, without="fifo", list="\n".join(turn["list"]))[
-            "answer"
-        ]
+        turn = self.found("steps", network=two, without="fifo", steps="2-1_1-2-1")
+        again = self.found("steps", network=two, without="fifo", list="\n".join(turn["list"]))
         self.note(
             "what overtakes is in the list",
             "take 1 0 1" in turn["list"] and again["made"] == turn["made"],
             turn,
         )
-        held = self.answer("steps", network=TRIANGLE, slow=[[1, 2]], by=200)["answer"]
+        held = self.found("steps", network=TRIANGLE, slow=[[1, 2]], by=200)
         at = [look["p"] for look in held["looks"]]
         self.note(
             "a held link holds its nodes", at[0] == at[1] == 0 and "1-2" in held["steps"], held
         )
-        held = self.answer("steps", network="p edge 3 2\ne 1 2\ne 2 3\n", lazy=[1], by=200)[
-            "answer"
-        ]
+        held = self.found("steps", network="p edge 3 2\ne 1 2\ne 2 3\n", lazy=[1], by=200)
         self.note(
             "a held pulse holds no message",
             [look["p"] for look in held["looks"]] == [0, 1, 2],
             held["looks"],
         )
-        step = self.answer("steps", network=TRIANGLE, in_step=True)["answer"]
+        step = self.found("steps", network=TRIANGLE, in_step=True)
         self.note("in step", [look["p"] for look in step["looks"]] == [1, 1, 1], step["looks"])
         early = "3-1_1-3_1-2_2-1_1-2_2-1"
-        wrong = self.answer("steps", network=TRIANGLE, without="acks,safes", steps="1")["answer"]
+        wrong = self.found("steps", network=TRIANGLE, without="acks,safes", steps="1")
         self.note("without safes and acks", "without `hello 2` from 2" in wrong["fault"], wrong)
-        got = self.answer("steps", network=TRIANGLE, list="\n".join(step["list"]))["answer"]
+        got = self.found("steps", network=TRIANGLE, list="\n".join(step["list"]))
         self.note(
             "a list is played again",
             got["made"] == step["made"] and got["looks"] == step["looks"],
             got,
         )
-        run = self.answer("run", network=TRIANGLE, policy="random", seed="1", steps=early)["answer"]
+        run = self.found("run", network=TRIANGLE, policy="random", seed="1", steps=early)
         begins = [line.split()[1:3] for line in run["text"].split("\n")[1:]]
         self.note(
             "the rest by chance", run["judge"]["ok"] and ["3", "take"] in begins, run["judge"]
@@ -413,7 +365,7 @@ class Answers(Server):
         links = ["", "https://localhost/#tab=adversary"]
         for name, asked, is_won, said in rows:
             network = networks[name]
-            got = self.answer("steps", network=network, by=200, seed="1", **asked)["answer"]
+            got = self.found("steps", network=network, by=200, seed="1", **asked)
             self.same(f"{asked}", got["dare"]["won"], is_won)
             self.note(f"{asked}, in words", said in got["dare"]["said"], got["dare"])
             place = f"dare={asked['dare']}&steps={'_'.join(got['made'])}"
@@ -438,7 +390,7 @@ class Answers(Server):
             (edge, {"vertex": 1, "pulse": 1, "program": "leader"}, "leader 2"),
         ):
             for said in (f" {found.upper()} ", f"{found}1"):
-                got = self.answer("predict", network=network, said=said, **asked)["answer"]
+                got = self.found("predict", network=network, said=said, **asked)
                 wanted = (said != f"{found}1", found, True)
                 self.same(f"{asked} {said}", (got["right"], got["found"], bool(got["why"])), wanted)
         for steps, found in (
@@ -446,7 +398,7 @@ class Answers(Server):
             ("1-2", "ack 2, safe 2"),
             ("2-1_1-2_1-2", "safe 2"),
         ):
-            got = self.answer("waits", network=edge, vertex=1, steps=steps, said=found)["answer"]
+            got = self.found("waits", network=edge, vertex=1, steps=steps, said=found)
             self.same(f"what node 1 waits for after {steps}", got["found"], found)
 
     def test_results(self):
@@ -465,26 +417,26 @@ class Answers(Server):
     def test_broken(self):
         """What goes wrong without a rule, here or on a smallest network; pages/studio_page.py has the matching."""
         edge, right = "p edge 2 1\ne 1 2\n", "the rounds of this network go right without it"
-        got = self.answer("broken", network=edge, without="shift")["answer"]
+        got = self.found("broken", network=edge, without="shift")
         self.note("without a shift", "<svg" in got["picture"] and got["words"], got["words"])
         all_right = f"{right}, and so do those of all 1,094 networks of up to 5 nodes"
         for program, rule, words, bars in (
             ("recolouring", "bars", right, [[1], [], []]),
             ("matching", "last", all_right, None),
         ):
-            got = self.answer("broken", network=edge, program=program, without=rule)["answer"]
+            got = self.found("broken", network=edge, program=program, without=rule)
             found = got["found"] and [node["bars"] for node in got["found"]["nodes"]]
             drawn = "<svg" in (got["picture"] or "")
             shown = (got["here"], got["words"], found, drawn)
             self.same(f"without {rule}", shown, (False, [words], bars, rule != "last"))
-        got = self.answer("broken", network=edge, program="leader", without="partner")
-        self.note("no rule of the leader", "no such rule" in got.get("wrong", ""), got)
+        asked = {"network": edge, "program": "leader", "without": "partner"}
+        self.refuses("no rule of the leader", "no such rule", "broken", **asked)
 
     def test_passes_of_a_run(self):
         """A run of two passes ends at pulse 18 + 2 · 2 on an edge, and its text is no run of one pass."""
         asked = {"network": "p edge 2 1\ne 1 2\n", "policy": "random", "seed": "1"}
         two = {"program": "recolouring passes 2"}
-        text = self.answer("run", **two, **asked)["answer"]["text"]
+        text = self.found("run", **two, **asked)["text"]
         got = self.answer("picture", kind="run", transcript=text, **two, **asked)
         self.note("run of two passes", "</svg>" in got.get("answer", ""), got)
         self.note("its last pulse", " of 22" in got.get("answer", ""), got)
@@ -503,27 +455,15 @@ class Ends(Server):
                 f"POST /call/run HTTP/1.1\r\nHost: 127.0.0.1:{self.port}\r\nX-Token: {self.token}\r\n"
                 f"Content-Length: {len(asked)}\r\n\r\n{asked}".encode()
             )
-            self.waits(lambda: processes_of(self.process.pid), 20)
+            wait_until(self.calls, 20)
             return end
 
         end = slow_run()
-        self.note(
-            "a call is under way",
-            len(processes_of(self.process.pid)) == 1,
-            processes_of(self.process.pid),
-        )
+        self.same("a call is under way", len(self.calls()), 1)
         end.close()
-        self.note(
-            "it ends with its browser", self.waits(lambda: not processes_of(self.process.pid))
-        )
+        self.note("it ends with its browser", wait_until(lambda: not self.calls(), 20))
         end = slow_run()
-        under_way = processes_of(self.process.pid)
-        self.process.send_signal(signal.SIGINT)
-        self.note("Ctrl-C ends the server", self.process.wait(30) == 0)
-        self.note(
-            "and its calls",
-            self.waits(lambda: not any(os.path.exists(f"/proc/{one}") for one in under_way)),
-        )
+        self.interrupt("its calls")
         end.close()
 
 
@@ -531,47 +471,29 @@ class Unbuilt(Answers):
     """The same answers on a tree without a build: they are those of the definitions. The button begins the build."""
 
     def setUp(self):
-        folder = tempfile.TemporaryDirectory()
-        self.addCleanup(folder.cleanup)
-        self.top = folder.name
-        for name in ("lab", "examples", "bin", "docs"):
-            shutil.copytree(os.path.join(TOP, name), os.path.join(self.top, name), symlinks=True)
-        shutil.copy(os.path.join(TOP, "forestplan"), self.top)
+        self.top = os.path.join(self.folder, "tree")
+        copied(self.top, "lab", "examples", "bin", "docs", "forestplan")
         # In place of what proves: it says so, and builds nothing.
-        os.mkdir(os.path.join(self.top, "build"))
-        with open(os.path.join(self.top, "build", "__main__.py"), "w", encoding="ascii") as file:
-            file.write(
-                "import sys, time\nprint(*sys.argv[1:], '3 of 9 crates proved', file=sys.stderr, flush=True)\n"
-                "time.sleep(30)\n"
-            )
-        with open(os.path.join(self.top, "bin", "rt"), "w", encoding="ascii") as file:
-            os.fchmod(file.fileno(), 0o755)
+        self.file("tree/build/__main__.py", BUILDER)
+        os.chmod(self.file("tree/bin/rt", ""), 0o755)
         path = os.environ["PATH"]
         os.environ["PATH"] = os.path.join(self.top, "bin") + os.pathsep + path
         self.addCleanup(os.environ.__setitem__, "PATH", path)
         super().setUp()
 
     def test_build(self):
-        self.note("it isn't said to be proved", self.answer("hello")["answer"]["proved"] is False)
-        got = self.answer("run", network=TRIANGLE, how="threads")
-        self.note("no threads", "aren't built" in got.get("wrong", ""), got)
-        self.note("no build by itself", self.answer("built")["answer"]["lines"] == [])
+        self.note("it isn't said to be proved", self.found("hello")["proved"] is False)
+        self.refuses("no threads", "aren't built", "run", network=TRIANGLE, how="threads")
+        self.note("no build by itself", self.found("built")["lines"] == [])
         # However slow the machine is, the answer to the button is that it has begun.
-        got = self.answer("build")["answer"]
+        got = self.found("build")
         self.note("a build has begun", got["lines"] and not got["ended"], got)
-        self.waits(lambda: self.answer("built")["answer"]["lines"] != ["it begins"])
-        got = self.answer("built")["answer"]
+        wait_until(lambda: self.found("built")["lines"] != ["it begins"], 20)
+        got = self.found("built")
         self.note(
             "a build in its own words",
             not got["ended"]
             and got["lines"] == ["program forestplan forestplay 3 of 9 crates proved"],
             got,
         )
-        building = processes_of(self.process.pid)
-        self.process.send_signal(signal.SIGINT)
-        self.note("Ctrl-C ends the server", self.process.wait(30) == 0)
-        self.note(
-            "and the build",
-            building and not any(os.path.exists(f"/proc/{one}") for one in building),
-            building,
-        )
+        self.interrupt("the build")
