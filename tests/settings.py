@@ -16,10 +16,18 @@ Settings are variables, here with their defaults:
                      ended, and has failed
   TESTS_TEXTS        10000: how many random texts programs.hostile makes
   TESTS_SEED         2026: the seed of these random texts
+  TESTS_GRAPHS       33: how many random graphs programs.in_python plans
   TESTS_RUNS         40: how many runs of threads programs.transcripts checks
   TESTS_SEQUELS      12: how many networks by chance programs.sequel_runs plays
 """
-DEFAULTS = {"limit": "1200", "texts": "10000", "seed": "2026", "runs": "40", "sequels": "12"}
+DEFAULTS = {
+    "limit": "1200",
+    "texts": "10000",
+    "seed": "2026",
+    "graphs": "33",
+    "runs": "40",
+    "sequels": "12",
+}
 
 
 def built(name):

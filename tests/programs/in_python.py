@@ -23,6 +23,8 @@ from tests import TOP
 from tests.cases import Case, forestlab
 from tests.programs.own_networks import is_near
 from tests.programs.plain_networks import networks_by_chance
+from tests.programs.sequels import channels
+from tests.settings import setting
 from tests.tools import need
 
 sys.path.append(os.path.join(TOP, "lab", "python"))
@@ -96,6 +98,88 @@ REFUSED = {
 }
 
 
+# Names of nodes, by a number.
+NAMES = [
+    lambda v: v,
+    lambda v: f"site {v}",
+    lambda v: (v, None),
+    lambda v: object(),
+    lambda v: frozenset({v, "site"}),
+    lambda v: v / 3,
+    lambda v: str(v // 2) if v % 2 else v // 2,
+    lambda v: f"\n{v}\r\n",
+    lambda v: f"\ud800{v}",
+    lambda v: f"p edge {v} 0\0",
+]
+
+
+def graph_of(seed, nodes, pairs):
+    """A graph of networkx, as each of its classes has it, or a dict."""
+    import networkx
+
+    class Own(networkx.Graph):
+        """A class of the user's."""
+
+    kinds = [networkx.Graph, networkx.DiGraph, networkx.MultiGraph, networkx.MultiDiGraph, Own]
+    around = [networkx.subgraph_view, networkx.freeze]
+    dicts = [list, set, tuple, dict.keys]
+    kind = [*kinds, *around, *dicts][seed % 11]
+    if kind in dicts:
+        near = {node: {other: 0 for one, other in pairs if one == node} for node in nodes}
+        return {node: kind(others) for node, others in near.items()}
+    graph = networkx.DiGraph() if kind in around else kind()
+    graph.add_nodes_from(nodes)
+    graph.add_edges_from(pairs)
+    return kind(graph) if kind in around else graph
+
+
+def asked_of(net, names, seed, source):
+    """A network as a graph of Python, some edges in both directions and one from a node to itself; with its bars, and
+    a licence now and then."""
+    pairs = [(names[v], names[w]) for v, w in net.edges]
+    pairs += [pair[::-1] for pair in pairs if source.random() < 0.3] + [(names[1], names[1])]
+    graph = graph_of(seed, list(names.values()), pairs)
+    licence = source.sample(range(1, 5000), net.channels) if seed % 3 == 0 else None
+    real = dict(enumerate(licence or range(1, 2049), 1))
+    bars = {names[v]: {real[c] for c in own if c in real} for v, own in net.bars.items()}
+    return graph, bars, licence
+
+
+def wrong_of(seed, text):
+    """What is wrong about the plan of a network, whose identifiers don't count, and about the verdicts on it."""
+    net, source = network_of(text), random.Random(seed)
+    names = {v: NAMES[seed % len(NAMES)](v) for v in net.vertices}
+    graph, bars, licence = asked_of(net, names, seed, source)
+    workers, passes = source.choice((None, None, 1, 3)), source.randint(0, 3)
+    plan = forestplan.plan(graph, bars, licence, workers, passes)
+    real = licence or range(1, 2049)
+    found = {v: real.index(plan[name]) + 1 for v, name in names.items()}
+    said = [what for what in channels(net, found) if passes or "lower" not in what]
+    if list(plan) != list(names.values()):
+        said.append(f"the order of {list(plan)}")
+    for is_planted in (False, True):
+        for v, w in net.edges[:is_planted]:
+            plan[names[v]], found[v] = plan[names[w]], found[w]
+        judged = verdict(graph, plan, bars, licence)
+        if judged not in (faults_of(net, found, names) or [max(found.values())]):
+            said.append(f"{judged} of {plan}")
+    return said
+
+
+def faults_of(net, found, names):
+    """What may be said of a plan that isn't right."""
+    clashes = [("C4", [names[v], names[w]]) for v, w in net.edges if found[v] == found[w]]
+    return clashes + [("C8", [names[v]]) for v in names if found[v] - 1 in net.barred[v]]
+
+
+def verdict(*given):
+    """How many channels there are, or the code and the nodes of what is refused."""
+    try:
+        return forestplan.check(*given)
+    except forestplan.Refused as why:
+        return why.code, why.nodes
+
+
 def is_proper(graph, plan):
     return all(plan[node] != plan[other] for node in graph for other in graph[node])
 
@@ -108,11 +192,9 @@ class InPython(Case):
         return caught.exception
 
     def test_graphs(self):
-        """Graphs of each class, with each kind of names."""
+        """Graphs of each class, with each kind of names, bars, licences, threads and passes."""
         need(self, "networkx")
-        from tests.by_hand.graphs_in_python import wrong_of
-
-        for seed, text in enumerate(networks_by_chance(33, 9)):
+        for seed, text in enumerate(networks_by_chance(int(setting("graphs")), 30, 95)):
             self.same(f"graph {seed}", wrong_of(seed, text), [])
 
     def test_large(self):

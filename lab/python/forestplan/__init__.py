@@ -122,24 +122,24 @@ class Plan(_Answer, dict[Node, int]):
 
     @property
     def text(self) -> str:
-        rows = [
-            f"{v} {self.licence.needed(node, self[node])}\n" for v, node in enumerate(self.order, 1)
-        ]
-        return "plan\n" + "".join(rows)
+        known = [(v, node) for v, node in enumerate(self.order, 1) if node in self]
+        return "plan\n" + "".join(f"{v} {self.number(node)}\n" for v, node in known)
 
     @property
     def title(self) -> str:
-        used = sorted(
-            {(self.licence.needed(node, channel), channel) for node, channel in self.items()}
-        )
+        used = sorted({(self.number(node), channel) for node, channel in self.items()})
         return "graph" + "".join(f", {k} is {real}" for k, real in used if k != real)
+
+    def number(self, node: Node) -> int:
+        """The channel of a node, counted from 1 if it is one of a licence."""
+        return self.licence.needed(node, self[node])
 
     def colours(self) -> dict[Node, str]:
         """{node: "#0072B2"}: the colours of the channels, the same as in all pictures here, as for
         `networkx.draw(G, nodelist=list(plan), node_color=list(plan.colours().values()), labels=plan)`. Channels 9 to 16
         have those of 1 to 8, and so on: draw the channels, too."""
         hue = of_lab("pictures", "palette").channel_hue
-        return {node: hue(self.licence.needed(node, channel)) for node, channel in self.items()}
+        return {node: hue(self.number(node)) for node in self}
 
 
 class Rounds(_Answer, list[Pulse]):
@@ -174,19 +174,17 @@ def plan(
     if many := whole(passes, "passes", 0, MAX_PASSES):
         command = ["forestplay", "run" if more else "alone"]
         more += ["--program", "recolouring", "--passes", str(many)]
-    found = Plan()
-    found.network, found.order, text = _asked([*command, *more], G, bars, licence)
+    network, order, text = _asked([*command, *more], G, bars, licence)
     lines = text.removeprefix("plan\n").splitlines()
-    number = {node: int(line.split()[-1]) for node, line in zip(found.order, lines, strict=True)}
-    allowed, most = Licence(licence), max(number.values(), default=0)
-    found.update((node, number[node]) for node in dict.fromkeys([*G, *found.order]))
+    number = {node: int(line.split()[-1]) for node, line in zip(order, lines, strict=True)}
+    found = Plan((node, number[node]) for node in dict.fromkeys([*G, *order]))
+    found.network, found.order, most = network, order, max(number.values(), default=0)
     if licence is not None and most > len(licence):
         words = f"the plan takes {most} channels, and the licence has {len(licence)}"
-        raise Refused(
-            words, "licence", (node for node in found if found[node] > len(licence)), found
-        )
-    found.licence = allowed
-    found.update((node, allowed.real(k)) for node, k in found.items())
+        lacking = [node for node, k in found.items() if k > len(licence)]
+        raise Refused(words, "licence", lacking, found)
+    found.licence = Licence(licence)
+    found.update((node, found.licence.real(k)) for node, k in found.items())
     return found
 
 
@@ -203,14 +201,12 @@ def check(G: Any, plan: Mapping, bars: Bars = None, licence: Channels = None) ->
         raise TypeError(
             f"a {type(plan).__name__} is no plan: a dict with the channel of each node is wanted"
         )
-    number, allowed = {node: v for v, node in enumerate(order, 1)}, Licence(licence)
+    judged, known = Plan(plan), set(order)
     for node in plan:
-        if node not in number:
+        if node not in known:
             raise ValueError(f"the plan has {node!r}, which is no node of the graph")
-    rows = [f"{number[node]} {allowed.needed(node, channel)}\n" for node, channel in plan.items()]
-    return int(
-        _called(["forestplan", "check"], f"{network}plan\n{''.join(rows)}", order).split()[1]
-    )
+    judged.order, judged.licence = order, Licence(licence)
+    return int(_called(["forestplan", "check"], network + judged.text, order).split()[1])
 
 
 def rounds(G: Any, bars: Bars = None, licence: Channels = None) -> Rounds:
@@ -222,14 +218,14 @@ def rounds(G: Any, bars: Bars = None, licence: Channels = None) -> Rounds:
     found = Rounds()
     found.network, order, found.text = _asked(["forestplay", "rounds"], G, bars, licence)
     for line in found.text.splitlines()[1:]:
-        fields = line.split()
-        if fields[0] == "pulse":
-            found.append(Pulse(int(fields[1]), " ".join(fields[2:]), [], []))
-        elif fields[1] == "put":
-            sender, receiver = order[int(fields[0]) - 1], order[int(fields[2]) - 1]
-            found[-1].messages.append(Message(sender, receiver, fields[5], int(fields[6])))
-        else:
-            found[-1].states.append((order[int(fields[0]) - 1], " ".join(fields[1:])))
+        match line.split():
+            case ["pulse", number, *phase]:
+                found.append(Pulse(int(number), " ".join(phase), [], []))
+            case [v, "put", w, _, _, word, value]:
+                ends = order[int(v) - 1], order[int(w) - 1]
+                found[-1].messages.append(Message(*ends, word, int(value)))
+            case [v, *words]:
+                found[-1].states.append((order[int(v) - 1], " ".join(words)))
     return found
 
 
