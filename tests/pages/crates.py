@@ -59,8 +59,9 @@ UNCITED = {
     "interference": {"count-le", "count-lt", "degree_in-le", "place_more", "starts_from"},
     "link_rule": {"stops"},
     "lone_runs": {"stuck_all", "stuck_first", "stuck_none"},
-    "node_pool": {"beside_more", "each_more", "longer", "rows_more"},
-    "outcomes": {"as_long", "no_rows_met", "none_met", "slot_found", "slot_same"},
+    "node_runs": {"beside_more", "each_more", "longer", "rows_more"},
+    "outcomes": {"no_rows_met", "none_met"},
+    "port_rows": {"as_long", "slot_found", "slot_same"},
     "stamps": {"KeepsStamps-prop", "entry_more", "more_stamp"},
     "transcripts": {"fault-one", "fault-two"},
     "worker_deques": {

@@ -1,4 +1,4 @@
--- The two networks of these tests, and what is put first in their links.
+-- The network of these tests, and what is put first in their links.
 use Rattle.std.proofs.Common.{◌≡◌, ℕ, ◌≤◌, List, [], ◌∷◌, ◌++◌, Option, Some, refl, sym, ap, ◌∙◌, arith, subst, append_assoc}
 use Rattle.std.specs.Prelude.{Result, Ok, Err, IfOk}
 use Rattle.interference.specs.Net.{Net}
@@ -13,11 +13,11 @@ use Rattle.alpha_core.proofs.Wires.{begins_from, legal-front}
 use Rattle.alpha_laws.proofs.Shown.{rounds_begin}
 use Rattle.link_rule.specs.declared.name.LinkName.{LinkName}
 use Rattle.link_rule.specs.Legal.{IsLegalOn, LegalFor, name_of}
-use Rattle.checks.specs.SmallNets.{lone_net, pair_net}
+use Rattle.checks.specs.SmallNets.{pair_net}
 use Rattle.sync_rounds.specs.Spread.{spread}
 use Rattle.sync_rounds.specs.declared.greatest.Best.{Best}
 
--- the networks that `Network::new` makes
+-- the network that `Network::new` makes
 pub pair_made : network_of (1 ∷ 2 ∷ []) ((1, 2) ∷ []) [] ≡ pair_net
 unfolding network_of
 pair_made = refl
@@ -25,14 +25,6 @@ pair_made = refl
 pub pair_is : {E : Type 0} (r : Result Net E) → IfOk r (λ net. net ≡ network_of (1 ∷ 2 ∷ []) ((1, 2) ∷ []) []) → IfOk r (λ net. net ≡ pair_net)
 pair_is (Ok net) e = e ∙ pair_made
 pair_is (Err x) e = e
-
-pub lone_made : network_of (1 ∷ []) [] [] ≡ lone_net
-unfolding network_of
-lone_made = refl
-
-pub lone_is : {E : Type 0} (r : Result Net E) → IfOk r (λ net. net ≡ network_of (1 ∷ []) [] []) → IfOk r (λ net. net ≡ lone_net)
-lone_is (Ok net) e = e ∙ lone_made
-lone_is (Err x) e = e
 
 -- what is put begins a legal list of the link
 pub legal_begin : {S M E : Type 0} (program : Program S M E) (link : LinkName) (front rest whole put : List (Wire M)) (name : Option LinkName)

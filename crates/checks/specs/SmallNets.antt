@@ -1,9 +1,6 @@
--- The networks of two nodes and of one.
+-- The network of two nodes.
 use Rattle.std.specs.Prelude.{[], ◌∷◌}
 use Rattle.interference.specs.Net.{Net}
 
 abbrev pub pair_net : Net
 pair_net = record { ids = 1 ∷ 2 ∷ []; ports = (2 ∷ []) ∷ (1 ∷ []) ∷ []; bars = [] ∷ [] ∷ [] }
-
-abbrev pub lone_net : Net
-lone_net = record { ids = 1 ∷ []; ports = [] ∷ []; bars = [] ∷ [] }

@@ -1,9 +1,11 @@
-//! The tests of the crates below `node_pool`: what no contract says and the built programs can't show (`tests/` has
+//! The tests of the crates below `node_runs`: what no contract says and the built programs can't show (`tests/` has
 //! what they can). A module tests one crate, and is named after it; its name ends in `_checks`, since a module may not
 //! have the name of a library. They are in one crate, since each crate of tests takes a minute of the gate before its
 //! first function; `worker_checks` is apart, since it waits for `byte_functions`.
 #![tactic(auto)]
 
+#[cfg(test)]
+mod actor_checks;
 #[cfg(test)]
 mod alpha_core_checks;
 #[cfg(test)]
@@ -34,8 +36,6 @@ mod link_queue_checks;
 mod link_threads;
 #[cfg(test)]
 mod linked_counters;
-#[cfg(test)]
-mod lone_node;
 #[cfg(test)]
 mod net_core_checks;
 #[cfg(test)]

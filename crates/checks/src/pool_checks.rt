@@ -1,71 +1,95 @@
-//! Nodes that have no stamp left for their next event.
+//! Tasks that count down, run by a worker.
 
-ghost use Rattle.std.specs.Prelude.{◌≡◌, IfOk};
-ghost use Rattle.checks.specs.SmallNets.{lone_net, pair_net};
+ghost use Rattle.std.specs.Prelude.{◌≡◌, ◌∷◌, [], IfOk, map};
 
-use crate::link_queue_checks::pair;
-use crate::linked_counters::{Turned, turn_after};
-use crate::lone_node::run_alone;
-use actor::TurnRefused;
-use interference::{Memory, NetFault, Network, bars_fit, edges_fit};
-use std::alloc::Global;
-use std::process::Abort;
+use deque_rule::Task;
+use pool::{ThreadsFault, Turned, run_all};
+use run_options::Options;
+use std::alloc::{AllocError, Global};
 use std::sync::Wait;
 use std::thread::Threads;
 
-fn alone(rt: &impl Abort, alloc: Global) -> Result<Network, NetFault>
-    ensures { IfOk result (λ net. net ≡ lone_net) }
-{
-    assert!(rt; edges_fit(1, &[]));
-    assert!(rt; bars_fit(1, &[]));
-    Network::new(alloc, 1, &[1], &[], &[])
+// A task with so many turns left.
+#[derive(Drop)]
+struct Countdown {
+    number: usize,
+    left: u32,
 }
 
-// The node makes two pulses, each by a stamp of its own.
-fn counts_its_pulses<R: Threads + Wait + Sync>(rt: &R, alloc: Global, network: &Network) -> bool
-    requires network { network.now ≡ lone_net }
-{
-    run_alone(rt, alloc, network) == Ok((2, 2))
+impl Task for Countdown {
+    ghost number_of = { λ t. t.number };
+
+    fn number(&self) -> usize {
+        self.number
+    }
 }
 
+// A turn of a task, by which the run is to end once the task has so many turns left.
+fn count_down(task: &mut Countdown, ends_at: u32) -> Turned
+    ensures number { task.new.number ≡ task.old.number }
+{
+    task.left = task.left.saturating_sub(1);
+    if task.left == ends_at {
+        Turned::Ended
+    } else if task.left == 0 {
+        Turned::Done
+    } else {
+        Turned::Moved
+    }
+}
+
+fn task(alloc: Global, number: usize) -> Result<Box<Countdown>, AllocError>
+    ensures number { IfOk result (λ task. task.value.number ≡ number) }
+{
+    Ok(Box::new(alloc, Countdown { number, left: 3 })?)
+}
+
+// Two tasks of three turns, the last first.
+fn two(alloc: Global) -> Result<Vec<Box<Countdown>>, AllocError>
+    ensures numbers { IfOk result (λ tasks. map (λ b. b.value.number) tasks.items ≡ 1 ∷ 0 ∷ []) }
+{
+    let first = task(alloc, 0)?;
+    let last = task(alloc, 1)?;
+    let mut tasks = Vec::with_capacity(alloc, 2)?;
+    tasks.push_reserved(last);
+    tasks.push_reserved(first);
+    Ok(tasks)
+}
+
+// The number of each task, and how many turns it has left.
+fn lefts(tasks: &[Box<Countdown>]) -> Option<[(usize, u32); 2]> {
+    match tasks {
+        [first, last] => Some([(first.number, first.left), (last.number, last.left)]),
+        _ => None,
+    }
+}
+
+// What one worker leaves of two tasks.
+fn left_by_one<R: Threads + Wait + Sync>(
+    rt: &R,
+    alloc: Global,
+    ends_at: u32,
+    looks: u64,
+) -> Result<Option<[(usize, u32); 2]>, ThreadsFault> {
+    let options = Options {
+        workers: 1,
+        capacity: 1,
+        turns: looks,
+        transcript: false,
+    };
+    let tasks = two(alloc)?;
+    let turn = |task: &mut Box<Countdown>, _worker: u32| -> Turned
+        ensures { task.new.value.number ≡ task.old.value.number }
+    { count_down(task, ends_at) };
+    let left = run_all(rt, alloc, turn, tasks, options)?;
+    Ok(lefts(left.as_slice()))
+}
+
+// Task 0 was dealt first, and a task goes to the end of the deque after its turn.
 #[test]
-fn a_worker_makes_both_pulses_of_a_node(rt: HostRuntime) {
+fn a_worker_makes_turns_until_it_is_over(rt: HostRuntime) {
     let alloc: Global = rt.alloc();
-    let network = alone(&rt, alloc).expect(&rt, "network");
-    assert!(rt; counts_its_pulses(&rt, alloc, &network));
-}
-
-// A turn by the definition: takes, a pulse, puts. Its link holds one wire.
-fn leaves(
-    said: Result<bool, TurnRefused>,
-    counter: u64,
-    came: Option<u64>,
-    is_aside: bool,
-) -> Result<Turned, Memory> {
-    Ok(Turned {
-        said,
-        counter,
-        came,
-        is_aside,
-    })
-}
-
-// The node can't make a pulse before its neighbour is safe. So it takes, and puts its own payload and an
-// acknowledgement, for which the link has no room.
-fn puts_in_time<R: Wait>(rt: &R, alloc: Global, network: &Network) -> bool
-    requires network { network.now ≡ pair_net }
-{
-    let (max, full) = (u64::MAX, Err(TurnRefused::StampFull));
-    turn_after(rt, alloc, network, 1) == leaves(Ok(true), 3, Some(3), false)
-        && turn_after(rt, alloc, network, max - 3)
-            == leaves(Ok(true), max - 1, Some(max - 1), false)
-        && turn_after(rt, alloc, network, max - 2) == leaves(full, max, Some(max), false)
-        && turn_after(rt, alloc, network, max - 1) == leaves(full, max, None, false)
-        && turn_after(rt, alloc, network, max) == leaves(full, 0, None, true)
-}
-
-#[test]
-fn a_node_does_nothing_past_the_greatest_stamp(rt: HostRuntime) {
-    let network = pair(&rt, rt.alloc()).expect(&rt, "network");
-    assert!(rt; puts_in_time(&rt, rt.alloc(), &network));
+    assert!(rt; left_by_one(&rt, alloc, 9, 100) == Ok(Some([(0, 0), (1, 0)])));
+    assert!(rt; left_by_one(&rt, alloc, 9, 3) == Ok(Some([(0, 1), (1, 2)])));
+    assert!(rt; left_by_one(&rt, alloc, 2, 100) == Ok(Some([(0, 2), (1, 3)])));
 }

@@ -9,16 +9,12 @@
 //! if outcome.is_whole() { .. outcome.actors() .. }
 //! ```
 //!
-//! `making` makes the links, each with its two ends, and `starting` the nodes with the ends of theirs; `run` lets
-//! `pool` run them, and `outcomes` gather what they leave.
+//! `run` lets `node_runs` make the links and run the nodes, and `outcomes` gather what they leave.
 //!
 //! Limits: `MAX_WORKERS` and `MAX_CAPACITY`. Without a transcript no turn can return out-of-memory. Nothing is promised
 //! of time, of fairness, that an outcome is whole, or that the call returns.
 #![tactic(auto)]
 
-mod making;
 mod run;
-mod starting;
-mod wires;
 
 pub use run::run_workers;

@@ -5,16 +5,15 @@ ghost use Rattle.actor.specs.Tables.{table_of};
 ghost use Rattle.gather_laws.specs.Outcome.{IsOutcome};
 ghost use Rattle.run_faults.specs.declared.fault.PoolFault.TheVariants.{BadOptions, StampFull};
 ghost use Rattle.run_options.specs.Ranges.{AreInRange};
-ghost use Rattle.outcomes.specs.Rows.{rows_of};
-ghost use Rattle.node_pool.specs.Makes.{AreMade, tables_of};
+ghost use Rattle.port_rows.specs.Rows.{rows_of};
+ghost use Rattle.node_runs.specs.Makes.{AreMade, tables_of};
 
-use crate::making::{Made, make_links};
-use crate::starting::start_nodes;
-use actor::{Gate, Links, Wiring};
+use actor::{Gate, Wiring};
 use interference::Network;
 use node_api::NodeProgram;
+use node_runs::{Made, Ran, make_links, run_made};
 use outcomes::{Outcome, gathered};
-use pool::{NodesFault, run_nodes};
+use pool::ThreadsFault;
 use run_faults::PoolFault;
 use run_options::{MAX_CAPACITY, MAX_WORKERS, Options};
 use std::alloc::Global;
@@ -32,15 +31,15 @@ fn are_in_range(options: Options) -> bool
         && options.capacity <= MAX_CAPACITY
 }
 
-// Runs nodes over the links that were made, whose queues the run has picked.
-fn run_made<J: Wiring + Send + Sync, P: NodeProgram, G: Gate + Sync, R: Threads + Wait + Sync>(
+// Runs nodes over the links that were made, whose queues the run has picked, and gathers them.
+fn run_over<J: Wiring + Send + Sync, P: NodeProgram, G: Gate + Sync, R: Threads + Wait + Sync>(
     rt: &R,
     alloc: Global,
     net: &Network,
     options: Options,
     gate: &G,
     made: Made<P>,
-) -> Result<Outcome<P>, NodesFault>
+) -> Result<Outcome<P>, ThreadsFault>
     requires network { J.net ≡ net.now }
     requires tables { J.tables ≡ tables_of (rows_of made.ends.items) }
     requires links { J.links ≡ map table_of made.links.items }
@@ -50,10 +49,7 @@ fn run_made<J: Wiring + Send + Sync, P: NodeProgram, G: Gate + Sync, R: Threads 
     ensures outcome { IfOk result
         (λ outcome. IsOutcome P.program net.now options.capacity options.transcript outcome) }
 {
-    let Made { links, ends } = made;
-    let nodes = start_nodes::<J, P>(alloc, net, ends, options.transcript)?;
-    let links = Links::<J, P>::new(links);
-    let nodes = run_nodes(rt, alloc, &links, gate, nodes, options)?;
+    let Ran { nodes, links } = run_made::<J, P, G, R>(rt, alloc, net, options, gate, made)?;
     Ok(gathered(rt, alloc, net, &links, nodes)?)
 }
 
@@ -86,5 +82,5 @@ pub fn run_workers<P: NodeProgram, G: Gate + Sync, R: Threads + Wait + Sync>(
         return Err(PoolFault::BadOptions);
     }
     let made = make_links::<P>(alloc, net, options.capacity as usize)?;
-    Ok(run_made::<Brand, P, G, R>(rt, alloc, net, options, gate, made)?)
+    Ok(run_over::<Brand, P, G, R>(rt, alloc, net, options, gate, made)?)
 }

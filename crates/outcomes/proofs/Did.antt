@@ -19,9 +19,9 @@ use Rattle.gather_laws.specs.Outcome.{Outcome, entries_in, link_in, link_of, nod
 use Rattle.gather_laws.proofs.MetNodes.{met_written}
 use Rattle.gather_laws.proofs.Merged.{runs_merge}
 use Rattle.gather_laws.proofs.Merges.{merge_of}
-use Rattle.outcomes.specs.Rows.{AreCrossed}
+use Rattle.port_rows.specs.Rows.{AreCrossed}
 use Rattle.outcomes.proofs.Linked.{AreGathered, taken_is}
-use Rattle.outcomes.proofs.Sides.{all_by}
+use Rattle.port_rows.proofs.Sides.{all_by}
 use Rattle.outcomes.proofs.Simulating.{written}
 use Rattle.outcomes.proofs.Stamping.{have_met}
 

@@ -28,7 +28,7 @@ use Rattle.gather_laws.proofs.Asides.{reacted_begins}
 use Rattle.gather_laws.proofs.Fits.{are_within}
 use Rattle.outcomes.proofs.Did.{DidAt, chosen, gathered_full}
 use Rattle.outcomes.proofs.Linked.{AreGathered, here, split_is, taken_here, takens_at, takens_here}
-use Rattle.outcomes.proofs.Rows.{length-nodes}
+use Rattle.port_rows.proofs.Rows.{length-nodes}
 use Rattle.outcomes.proofs.Stamping.{counter_is, counters, keeps_at, splits_at}
 use Rattle.outcomes.proofs.Wires.{aside_at, aside_is, as_many_ports, asides_at, came_at, came_by, sent_by, wrote_at}
 

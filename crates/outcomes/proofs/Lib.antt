@@ -1,10 +1,5 @@
-pub mod Rows
 mod Places
 mod Simulating
-mod Slots
-pub mod ReadLists
-mod Crosses
-pub mod Sides
 mod MetRows
 mod Linked
 mod Stamping

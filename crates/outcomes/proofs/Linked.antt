@@ -19,8 +19,8 @@ use Rattle.entries.specs.declared.rows.StampedEntry.{StampedEntry}
 use Rattle.entries.specs.Rows.{bare_of}
 use Rattle.worker_deques.proofs.Views.{as_many}
 use Rattle.gather_laws.specs.Outcome.{Outcome, alpha_in, entries_in, link_in, link_into, no_history, row_in, start_of}
-use Rattle.outcomes.specs.Rows.{AreCrossed, row_at}
-use Rattle.outcomes.proofs.Rows.{some_there, get_map, row_map, get_field, node_of, length-nodes}
+use Rattle.port_rows.specs.Rows.{AreCrossed, row_at}
+use Rattle.port_rows.proofs.Rows.{some_there, get_map, row_map, get_field, node_of, length-nodes}
 
 pub record AreGathered {S M E A X Y : Type 0} (program : Program S M E) (net : Net) (nodes : List A) (vertex : A → ℕ) (alpha : A → Alpha S M)
     (aside : A → Option (Aside M)) (counter : A → ℕ) (puts : A → List X) (put : X → List (Stamped M)) (takes : A → List Y) (taken : Y → List (Stamped M))

@@ -3,8 +3,8 @@ use Rattle.std.proofs.Common.{◌≡◌, ℕ, List, map, sym, ◌∙◌}
 use Rattle.interference.specs.Net.{Net, IsNetwork, neighbour_of, back_port_of, vertices}
 use Rattle.alpha_laws.proofs.Across.{over}
 use Rattle.actor.specs.Node.{links_in, links_out}
-use Rattle.outcomes.specs.Rows.{AreCrossed}
-use Rattle.outcomes.proofs.Rows.{by_entries, by_nodes, entry_of}
+use Rattle.port_rows.specs.Rows.{AreCrossed}
+use Rattle.port_rows.proofs.Rows.{by_entries, by_nodes, entry_of}
 
 module _ {A E : Type 0} (net : Net) (ok : IsNetwork net) (vertex_of : A → ℕ) (nodes : List A) (order : map vertex_of nodes ≡ vertices net)
     (puts : A → List E) (put_place : E → ℕ × ℕ) (outs : (a : A) → map put_place (puts a) ≡ links_out net (vertex_of a)) where

@@ -29,7 +29,7 @@ use Rattle.gather_laws.specs.Outcome.{IsOutcome, Outcome, entries_in, held_on, l
 use Rattle.gather_laws.proofs.Asides.{met_simulate}
 use Rattle.gather_laws.proofs.MetNodes.{met_written}
 use Rattle.gather_laws.proofs.Merged.{runs_merge}
-use Rattle.outcomes.proofs.Rows.{length-nodes}
+use Rattle.port_rows.proofs.Rows.{length-nodes}
 use Rattle.outcomes.proofs.Linked.{AreGathered, alpha_is, here, many, row_long, row_there, split_is, taken_here, taken_is}
 use Rattle.outcomes.proofs.Stamping.{have_met}
 use Rattle.outcomes.proofs.Wires.{aside_at, aside_is, asides_at, as_many_ports, came_at, came_by, came_is, node_is, sent_at, sent_by, sent_is}

@@ -16,7 +16,7 @@ use Rattle.actor.specs.Node.{by_port}
 use Rattle.actor.specs.Written.{IsTranscript}
 use Rattle.gather_laws.specs.MergedRuns.{HaveMet}
 use Rattle.gather_laws.specs.Outcome.{Outcome, entries_in, link_in, node_in, put_by, taken_by}
-use Rattle.outcomes.proofs.Rows.{get_map}
+use Rattle.port_rows.proofs.Rows.{get_map}
 use Rattle.outcomes.proofs.Linked.{AreGathered, entries_at, here, put_is, puts_at, puts_here, split_is, taken_here, taken_is, takens_at, takens_here}
 
 module _ {S M E A X Y : Type 0} {program : Program S M E} {net : Net} {nodes : List A} {vertex : A → ℕ} {alpha : A → Alpha S M}

@@ -1,4 +1,3 @@
 pub mod Gathers
-pub mod Rows
 pub mod Meets
 pub mod Full

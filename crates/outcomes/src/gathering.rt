@@ -9,13 +9,13 @@ ghost use Rattle.actor.specs.Stepped.{refusal_of};
 ghost use Rattle.gather_laws.specs.Outcome.{IsOutcome};
 ghost use Rattle.outcomes.specs.Full.{HasStampLeft};
 
-use crate::cross::crossed;
 use crate::meeting::meet_rows;
 use crate::outcome::Outcome;
 use crate::taking_apart::{NodesAndEnds, split_ends};
 use actor::{Links, Node, Wiring};
 use interference::{Memory, Network};
 use node_api::NodeProgram;
+use port_rows::crossed;
 use std::alloc::Global;
 use std::sync::Wait;
 

@@ -5,11 +5,11 @@ ghost use Rattle.link_queue.specs.Ends.{held_stamped, put_stamped, taken_stamped
 ghost use Rattle.actor.specs.Links.{HoldAtMost};
 ghost use Rattle.outcomes.specs.Meets.{AreMet, RowsAreMet};
 
-use crate::pairs::pairs;
 use actor::{Links, WiredPut, WiredTake, Wiring};
 use interference::Memory;
 use link_queue::Met;
 use node_api::NodeProgram;
+use port_rows::pairs;
 use std::alloc::Global;
 use std::sync::Wait;
 

@@ -2,7 +2,7 @@
 
 ghost use Rattle.std.specs.Prelude.{◌≡◌, ◌≤◌, [], IfOk, map, vec_capacity};
 ghost use Rattle.entries.specs.Recorded.{entries_by};
-ghost use Rattle.outcomes.specs.Rows.{rows_of};
+ghost use Rattle.port_rows.specs.Rows.{rows_of};
 
 use actor::{Node, WiredPut, WiredTake, Wiring};
 use alpha_core::AlphaNode;

@@ -1,4 +1,2 @@
 pub mod Joined
 mod InHand
-mod NoneRefused
-mod Numbers

@@ -1,7 +1,7 @@
-//! Why a run returns no nodes. Each call has the faults that it can have, and no other.
+//! Why the threads of a run return nothing.
 
 ghost use Rattle.std.specs.Prelude.{◌≡◌};
-ghost use Rattle.pool.specs.Faults.{fault_of_nodes, fault_of_threads};
+ghost use Rattle.pool.specs.Faults.{fault_of_threads};
 
 use interference::Memory;
 use run_faults::PoolFault;
@@ -10,7 +10,8 @@ use std::alloc::AllocError;
 /// Why the threads of a run return nothing.
 #[derive(Debug, Clone, Copy, PartialEq, Eq)]
 pub enum ThreadsFault {
-    /// Out of memory for places, deques or workers' states, for the list of threads, or for what they return.
+    /// Out of memory for places, deques or workers' states, for the list of threads, for what they return; or in a
+    /// turn of a task.
     Memory,
     /// A thread was refused; those that had begun are joined.
     Spawn,
@@ -36,43 +37,13 @@ impl From<Memory> for ThreadsFault {
     }
 }
 
-/// Why a run returns no nodes.
-#[derive(Debug, Clone, Copy, PartialEq, Eq)]
-pub enum NodesFault {
-    /// Out of memory, also for an entry of a node.
-    Memory,
-    /// A thread was refused; those that had begun are joined.
-    Spawn,
-}
-
-impl From<Memory> for NodesFault {
-    ghost use Rattle.pool.specs.declared.faults.NodesFault.{NodesFault};
-
-    ghost from_gives = { λ _ result. result ≡ NodesFault.Memory };
-
-    fn from(_error: Memory) -> NodesFault {
-        NodesFault::Memory
-    }
-}
-
-impl From<ThreadsFault> for NodesFault {
+impl From<ThreadsFault> for PoolFault {
     ghost from_gives = { λ fault result. result ≡ fault_of_threads fault };
 
-    fn from(fault: ThreadsFault) -> NodesFault {
+    fn from(fault: ThreadsFault) -> PoolFault {
         match fault {
-            ThreadsFault::Memory => NodesFault::Memory,
-            ThreadsFault::Spawn => NodesFault::Spawn,
-        }
-    }
-}
-
-impl From<NodesFault> for PoolFault {
-    ghost from_gives = { λ fault result. result ≡ fault_of_nodes fault };
-
-    fn from(fault: NodesFault) -> PoolFault {
-        match fault {
-            NodesFault::Memory => PoolFault::Memory,
-            NodesFault::Spawn => PoolFault::Spawn,
+            ThreadsFault::Memory => PoolFault::Memory,
+            ThreadsFault::Spawn => PoolFault::Spawn,
         }
     }
 }

@@ -1,21 +1,17 @@
 //! A run of workers over their deques.
 
-ghost use Rattle.std.specs.Prelude.{◌≡◌, ◌≢◌, ◌≤◌, All, IfOk, Some, length, map, reverse, vec_len};
-ghost use Rattle.interference.specs.Net.{vertices};
+ghost use Rattle.std.specs.Prelude.{◌≡◌, ◌≤◌, All, IfOk, length, map, vec_len};
+ghost use Rattle.std.specs.List.{range_with_len};
 ghost use Rattle.crossbeam_deque.specs.Handles.{stealer_deque, worker_deque};
+ghost use Rattle.deque_rule.specs.Ledgers.{AreSame};
 ghost use Rattle.worker_deques.specs.Passes.{deques_of};
-ghost use Rattle.actor.specs.declared.refused.TurnRefused.TheVariants.{Memory};
-ghost use Rattle.actor.specs.Stepped.{refusal_of};
 
-use crate::faults::{NodesFault, ThreadsFault};
-use crate::looks::Shared;
-use crate::refusals::fault_of_refusals;
+use crate::faults::ThreadsFault;
+use crate::looks::{Shared, Turned};
 use crate::signals::Signals;
 use crate::threads::{join_all, start_all};
-use actor::{Gate, Links, Node, Wiring};
 use crossbeam_deque::protocol::Split;
-use deque_rule::Ledger;
-use node_api::NodeProgram;
+use deque_rule::{Ledger, StealHandle, Task};
 use run_options::{MAX_WORKERS, Options};
 use std::alloc::Global;
 use std::sync::Wait;
@@ -37,40 +33,33 @@ impl Split<Ledger> for Dealt {
     ghost right = { λ v. ledger 1 v.pushed v.taken };
 }
 
-// A run whose nodes aren't asked for their refusals yet: each node once, ascending, also one whose last turn was
-// refused.
-fn run_all<J: Wiring + Send + Sync, P: NodeProgram, G: Gate + Sync, R: Threads + Wait + Sync>(
+// All workers look, each in a thread of its own, and hand back their states.
+fn in_threads<T: Task + Send, F: Fn(&mut Box<T>, u32) -> Turned + Sync, R: Threads + Wait + Sync>(
     rt: &R,
     alloc: Global,
-    links: &Links<J, P>,
-    gate: &G,
-    nodes: Vec<Box<Node<J, P>>>,
-    options: Options,
-) -> Result<Vec<Box<Node<J, P>>>, ThreadsFault>
-    requires nodes { map (λ b. b.value.vertex) nodes.items ≡ reverse (vertices J.net) }
-    requires workers { (1 ≤ options.workers) × (options.workers ≤ MAX_WORKERS) }
-    ensures order { IfOk result (λ all. map (λ b. b.value.vertex) all.items ≡ vertices J.net) }
+    shared: &Shared<F>,
+    stealers: &[StealHandle<T>],
+    states: Vec<WorkerState<T>>,
+) -> Result<Vec<WorkerState<T>>, ThreadsFault>
+    requires callable { F.IsAlwaysCallable shared.now.turn }
+    requires keeps { (b w r left : _) → F.post shared.now.turn b w r left
+        → T.number_of left.now.value ≡ T.number_of b.now.value }
+    requires few { vec_len states ≤ MAX_WORKERS }
+    requires workers { vec_len states ≡ length stealers.now }
+    requires deques { All (λ d. deques_of d.passes.items ≡ map stealer_deque stealers.now) states.items }
+    ensures owns { IfOk result (λ done. map (λ d. worker_deque d.own) done.items
+        ≡ map (λ d. worker_deque d.own) states.items) }
+    ensures passes { IfOk result (λ done. map (λ d. deques_of d.passes.items) done.items
+        ≡ map (λ d. deques_of d.passes.items) states.items) }
 {
-    let count = nodes.len();
-    let places = make_places(alloc, count)?;
-    let (owns, stealers) = make_deques::<Node<J, P>>(alloc, count, options.workers)?;
-    let owns = deal(owns, nodes);
-    let (owns, dealt) = split_off::<Node<J, P>, Dealt>(alloc, owns)?;
-    let states = make_worker_states(alloc, count, owns)?;
-    let signals = Signals::new();
-    let common = Shared {
-        links,
-        gate,
-        signals: &signals,
-        nodes: count as u64,
-        looks: options.turns,
-    };
-    let (shared, stealers) = (&common, stealers.as_slice());
-    let done = thread::scope(
+    thread::scope(
         thread::scope_env(),
         rt,
-        move |scope| -> Result<Vec<WorkerState<Node<J, P>>>, ThreadsFault>
-            requires { (vec_len states ≤ MAX_WORKERS) × (vec_len states ≡ length stealers.now)
+        move |scope| -> Result<Vec<WorkerState<T>>, ThreadsFault>
+            requires { F.IsAlwaysCallable shared.now.turn
+                × ((b w r left : _) → F.post shared.now.turn b w r left
+                → T.number_of left.now.value ≡ T.number_of b.now.value)
+                × (vec_len states ≤ MAX_WORKERS) × (vec_len states ≡ length stealers.now)
                 × All (λ d. deques_of d.passes.items ≡ map stealer_deque stealers.now) states.items }
             ensures owns { IfOk result (λ done. map (λ d. worker_deque d.own) done.items
                 ≡ map (λ d. worker_deque d.own) states.items) }
@@ -78,35 +67,46 @@ fn run_all<J: Wiring + Send + Sync, P: NodeProgram, G: Gate + Sync, R: Threads +
                 ≡ map (λ d. deques_of d.passes.items) states.items) }
         {
             let children = Vec::with_capacity(alloc, states.len())?;
-            let children = start_all(scope, rt, shared, stealers, states, children)?;
-            Ok(join_all(rt, shared.signals, children)?)
+            let children = start_all(scope, shared, stealers, states, children)?;
+            Ok(join_all(rt, &shared.signals, children)?)
         },
-    )?;
-    Ok(gather(rt, alloc, places, dealt, done)?)
+    )
 }
 
-/// Runs the nodes, given from the last vertex down, by `options.workers` workers, each of which makes at most
-/// `options.turns` looks, and returns each node once, ascending. None of them remembers that memory was refused to a
-/// turn; that no stamp was, `outcomes::gathered` shows.
+/// Makes turns of the tasks by `options.workers` workers, each of which makes at most `options.turns` looks, and
+/// returns each task once, by ascending number, also one by whose turn the run was to end. The last task is dealt
+/// first. `turn` is a turn of a task by a worker, from 0; it leaves the task's number.
 ///
 /// # Errors
 ///
-/// `Memory` if memory is refused, also for an entry of a node: its worker stops at once. `Spawn` if a thread is
-/// refused. The workers that had begun are joined.
-pub fn run_nodes<J: Wiring + Send + Sync, P: NodeProgram, G: Gate + Sync, R: Threads + Wait + Sync>(
+/// `Memory` if memory is refused, and `Spawn` if a thread is. The workers that had begun are joined.
+pub fn run_all<T: Task + Send, F: Fn(&mut Box<T>, u32) -> Turned + Sync, R: Threads + Wait + Sync>(
     rt: &R,
     alloc: Global,
-    links: &Links<J, P>,
-    gate: &G,
-    nodes: Vec<Box<Node<J, P>>>,
+    turn: F,
+    tasks: Vec<Box<T>>,
     options: Options,
-) -> Result<Vec<Box<Node<J, P>>>, NodesFault>
-    requires nodes { map (λ b. b.value.vertex) nodes.items ≡ reverse (vertices J.net) }
+) -> Result<Vec<Box<T>>, ThreadsFault>
+    requires callable { F.IsAlwaysCallable turn }
+    requires keeps { (b w r left : _) → F.post turn b w r left
+        → T.number_of left.now.value ≡ T.number_of b.now.value }
+    requires numbers { AreSame (map (λ b. T.number_of b.value) tasks.items) (range_with_len 0 (vec_len tasks)) }
     requires workers { (1 ≤ options.workers) × (options.workers ≤ MAX_WORKERS) }
-    ensures order { IfOk result (λ all. map (λ b. b.value.vertex) all.items ≡ vertices J.net) }
-    ensures none_refused { IfOk result (λ all. All (λ b. refusal_of b.value ≢ Some Memory) all.items) }
+    ensures order { IfOk result
+        (λ all. map (λ b. T.number_of b.value) all.items ≡ range_with_len 0 (vec_len tasks)) }
 {
-    let nodes = run_all(rt, alloc, links, gate, nodes, options)?;
-    fault_of_refusals(nodes.as_slice())?;
-    Ok(nodes)
+    let count = tasks.len();
+    let places = make_places(alloc, count)?;
+    let (owns, stealers) = make_deques::<T>(alloc, count, options.workers)?;
+    let owns = deal(owns, tasks);
+    let (owns, dealt) = split_off::<T, Dealt>(alloc, owns)?;
+    let states = make_worker_states(alloc, count, owns)?;
+    let shared = Shared {
+        turn,
+        signals: Signals::new(),
+        tasks: count as u64,
+        looks: options.turns,
+    };
+    let done = in_threads(rt, alloc, &shared, stealers.as_slice(), states)?;
+    Ok(gather(rt, alloc, places, dealt, done)?)
 }

@@ -6,12 +6,10 @@ ghost use Rattle.worker_deques.specs.Passes.{deques_of};
 ghost use Rattle.pool.specs.declared.faults.ThreadsFault.TheVariants.{Spawn};
 
 use crate::faults::ThreadsFault;
-use crate::looks::{Shared, work};
+use crate::looks::{Shared, Turned, work};
 use crate::signals::Signals;
-use actor::{Gate, Node, Wiring};
 use deque_rule::{StealHandle, Task};
 use interference::Memory;
-use node_api::NodeProgram;
 use run_options::MAX_WORKERS;
 use std::snapshot::Snapshot;
 use std::sync::Wait;
@@ -23,14 +21,16 @@ use worker_deques::{SameDeques, WorkerState};
 pub type Child<T: Task> = PromisedHandle<WorkerState<T>, SameDeques<T>>;
 
 // Starts a worker in a thread of the scope.
-fn start<'s, E, J: Wiring + Send + Sync, P: NodeProgram, G: Gate + Sync, R: Threads + Wait + Sync>(
+fn start<'s, E, T: Task + Send, F: Fn(&mut Box<T>, u32) -> Turned + Sync>(
     scope: &Scope<'s, E>,
-    rt: &'s R,
-    shared: &'s Shared<'s, J, P, G>,
-    stealers: &'s [StealHandle<Node<J, P>>],
+    shared: &'s Shared<F>,
+    stealers: &'s [StealHandle<T>],
     worker: u32,
-    state: WorkerState<Node<J, P>>,
-) -> Result<Child<Node<J, P>>, ThreadsFault>
+    state: WorkerState<T>,
+) -> Result<Child<T>, ThreadsFault>
+    requires callable { F.IsAlwaysCallable shared.now.turn }
+    requires keeps { (b w r left : _) → F.post shared.now.turn b w r left
+        → T.number_of left.now.value ≡ T.number_of b.now.value }
     requires worker { worker < length stealers.now }
     requires deques { deques_of state.passes.items ≡ map stealer_deque stealers.now }
     ensures state { IfOk result (λ h. h.promise.0.value ≡ state) }
@@ -38,12 +38,15 @@ fn start<'s, E, J: Wiring + Send + Sync, P: NodeProgram, G: Gate + Sync, R: Thre
 {
     let started = scope.spawn_with(
         SameDeques(Snapshot::of(&state)),
-        move || -> WorkerState<Node<J, P>>
-            requires { (worker < length stealers.now)
+        move || -> WorkerState<T>
+            requires { F.IsAlwaysCallable shared.now.turn
+                × ((b w r left : _) → F.post shared.now.turn b w r left
+                → T.number_of left.now.value ≡ T.number_of b.now.value)
+                × (worker < length stealers.now)
                 × (deques_of state.passes.items ≡ map stealer_deque stealers.now) }
             ensures { (worker_deque result.own ≡ worker_deque state.own)
                 × (deques_of result.passes.items ≡ deques_of state.passes.items) }
-        { work(rt, shared, stealers, worker, state) },
+        { work(shared, stealers, worker, state) },
     );
     match started {
         Ok(child) => Ok(child),
@@ -60,21 +63,16 @@ fn start<'s, E, J: Wiring + Send + Sync, P: NodeProgram, G: Gate + Sync, R: Thre
 /// # Errors
 ///
 /// `Spawn` if a thread is refused, and no other; the others stop, and the scope joins them.
-pub fn start_all<
-    's,
-    E,
-    J: Wiring + Send + Sync,
-    P: NodeProgram,
-    G: Gate + Sync,
-    R: Threads + Wait + Sync,
->(
+pub fn start_all<'s, E, T: Task + Send, F: Fn(&mut Box<T>, u32) -> Turned + Sync>(
     scope: &Scope<'s, E>,
-    rt: &'s R,
-    shared: &'s Shared<'s, J, P, G>,
-    stealers: &'s [StealHandle<Node<J, P>>],
-    states: Vec<WorkerState<Node<J, P>>>,
-    mut children: Vec<Child<Node<J, P>>>,
-) -> Result<Vec<Child<Node<J, P>>>, ThreadsFault>
+    shared: &'s Shared<F>,
+    stealers: &'s [StealHandle<T>],
+    states: Vec<WorkerState<T>>,
+    mut children: Vec<Child<T>>,
+) -> Result<Vec<Child<T>>, ThreadsFault>
+    requires callable { F.IsAlwaysCallable shared.now.turn }
+    requires keeps { (b w r left : _) → F.post shared.now.turn b w r left
+        → T.number_of left.now.value ≡ T.number_of b.now.value }
     requires few { vec_len states ≤ MAX_WORKERS }
     requires workers { vec_len states ≡ length stealers.now }
     requires deques { All (λ d. deques_of d.passes.items ≡ map stealer_deque stealers.now) states.items }
@@ -85,7 +83,7 @@ pub fn start_all<
 {
     let mut worker = 0;
     for state in states {
-        children.push_reserved(start(scope, rt, shared, stealers, worker, state)?);
+        children.push_reserved(start(scope, shared, stealers, worker, state)?);
         worker += 1;
     }
     Ok(children)

@@ -1,11 +1,11 @@
 use Rattle.std.proofs.Common.{map}
 use Rattle.actor.specs.Tables.{table_of}
-use Rattle.outcomes.specs.Rows.{rows_of}
-use Rattle.node_pool.specs.Makes.{tables_of}
+use Rattle.port_rows.specs.Rows.{rows_of}
+use Rattle.node_runs.specs.Makes.{tables_of}
 use Rattle.node_pool.proofs.run.run_workers.Given as goal
 
-abbrev pub ghosts-run_made : goal.ghosts-run_made
-ghosts-run_made g a = record {
+abbrev pub ghosts-run_over : goal.ghosts-run_over
+ghosts-run_over g a = record {
   net = a.net.now;
   tables = tables_of (rows_of a.made.ends.items);
   links = map table_of a.made.links.items;

@@ -6,7 +6,7 @@ use Rattle.actor.proofs.Lists.{as_long}
 use Rattle.actor.specs.Node.{by_port, reacted_to}
 use Rattle.actor.specs.Written.{IsTranscript}
 use Rattle.entries.specs.Rows.{bare_of}
-use Rattle.outcomes.specs.Rows.{AreCrossed, HasShape, rows_of}
+use Rattle.port_rows.specs.Rows.{AreCrossed, HasShape, rows_of}
 use Rattle.actor.specs.HasStamps.{HasStamps}
 use Rattle.entries.specs.Recorded.{entries_by}
 use Rattle.link_queue.specs.Ends.{held_stamped, put_list, put_stamped, taken_list, taken_stamped}
@@ -14,11 +14,11 @@ use Rattle.node_api.specs.Program.{last_pulse_on}
 use Rattle.progress_laws.proofs.Short.{few-events}
 use Rattle.outcomes.proofs.Fits.{none_full}
 use Rattle.outcomes.proofs.Full.{all_left, all_refused, none_remembered}
-use Rattle.outcomes.proofs.Sides.{all_by}
+use Rattle.port_rows.proofs.Sides.{all_by}
 use Rattle.outcomes.specs.Meets.{history_of_met, put_of, taken_of}
 use Rattle.gather_laws.specs.Outcome.{IsOutcome, Outcome}
 use Rattle.outcomes.specs.Gathers.{gathered_of}
-use Rattle.outcomes.proofs.Rows.{all_rows, of_fields, of_items, shape_of}
+use Rattle.port_rows.proofs.Rows.{all_rows, of_fields, of_items, shape_of}
 use Rattle.outcomes.proofs.Places.{ends_meet}
 use Rattle.outcomes.proofs.Linked.{AreGathered}
 use Rattle.outcomes.proofs.Did.{ran}

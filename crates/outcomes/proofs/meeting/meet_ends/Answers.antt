@@ -3,7 +3,7 @@ use Rattle.worker_deques.proofs.Each.{ok_says}
 use Rattle.link_queue.specs.Ends.{put_stamped, taken_stamped}
 use Rattle.outcomes.specs.Meets.{AreMet}
 use Rattle.outcomes.proofs.Meetings.{as_long, err_says}
-use Rattle.outcomes.proofs.Sides.{firsts, seconds, same_each}
+use Rattle.port_rows.proofs.Sides.{firsts, seconds, same_each}
 use Rattle.outcomes.proofs.meeting.meet_ends.Goals as goal
 
 pub pairs-requires : goal.pairs-requires

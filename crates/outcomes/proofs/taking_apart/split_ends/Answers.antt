@@ -4,8 +4,8 @@ use Rattle.std.proofs.lemmas.Iterator.Consumers.{YieldsList-end, YieldsList-turn
 use Rattle.std.proofs.lemmas.Iterator.Adapters.{YieldsList-from_vec}
 use Rattle.entries.specs.Recorded.{entries_by}
 use Rattle.worker_deques.proofs.Views.{as_many}
-use Rattle.outcomes.proofs.ReadLists.{both_pushed}
-use Rattle.outcomes.specs.Rows.{rows_of}
+use Rattle.port_rows.proofs.ReadLists.{both_pushed}
+use Rattle.port_rows.specs.Rows.{rows_of}
 use Rattle.outcomes.proofs.taking_apart.split_ends.Given.{Over}
 use Rattle.outcomes.proofs.taking_apart.split_ends.Goals.{In-Some}
 use Rattle.outcomes.proofs.taking_apart.split_ends.Goals as goal

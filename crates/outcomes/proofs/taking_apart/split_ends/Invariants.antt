@@ -1,6 +1,6 @@
 use Rattle.std.proofs.Common.{◌≡◌, ◌≤◌, map, vec_len, vec_capacity}
 use Rattle.entries.specs.Recorded.{entries_by}
-use Rattle.outcomes.specs.Rows.{rows_of}
+use Rattle.port_rows.specs.Rows.{rows_of}
 use Rattle.outcomes.proofs.taking_apart.split_ends.Given as goal
 
 abbrev pub invariant-loop-node : goal.invariant-loop-node

@@ -1,2 +1,0 @@
-pub mod Makes
-pub mod News

@@ -1,0 +1,51 @@
+//! A turn of a node, as a worker makes it.
+
+ghost use Rattle.std.specs.Prelude.{◌≡◌};
+ghost use Rattle.actor.specs.Stepped.{refusal_after, refusal_of};
+
+use actor::{Gate, Links, Node, TurnRefused, Wiring};
+use node_api::NodeProgram;
+use pool::Turned;
+use std::sync::Wait;
+
+// A turn of a node, between the first and the last call of the gate. Returns whether the node did something, or the
+// refusal that it remembers.
+fn turn<J: Wiring, P: NodeProgram, G: Gate, R: Wait>(
+    rt: &R,
+    links: &Links<J, P>,
+    gate: &G,
+    worker: u32,
+    node: &mut Node<J, P>,
+) -> Result<bool, TurnRefused>
+    ensures vertex { node.new.vertex ≡ node.old.vertex }
+    ensures refusal { refusal_of node.new ≡ refusal_after (refusal_of node.old) result }
+{
+    gate.enter(rt, worker, node.vertex);
+    let turned = node.turn(rt, links, gate, worker);
+    gate.leave(rt, worker, node.vertex);
+    turned
+}
+
+/// A turn of a node, as what it says to its worker: the run is to end if the turn was refused something, or if the node
+/// has set a wire aside.
+pub(crate) fn turn_of<J: Wiring, P: NodeProgram, G: Gate, R: Wait>(
+    rt: &R,
+    links: &Links<J, P>,
+    gate: &G,
+    worker: u32,
+    node: &mut Node<J, P>,
+) -> Turned
+    ensures vertex { node.new.vertex ≡ node.old.vertex }
+{
+    let turned = turn(rt, links, gate, worker, node);
+    if turned.is_err() || node.aside.is_some() {
+        return Turned::Ended;
+    }
+    if node.alpha.drained() {
+        return Turned::Done;
+    }
+    match turned {
+        Ok(true) => Turned::Moved,
+        _ => Turned::Rested,
+    }
+}

@@ -1,6 +1,0 @@
-use Rattle.std.proofs.Common.{arith}
-use Rattle.std.proofs.lemmas.Grind.{common_steps}
-use Rattle.pool.proofs.refusals.fault_of_refusals.Goals as goal
-
-pub loop-node-preserved : goal.loop-node-preserved
-loop-node-preserved g c = grind (arith, common_steps)

@@ -1,7 +1,0 @@
-use Rattle.std.proofs.Common.{◌≡◌, drop, map}
-use Rattle.pool.specs.Refusals.{fault_of_refusals}
-use Rattle.pool.proofs.refusals.fault_of_refusals.Given as goal
-
-abbrev pub invariant-loop-node : goal.invariant-loop-node
-invariant-loop-node g l = fault_of_refusals (tt {0}) (map (λ b. b.value.refusal) l.nodes)
-    ≡ fault_of_refusals (tt {0}) (map (λ b. b.value.refusal) (drop l.node-index l.nodes))

@@ -1,0 +1,5 @@
+pub mod Rows
+mod Slots
+pub mod ReadLists
+mod Crosses
+pub mod Sides
