@@ -44,14 +44,8 @@ CODES = {
         "F10": ("{a line} is an `i` or a `b` line before the `p` line", FIRST),
         "F11": ("in {a line} the identifier is 2^128 or more", "take a smaller identifier"),
         "F12": ("{a line} is a second `i` line of its vertex", LEAVE),
-        "F13": (
-            "in {a line} the barred channel is 0 or above 2,048",
-            "bar another channel",
-        ),
-        "F14": (
-            "{a line} bars one more than 1,024 different channels at its vertex",
-            "bar fewer",
-        ),
+        "F13": ("in {a line} the barred channel is 0 or above 2,048", "bar another channel"),
+        "F14": ("{a line} bars one more than 1,024 different channels at its vertex", "bar fewer"),
         "N1": (
             "{a vertex} has more than 1,023 neighbours",
             "take edges out; no lower vertex has too many",

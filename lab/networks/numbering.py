@@ -12,13 +12,15 @@ from lab.networks.random_networks import shuffled
 
 
 def in_order(network: Network, order: Sequence[int], said: Mapping[int, int]) -> Network:
-    """The network whose vertices are those of `order`, one after the other. `said` has their identifiers."""
+    """The network of the vertices of `order` alone, in this order. `said` has their identifiers."""
     number = {old: new for new, old in enumerate(order, 1)}
     kept: tuple[Mapping[int, Any], ...] = (said, network.bars, network.places)
     said, bars, places = ({number[v]: what for v, what in of.items() if v in number} for of in kept)
+    left = [edge for edge in network.edges if number.keys() >= {*edge}]
     return replace(
         network,
-        edges={(number[v], number[w]) for v, w in network.edges},
+        nodes=len(order),
+        edges=[(number[v], number[w]) for v, w in left],
         said=said,
         bars=bars,
         names={new: network.names.get(old, str(old)) for old, new in number.items()},

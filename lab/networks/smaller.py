@@ -3,16 +3,13 @@ from collections.abc import Iterator
 from dataclasses import replace
 
 from lab.network import Network
+from lab.networks.numbering import in_order
 
 
 def without_vertex(network: Network, gone: int) -> tuple[Network, list[int]]:
     """The network without a node, and the vertices that its own were."""
     left = [v for v in network.vertices if v != gone]
-    new = {v: k for k, v in enumerate(left, 1)}
-    edges = [(new[v], new[w]) for v, w in network.edges if gone not in (v, w)]
-    identifiers = {new[v]: network.identifiers[v] for v in left}
-    bars = {new[v]: network.bars.get(v, []) for v in left}
-    return Network(len(left), edges, identifiers, bars, name=network.name), left
+    return replace(in_order(network, left, network.identifiers), names={}, places={}), left
 
 
 def smaller(network: Network) -> Iterator[tuple[Network, list[int]]]:

@@ -306,15 +306,6 @@ class OwnNetworks(Case):
             network_of(small).said,
         )
 
-    def test_names(self):
-        network = self.written(
-            "read", "-", "--as", "pairs", data=b'source,target\nUlm,"Aue, west"\n"Aue, west",Jena\n'
-        )
-        path, plan = self.file("sites.col", network), b"plan\n1 1\n2 2\n3 1\n"
-        named = call("names", path, data=plan)
-        self.same("names on a plan", named, (0, b"Ulm 1\nAue, west 2\nJena 1\n", b""))
-        self.refusal("names on no plan", call("names", path), 1, b"no line `plan` (C6)")
-
     def told_of(self, data, *words):
         """{name: what} of the lines of `network tell`."""
         status, text, told = call("tell", "-", *words, data=data)
@@ -357,15 +348,10 @@ class OwnNetworks(Case):
             self.note(f"the most payloads of {name}", payloads <= most <= 2 * payloads, most)
 
     def test_warnings(self):
-        for data, said in (
-            (
-                b"p edge 3 99\ne 1 2\n",
-                b"the `p` line says 99 edges, and the text has 1: is it cut?",
-            ),
-        ):
-            self.note(f"warned of {data}", said in self.told_of(data)[1])
+        said = b"the `p` line says 99 edges, and the text has 1: is it cut?"
+        self.note("a text that is cut", said in self.told_of(b"p edge 3 99\ne 1 2\n")[1])
         for data in (b"p edge 2 1\ne 1 2\n", b"p edge 3 2\ne 1 2\ne 2 1\ne 2 3\ne 3 2\n"):
-            self.note(f"not warned of {data}", self.told_of(data)[1] == b"")
+            self.same(f"not warned of {data}", self.told_of(data)[1], b"")
 
     def test_faults(self):
         """The fault that the program reports (codes.py), in words."""

@@ -243,12 +243,17 @@ class Channels(Case):
             )
 
     def test_names(self):
-        """Real numbers on a plan with names."""
-        path = self.file(
-            "net.col", call("read", "-", "--as", "pairs", data=b"source,target\nUlm,Aue\n")[1]
-        )
+        """Real numbers on a plan with names, and what is no plan of the network."""
+        pairs = b'source,target\nUlm,"Aue, west"\n'
+        path = self.file("net.col", call("read", "-", "--as", "pairs", data=pairs)[1])
         real = self.call("36", "40", data="plan\n1 2\n2 1\n")[1].encode()
         got = call("names", path, data=real)
-        self.same("names with real channels", got, (0, b"Ulm 40\nAue 36\n", b""))
-        for other in (b"plan\n1 1\n", b"plan\n2 1\n1 2\n", b"plan\n1 1\n2 2\n3 3\n"):
-            self.refusal(f"{other}", call("names", path, data=other), 1, b"isn't of this network")
+        self.same("names with real channels", got, (0, b"Ulm 40\nAue, west 36\n", b""))
+        other = b"isn't of this network"
+        for data, said in (
+            (b"", b"no line `plan` (C6)"),
+            (b"plan\n1 1\n", other),
+            (b"plan\n2 1\n1 2\n", other),
+            (b"plan\n1 1\n2 2\n3 3\n", other),
+        ):
+            self.refusal(f"{data}", call("names", path, data=data), 1, said)
