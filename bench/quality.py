@@ -11,52 +11,40 @@ which has to be installed.
 The plan is that of the slow definitions, which `forestplan plain` prints, too. After 1, 2, 4 and 8 passes its classes
 have chosen anew, in the orders of the definitions, as `forestplay rounds --program recolouring --passes N` has it."""
 import argparse
-import math
-import random
 import sys
-from collections.abc import Iterable
-from itertools import combinations
 
 import networkx
 
 from lab.definitions.colours import colours
 from lab.definitions.recolouring import order
-from lab.network import Edge, Network
+from lab.network import Network
 from lab.networks import kinds
 
 # After how many passes the channels are counted.
 PASSES = (1, 2, 4, 8)
+HEADS = (
+    *("network", "nodes", "edges", "most", "plan"),
+    *(f"{passes} passes" for passes in PASSES),
+    *("DSATUR", "smallest last", "largest first", "by number"),
+)
 
 
-def of_pairs(nodes: int, edges: Iterable[Edge]) -> Network:
-    """The network of edges between nodes that count from 0."""
-    return Network(nodes, {(min(edge) + 1, max(edge) + 1) for edge in edges})
-
-
-def disk(nodes: int, degree: int, seed: int) -> Network:
-    """Places by chance in a square; two are joined if they are so near that `degree` neighbours are expected."""
-    source, reach = random.Random(seed), math.sqrt(degree / (math.pi * nodes))
-    places = [(source.random(), source.random()) for _ in range(nodes)]
-    pairs = combinations(range(nodes), 2)
-    return of_pairs(nodes, [(a, b) for a, b in pairs if math.dist(places[a], places[b]) <= reach])
-
-
-def gnp(nodes: int, share: float, seed: int) -> Network:
-    """Each pair is an edge with this chance."""
-    source = random.Random(seed)
-    pairs = [(a, b) for a in range(nodes) for b in range(a)]
-    return of_pairs(nodes, [pair for pair in pairs if source.random() < share])
+def of_graph(graph: networkx.Graph) -> Network:
+    """The network of a graph whose nodes count from 0."""
+    return Network(len(graph), [(v + 1, w + 1) for v, w in graph.edges])
 
 
 NETWORKS = {
-    "disk of 500, some 9 each": lambda: disk(500, 9, 7),
-    "200 nodes, a twentieth of pairs": lambda: gnp(200, 0.05, 7),
+    "500 sites, 75 of 1,000 apart": lambda: kinds.disk(500, 0.075, 7),
+    "200 nodes, a twentieth of pairs": lambda: of_graph(
+        networkx.gnp_random_graph(200, 0.05, seed=7)
+    ),
     "2,000 sites, 55 of 1,000 apart": lambda: kinds.disk(2000, 0.055, 1),
     "queen 8x8": lambda: kinds.queen(8, 8),
     "grid 50x50": lambda: kinds.grid(50, 50),
     "tree of 1,000": lambda: kinds.tree(1000, 1),
-    "2,000 by preference, 5 each": lambda: of_pairs(
-        2000, networkx.barabasi_albert_graph(2000, 5, seed=1).edges
+    "2,000 by preference, 5 each": lambda: of_graph(
+        networkx.barabasi_albert_graph(2000, 5, seed=1)
     ),
 }
 
@@ -86,30 +74,13 @@ def main() -> int:
         description=summary, epilog=more, formatter_class=argparse.RawDescriptionHelpFormatter
     )
     words.parse_args()
-    row = "| {:32} |" + " {:>6} |" * 3 + " {:>13} |" * 9
-    print(
-        row.format(
-            "network",
-            "nodes",
-            "edges",
-            "most",
-            "plan",
-            *(f"{passes} passes" for passes in PASSES),
-            "DSATUR",
-            "smallest last",
-            "largest first",
-            "by number",
-        )
-    )
-    print("|---" * 13 + "|")
+    print("|", " | ".join(HEADS), "|")
+    print("|---" * len(HEADS) + "|")
     for name, make in NETWORKS.items():
         network = make()
-        print(
-            row.format(
-                name, network.nodes, len(network.edges), network.greatest_degree, *counts(network)
-            ),
-            flush=True,
-        )
+        most = network.greatest_degree
+        row = [name, network.nodes, len(network.edges), most, *counts(network)]
+        print("|", " | ".join(map(str, row)), "|", flush=True)
     return 0
 
 

@@ -200,11 +200,12 @@ OTHERS = {
         )
     },
     "recolouring": {
+        # Two sweeps of two colours.
         "anew_bars": (
             1,
-            14,
+            16,
             "result",
-            14,
+            16,
             "a node's channel is the colour that it has chosen anew, plus one; it had "
             "merged colour 1, and barred at it: colour 0; nothing has come",
         ),
