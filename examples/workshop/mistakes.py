@@ -276,8 +276,8 @@ OTHERS = {
     ),
     "anew_least": (
         "the least channel chooses first",
-        "mine = self.before if sweep else self.width - 1 - self.before",
-        "mine = self.before",
+        "mine = self.present if sweep else self.width - 1 - self.present",
+        "mine = self.present",
     ),
     "anew_bars": (
         "barred channels are forgotten in the second choice",
