@@ -172,7 +172,7 @@ def plan(
     more = [] if workers is None else ["--workers", str(whole(workers, "workers", 1, MAX_WORKERS))]
     command = ["forestplan", "plan" if more else "plain"]
     if many := whole(passes, "passes", 0, MAX_PASSES):
-        command = ["forestplay", "run" if more else "alone"]
+        command = ["forestplay", "run" if more else "ends"]
         more += ["--program", "recolouring", "--passes", str(many)]
     network, order, text = _asked([*command, *more], G, bars, licence)
     lines = text.removeprefix("plan\n").splitlines()
