@@ -194,7 +194,6 @@ REFUSED = [
     ("alone", "layers --root 4", ROW, "NoRoot vertex 4"),
     ("alone", "layers --root 1 --transcript", "p edge 2 0|i 1 5|i 2 5|", "N2 vertices 1 2"),
     ("ends", "layers --root 4", ROW, "NoRoot vertex 4"),
-    ("ends", "layers --root 2", "p edge 3 0|i 1 1|i 2 1|", "N2 vertices 1 2"),
     ("rounds", "layers --root 9", "p edge 2 1|e 1 1|", "F6 line 2"),
     ("run", "layers --root 1", "p edge 2 0|i 1 5|i 2 5|", "N2 vertices 1 2"),
     # Two vertices of identifier 1 stay two of one identifier, whichever is the root.
