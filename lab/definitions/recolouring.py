@@ -1,5 +1,5 @@
-"""The classes of a plan choose anew (J. C. Culberson, Iterated greedy graph coloring and the difficulty landscape, 1992),
-at one node, by its definition (docs/claim/DEFINITIONS.md), slow and plain."""
+"""The classes of a plan choose anew (J. C. Culberson, Iterated greedy graph coloring and the difficulty landscape,
+1992), at one node, by its definition (docs/claim/DEFINITIONS.md), slow and plain."""
 from lab.definitions.nodes import Slot, last_pulse
 from lab.definitions.sequel import Sequel
 from lab.network import Network
@@ -60,9 +60,9 @@ class Recolouring(Sequel):
     def risen(self) -> int:
         """The greatest colour that is neither barred at it nor a chosen neighbour's, and below one of these; or its
         own, if none above that is so."""
-        above = range(self.old, max(self.held, default=0))
-        free = set(above) - self.first.barred - self.held
-        return max(free, default=self.old)
+        own = self.present()
+        free = set(range(own, max(self.held, default=0))) - self.first.barred - self.held
+        return max(free, default=own)
 
     def present(self) -> int:
         """The colour that it has: that of the colouring until it chooses anew, and then what it chose last."""

@@ -50,8 +50,8 @@ ENDS = [
     # Of an edge node 2 is the parent, in whose turn it takes node 1. 19 is 13 + 6 U, and 20 is R + D + B + 1.
     ("matching", EDGE, 19, "partner 0 to 2|partner 0 to 1"),
     ("independent-set", EDGE, 20, "in|out"),
-    # The plan is 1 2. Node 2 has the greater channel, chooses first and takes 1. In the second pass channel 1, colour 0,
-    # is first again, and node 2 with it; in the third channel 2, and so node 1.
+    # The plan is 1 2. Node 2 has the greater channel, chooses first and takes 1. In the second pass channel 1, colour
+    # 0, is first again, and node 2 with it; in the third channel 2, and so node 1.
     ("recolouring", EDGE, 20, "channel 2|channel 1"),
     ("recolouring --passes 2", EDGE, 22, "channel 2|channel 1"),
     ("recolouring --passes 3", EDGE, 24, "channel 1|channel 2"),
@@ -61,8 +61,8 @@ ENDS = [
     ("matching", ROW, 19, "partner none|partner 1 to 3|partner 0 to 2"),
     ("independent-set", ROW, 24, "in|out|in"),
     ("recolouring --passes 2", ROW, 27, "channel 2|channel 1|channel 2"),
-    # The plan is 2 1, since channel 1 is barred at node 1: it can't take another one, and node 2 has the least. A pass has
-    # two sweeps of D + B + 1 pulses.
+    # The plan is 2 1, since channel 1 is barred at node 1: it can't take another one, and node 2 has the least. A pass
+    # has two sweeps of D + B + 1 pulses.
     ("recolouring --passes 3", BARRED, 39, "channel 2|channel 1"),
     ("recolouring --passes 2", ALONE, 14, "channel 1"),
     ("recolouring --passes 3", NONE, 15, ""),
