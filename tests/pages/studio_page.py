@@ -1,5 +1,6 @@
 """The studio's page in a browser, if one is installed: a network is drawn with a real mouse, and each tab shows what
 the definitions say. And what the page repeats of others."""
+import glob
 import json
 import os
 import re
@@ -19,7 +20,7 @@ from lab.pictures.palette import (
     text_on,
 )
 from tests import TOP, browser
-from tests.cases import Case, said_by
+from tests.cases import Case, said_by, text_in
 from tests.programs.studio import begin
 from tests.tools import need
 
@@ -80,10 +81,7 @@ class Repeated(Case):
 
     def test_contrast(self):
         """Text has a contrast of 4.5, a mark (a fill by its rim) one of 3, in the light and in the dark."""
-        with open(
-            os.path.join(TOP, "lab", "pictures", "page", "page.css"), encoding="utf-8"
-        ) as file:
-            looks = re.findall(r":root\{(.*?)\}", file.read(), re.S)
+        looks = re.findall(r":root\{(.*?)\}", text_in("lab/pictures/page/page.css"), re.S)
         self.note("a light and a dark look", len(looks) == 2)
         rows = [
             (ink, fill, 4.5)
@@ -117,11 +115,9 @@ class Repeated(Case):
     def test_names_in_the_page(self):
         """Each element that the modules ask for by its name is in the page."""
         folder = os.path.join(TOP, "lab", "studio", "page")
-        with open(os.path.join(folder, "page.html"), encoding="utf-8") as file:
-            there = set(re.findall(r'\bid="(\w+)"', file.read()))
-        for name in sorted(name for name in os.listdir(folder) if name.endswith(".js")):
-            with open(os.path.join(folder, name), encoding="utf-8") as file:
-                asked = set(re.findall(r'\bby\("(\w+)"\)', file.read()))
+        there = set(re.findall(r'\bid="(\w+)"', text_in(folder, "page.html")))
+        for name in glob.glob("*.js", root_dir=folder):
+            asked = set(re.findall(r'\bby\("(\w+)"\)', text_in(folder, name)))
             self.note(name, asked <= there, asked - there)
 
 
@@ -152,9 +148,10 @@ class Page(Case):
 
     def setUp(self):
         need(self, "a browser")
+        self.value, self.click_on = self.page.value, self.page.click_on
 
     def go_to(self, words):
-        self.page.value(f"location.hash = {json.dumps(words)}")
+        self.value(f"location.hash = {json.dumps(words)}")
 
     def at(self, place):
         """A place of the stage in the window: that of a node, or the middle of an edge."""
@@ -163,7 +160,7 @@ class Page(Case):
             if isinstance(place, int)
             else (f"studio.stage.along({place[0]}, {place[1]}, 0.5)")
         )
-        return self.page.value(
+        return self.value(
             "(() => { const b = document.getElementById('net').getBoundingClientRect(), p = "
             f"{found}; return [b.x + p[0], b.y + p[1]]; }})()"
         )
@@ -173,7 +170,11 @@ class Page(Case):
 
     def leave_out(self, boxes, rule):
         """Clicks the box of a rule: it is left out, or no more."""
-        self.page.value(f"document.querySelector('#{boxes} [value={rule}]').click()")
+        self.value(f"document.querySelector('#{boxes} [value={rule}]').click()")
+
+    def reads(self, name, words, wanted):
+        """The row of a value on the page."""
+        self.same(name, self.value(words), wanted)
 
     def sees(self, name, words, seconds=40):
         self.note(name, self.page.until(words, seconds), self.page.text("wrong"))
@@ -186,19 +187,19 @@ class Drawn(Page):
         self.page.go(self.address)
         self.sees("it plays", "window.studio && studio.time.at > 2")
         self.sees("to the end", "studio.time.at === 48 && !studio.time.timer", 90)
-        links = self.page.value("Array.from(document.querySelectorAll('#welcome a'), a => a.text)")
+        links = self.value("Array.from(document.querySelectorAll('#welcome a'), a => a.text)")
         self.same("three buttons", links, ["Lesson 1", "An example", "Draw your own"])
         for number, wanted in (
             (3, "studio.seen.tab === 'draw' && !studio.net.nodes.length"),
             (2, "studio.seen.tab === 'draw' && studio.net.nodes.length === 10"),
             (1, "studio.seen.lesson === 1"),
         ):
-            self.page.value(f"document.querySelectorAll('#welcome a')[{number - 1}].click()")
+            self.value(f"document.querySelectorAll('#welcome a')[{number - 1}].click()")
             self.sees(links[number - 1], wanted)
             self.note(
-                "without the buttons", self.page.value("document.getElementById('welcome').hidden")
+                "without the buttons", self.value("document.getElementById('welcome').hidden")
             )
-            self.same("and steadily", self.page.value("studio.time.speed.value"), "1")
+            self.reads("and steadily", "studio.time.speed.value", "1")
 
     def test_changes(self):
         """A button, and what plays, leave out the pulses in which nothing happens."""
@@ -206,14 +207,14 @@ class Drawn(Page):
         self.sees("a place", "document.getElementById('when').textContent === 'pulse 13 of 48'")
         film = "studio.rounds.film.found.pulses"
         for wanted in (17, 25, 26):
-            self.page.click_on("#change")
-            self.same("the next change", self.page.value("studio.time.at"), wanted)
-        idle = self.page.value(f"{film}.slice(18, 25).map(one => one.puts.length)")
+            self.click_on("#change")
+            self.reads("the next change", "studio.time.at", wanted)
+        idle = self.value(f"{film}.slice(18, 25).map(one => one.puts.length)")
         self.same("nothing is sent between", idle, [0] * 7)
-        self.page.value("studio.time.set(17.99); studio.time.toggle()")
+        self.value("studio.time.set(17.99); studio.time.toggle()")
         self.sees("played past", "studio.time.at >= 25")
-        self.note("and soon", self.page.value("studio.time.at") < 27)
-        self.page.value("studio.time.stop()")
+        self.note("and soon", self.value("studio.time.at") < 27)
+        self.value("studio.time.stop()")
 
     def test_question(self):
         """A prediction is judged with the reason, and then looked at; a dare goes with the steps."""
@@ -222,26 +223,26 @@ class Drawn(Page):
         answer = "document.querySelector('#question input').value = {}; "
         answer += "document.querySelector('#question form').requestSubmit()"
         for said, mark in (("3", "✗ Not 3: 2."), ("2", "✓ Yes: 2.")):
-            self.page.value(answer.format(said))
+            self.value(answer.format(said))
             self.sees(mark, f"document.getElementById('question').textContent.includes('{mark}')")
-        self.page.click_on("#question .quiet")
+        self.click_on("#question .quiet")
         self.sees("looked at", "studio.time.at === 3")
         self.sees(
             "the next one", "document.getElementById('question').textContent.includes('pulse 4')"
         )
         self.go_to("example=path&tab=adversary&dare=ends&lazy=1")
         self.sees("a dare", "document.getElementById('dared').textContent.startsWith('☐')")
-        self.page.click_on("#chance20")
+        self.click_on("#chance20")
         self.sees("on the way", "studio.steps.made.length")
         for _ in range(3):
-            self.page.value("document.getElementById('chance20').click()")
+            self.value("document.getElementById('chance20').click()")
             time.sleep(1)
         self.sees("is won", "document.getElementById('dared').textContent.startsWith('☑')")
         self.sees("its steps are in the address", "/steps=.*dare=ends/.test(location.hash)")
 
     def test_saves(self):
         """What is saved: the network, its run, and pages that play without a server."""
-        self.page.value(KEEP)
+        self.value(KEEP)
         self.go_to("example=two&tab=run&seed=3")
         self.sees(
             "a run", "studio.run.found && studio.run.found.judge && studio.net.nodes.length === 2"
@@ -252,10 +253,10 @@ class Drawn(Page):
             ("rounds", "pulse by pulse"),
             ("run", "a run without a clock"),
         ):
-            self.page.value("kept.length = 0")
+            self.value("kept.length = 0")
             self.page.choose("save", what)
             self.sees(f"{what} is saved", "kept.length")
-            saved = self.page.value("kept[0].text()")
+            saved = self.value("kept[0].text()")
             self.note(f"{what} is itself", words in saved, saved[:200])
             if what in ("rounds", "run"):
                 self.note("it needs no server", not re.search(r'src="|href="(?!data:)', saved))
@@ -264,10 +265,10 @@ class Drawn(Page):
             self.page.go(f"file://{self.folder}/{what}.html#pulse-3")
             self.sees(f"{what}: two nodes", "document.querySelectorAll('#net .node').length === 2")
             self.sees(f"{what}: at its place", "time.at >= 3")
-            self.page.click_on("#play")
+            self.click_on("#play")
             self.sees(f"{what}: it plays", "time.at > 5")
             self.page.size(360, 780, True)
-            wide = self.page.value("document.documentElement.scrollWidth")
+            wide = self.value("document.documentElement.scrollWidth")
             self.note(f"{what}: no wider than a phone", wide <= 360, wide)
             self.page.size(1280, 800)
         self.page.go(self.address)
@@ -293,7 +294,7 @@ class Drawn(Page):
             for wide, high in sizes:
                 self.page.size(wide, high)
                 time.sleep(0.5)
-                self.same(f"labels of {name} at {wide}", self.page.value(covered), 0)
+                self.reads(f"labels of {name} at {wide}", covered, 0)
         self.page.size(1280, 800)
 
     def test_words(self):
@@ -313,14 +314,14 @@ class Drawn(Page):
         ):
             self.go_to(words)
             self.sees(words, f"{label} === {json.dumps(wanted)}")
-        self.page.value("document.querySelector('[data-tab=draw]').focus()")
+        self.value("document.querySelector('[data-tab=draw]').focus()")
         self.page.key("ArrowLeft", code="ArrowLeft", windowsVirtualKeyCode=37)
         self.sees("an arrow from the first tab to the last", "studio.seen.tab === 'pictures'")
 
     def test_keys(self):
         """With keys alone nodes are added, joined and parted, and an edge is chosen and removed."""
         self.go_to("tab=draw")
-        self.page.value("document.getElementById('clear').click()")
+        self.value("document.getElementById('clear').click()")
         for _ in range(3):
             self.page.key("a", text="a")
         for one, key, edges, chosen in (
@@ -333,21 +334,21 @@ class Drawn(Page):
             ("edge='2-3'", "Enter", "2,3", "Edge 2 – 3"),
             ("edge='2-3'", "Delete", "", ""),
         ):
-            self.page.value(f'document.querySelector("#net [data-{one}]").focus()')
+            self.value(f'document.querySelector("#net [data-{one}]").focus()')
             self.page.key(key, code=key, windowsVirtualKeyCode=VIRTUAL[key])
-            found = self.page.value("studio.net.edges.join()"), self.page.text("chosen")
+            found = self.value("studio.net.edges.join()"), self.page.text("chosen")
             name = f"{key} on {one}"
             self.note(name, found[0] == edges and found[1].startswith(chosen), found)
         self.page.size(360, 780, True)
-        self.page.value("document.getElementById('clear').click(); scrollTo(0, 0)")
+        self.value("document.getElementById('clear').click(); scrollTo(0, 0)")
         for x, y in ((100, 250), (250, 250)):
             self.page.tap(x, y)
         self.page.tap(*self.at(1))
         self.page.tap(*self.at(2))
-        self.same("taps add and join", self.page.value("studio.net.edges.join()"), "1,2")
+        self.reads("taps add and join", "studio.net.edges.join()", "1,2")
         self.page.size(1280, 800)
         self.page.tap(*self.at(1))
-        self.page.value("document.querySelector('#chosen input').focus()")
+        self.value("document.querySelector('#chosen input').focus()")
         for words in ("Oslo", "77"):
             self.page.ask("Input.insertText", text=words)
             self.page.key("Tab", code="Tab", windowsVirtualKeyCode=9)
@@ -362,8 +363,8 @@ class Drawn(Page):
             for wide, high in ((360, 740), (740, 360), (320, 256), (1280, 800)):
                 self.page.size(wide, high, wide == 360 or high == 360)
                 time.sleep(0.4)
-                self.same(f"{words} at {wide}", self.page.value(UNSEEN), [])
-                shown = self.page.value("document.documentElement.scrollWidth")
+                self.reads(f"{words} at {wide}", UNSEEN, [])
+                shown = self.value("document.documentElement.scrollWidth")
                 self.note(f"{words} at {wide}: no wider", shown <= wide, shown)
                 if SHOTS:
                     self.page.shot(os.path.join(SHOTS, f"{number}-{wide}.png"))
@@ -376,7 +377,7 @@ class Drawn(Page):
             self.sees(
                 f"lesson {number}", f"studio.seen.lesson === {number} && {parts}.length === 3"
             )
-            self.page.value(f"{parts}.forEach(part => {{ part.open = true; }})")
+            self.value(f"{parts}.forEach(part => {{ part.open = true; }})")
             self.sees("opened", f"Array.from({parts}).every(part => part.children.length > 1)")
             said = self.page.text("lesson")
             left = [mark for mark in ("](", "**", "    $", "\n|") if mark in said]
@@ -404,24 +405,24 @@ class Drawn(Page):
         """The browser's Back restores the place, the node and what waits."""
         self.go_to("example=petersen&tab=rounds&at=15&node=6")
         self.sees("a place", "studio.time.at === 15 && studio.rounds.film")
-        self.page.click_on("[data-tab=check]")
+        self.click_on("[data-tab=check]")
         self.sees("another tab", "studio.seen.tab === 'check' && studio.check.verdict")
-        self.page.value("history.back()")
+        self.value("history.back()")
         self.sees(
             "Back to it",
             "studio.time.at === 15 && studio.seen.node === 6 && studio.seen.tab === 'rounds'",
         )
         self.go_to("example=chain6&tab=run&seed=7&at=50&slow=2-3")
         self.sees("a run", "studio.run.found && studio.run.found.judge && studio.time.at === 50")
-        self.page.click_on("[data-tab=rounds]")
+        self.click_on("[data-tab=rounds]")
         self.sees("its rounds", "studio.seen.tab === 'rounds' && studio.time.at === 0")
-        self.page.value("history.back()")
+        self.value("history.back()")
         self.sees("Back to the run", "studio.time.at === 50 && studio.seen.slow.join() === '2,3'")
         self.go_to("net=0.0_90.0_90.90~1-2_2-3&tab=draw")
         self.sees("a drawing", "studio.net.nodes.length === 3")
-        self.page.click_on("[data-tab=check]")
+        self.click_on("[data-tab=check]")
         self.sees("its check", "studio.seen.tab === 'check'")
-        self.page.value("history.back()")
+        self.value("history.back()")
         self.sees("Back to the drawing", "studio.seen.tab === 'draw'")
         self.note("nothing was replaced", "Undo" not in self.page.text("hint"))
 
@@ -430,16 +431,16 @@ class Drawn(Page):
         self.go_to("example=chain6&tab=check&plan=1_2_1_2_1_2")
         self.sees("a plan", "studio.check.verdict && studio.check.verdict.ok")
         numbers = "JSON.stringify([studio.seen.slow, studio.seen.lazy, studio.check.plan])"
-        self.page.value("Object.assign(studio.seen, {slow: [[5, 6]], lazy: [1, 4], node: null})")
-        self.page.click_on("[data-tab=draw]")
+        self.value("Object.assign(studio.seen, {slow: [[5, 6]], lazy: [1, 4], node: null})")
+        self.click_on("[data-tab=draw]")
         self.click(1)
-        self.page.click_on("#delete")
-        found = self.page.value(numbers)
+        self.click_on("#delete")
+        found = self.value(numbers)
         self.same("without node 1", found, "[[[4,5]],[3],[2,1,2,1,2]]")
-        self.page.click_on("#undo")
-        self.same("undone", self.page.value(numbers), "[[[5,6]],[4],[0,2,1,2,1,2]]")
-        self.page.click_on("#redo")
-        self.same("and done again", self.page.value(numbers), "[[[4,5]],[3],[2,1,2,1,2]]")
+        self.click_on("#undo")
+        self.reads("undone", numbers, "[[[5,6]],[4],[0,2,1,2,1,2]]")
+        self.click_on("#redo")
+        self.reads("and done again", numbers, "[[[4,5]],[3],[2,1,2,1,2]]")
 
     def test_make(self):
         """The form takes what the server makes."""
@@ -450,50 +451,50 @@ class Drawn(Page):
             (("", 12, 1), False),
         ):
             fields = dict(zip(("nodes", "edges", "seed"), sizes))
-            self.page.value(
+            self.value(
                 f"Object.entries({json.dumps(fields)}).forEach(([name, value]) => "
                 "{ document.querySelector(`#make [name=${name}]`).value = value; })"
             )
-            valid = self.page.value("document.getElementById('make').checkValidity()")
+            valid = self.value("document.getElementById('make').checkValidity()")
             self.same(f"sizes {sizes}", valid, is_made)
             if is_made:
-                self.page.click_on("#make button")
+                self.click_on("#make button")
                 self.sees("it is there", f"studio.net.edges.length === {sizes[1]}")
 
     def test_draw(self):
         """Four clicks, four edges, the plan, a drag and its undo, and a link."""
         self.go_to("tab=draw")
-        self.page.value("document.getElementById('clear').click()")
+        self.value("document.getElementById('clear').click()")
         for x, y in ((300, 250), (600, 250), (450, 500), (200, 450)):
             self.page.click(x, y)
         for v, w in ((1, 2), (2, 3), (1, 3), (3, 4)):
             self.click(v)
             self.click(w)
-        edges = self.page.value("studio.net.edges.join()")
+        edges = self.value("studio.net.edges.join()")
         self.same("two clicks, an edge", edges, "1,2,1,3,2,3,3,4")
         self.sees("the plan is there", "studio.drawn.fresh && studio.drawn.plan.plan.length === 4")
-        plan = self.page.value("studio.drawn.plan.plan")
-        text = self.page.value("document.getElementById('text').value")
+        plan = self.value("studio.drawn.plan.plan")
+        text = self.value("document.getElementById('text').value")
         wanted = [colour + 1 for _, colour in sorted(colours(network_of(text.encode())).items())]
         self.note("it is that of the definitions", plan == wanted, plan)
         at, place = self.at(4), "studio.net.nodes[3].x"
-        before = self.page.value(place)
+        before = self.value(place)
         self.page.mouse("mousePressed", *at)
         for by in (20, 40):
             self.page.mouse("mouseMoved", at[0] + by, at[1])
-        self.note("a drag moves a node", self.page.value(place) > before)
-        self.note("all is drawn where it is", self.page.value(DRAWN))
+        self.note("a drag moves a node", self.value(place) > before)
+        self.note("all is drawn where it is", self.value(DRAWN))
         self.page.key("+", text="+")
-        self.note("when it is drawn for another reason, too", self.page.value(DRAWN))
+        self.note("when it is drawn for another reason, too", self.value(DRAWN))
         self.page.mouse("mouseReleased", at[0] + 40, at[1])
-        self.note("and when it is let go", self.page.value(DRAWN))
+        self.note("and when it is let go", self.value(DRAWN))
         self.page.key("z", code="KeyZ", modifiers=2, windowsVirtualKeyCode=90)
-        self.same("undo takes a drag back in one step", self.page.value(place), before)
-        self.page.click_on("#zoomfit")
+        self.reads("undo takes a drag back in one step", place, before)
+        self.click_on("#zoomfit")
         self.click((3, 4))
-        self.same("an edge is chosen", self.page.value("studio.seen.edge"), [3, 4])
+        self.reads("an edge is chosen", "studio.seen.edge", [3, 4])
         self.sees("the address has the network", "/net=.*~1-2_1-3_2-3_3-4&/.test(location.hash)")
-        address = self.page.value("location.href")
+        address = self.value("location.href")
         self.note("and no token", "token" not in address, address)
         self.page.go("about:blank")
         self.page.go(address)
@@ -509,8 +510,8 @@ class Drawn(Page):
             "why, as picture why says it",
             "document.getElementById('why').textContent.includes('29 of 269')",
         )
-        self.page.click_on("#next")
-        self.note("one step on", self.page.value("studio.time.at") == 5)
+        self.click_on("#next")
+        self.note("one step on", self.value("studio.time.at") == 5)
         self.leave_out("without2", "digit")
         self.sees(
             "without a rule",
@@ -518,7 +519,7 @@ class Drawn(Page):
         )
         self.note(
             "nothing is said of the rounds with all rules",
-            self.page.value("document.getElementById('allrules').hidden"),
+            self.value("document.getElementById('allrules').hidden"),
         )
         self.leave_out("without2", "root")
         self.sees(
@@ -562,7 +563,7 @@ class Drawn(Page):
             "as the address says",
             "document.getElementById('broken').textContent.includes('smallest network')",
         )
-        self.page.click_on("#broken button")
+        self.click_on("#broken button")
         self.sees("the smallest network, with its bar", "studio.net.nodes[0].bars.join() === '1'")
 
     def test_run(self):
@@ -572,7 +573,7 @@ class Drawn(Page):
             "document.getElementById('judge').textContent.includes('accepts these 866')",
         )
         self.note("the same as the rounds", "✓" in self.page.text("same"), self.page.text("same"))
-        self.page.value(
+        self.value(
             "window.real = fetch; window.fetch = (to, ...more) => to.includes('replay') "
             "? Promise.resolve(new Response('no judge', {status: 500})) : real(to, ...more)"
         )
@@ -580,15 +581,15 @@ class Drawn(Page):
         self.sees(
             "a judge that fails", "document.getElementById('wrong').textContent === 'no judge'"
         )
-        self.page.value("window.fetch = real")
+        self.value("window.fetch = real")
         self.page.choose("slider", "120")
         self.sees(
             "judged up to here", "document.getElementById('judgehere').textContent.startsWith('✓')"
         )
         self.note("takes its line back", not self.page.text("wrong"), self.page.text("wrong"))
-        self.page.click_on("#play")
+        self.click_on("#play")
         self.sees("what is said of another place goes", "!judgehere.textContent")
-        self.page.click_on("#play")
+        self.click_on("#play")
         self.click((4, 5))
         self.sees("a click makes a link wait", "studio.seen.slow.length === 2")
         self.go_to("example=chain6&tab=run&seed=7&other=newest.2&at=5")
@@ -599,41 +600,39 @@ class Drawn(Page):
         self.sees(
             "rows of both", "document.getElementById('now').textContent.includes('second, stamp')"
         )
-        self.page.click_on("[data-tab=draw]")
+        self.click_on("[data-tab=draw]")
         self.sees("the stage is whole again", "studio.stage.high > stage.clientHeight - 40")
 
     def test_steps(self):
         """The adversary: a message that is clicked is taken, a held link holds, and No clock plays the rest."""
         self.go_to("example=triangle&tab=adversary")
         self.sees("six messages", "document.querySelectorAll('#net [data-step]').length === 6")
-        self.page.click_on("#net [data-step='2-1']")
+        self.click_on("#net [data-step='2-1']")
         self.sees("a message is taken", "studio.steps.made.join() === '2-1'")
         self.sees("it is in the address", "location.hash.includes('steps=2-1')")
         self.click((1, 3))
         self.sees("a link is held", "!document.querySelector('#net [data-step=\"3-1\"]')")
-        self.page.click_on("#chance20")
+        self.click_on("#chance20")
         self.sees(
             "by chance, as far as can be",
             "studio.steps.made.length > 2 && document.getElementById('stepsaid')"
             ".textContent.includes('✓')",
         )
-        self.page.click_on("#handover")
+        self.click_on("#handover")
         self.sees(
             "No clock plays the rest",
             "studio.seen.tab === 'run' && document.getElementById('judge').textContent"
             ".startsWith('✓')",
         )
-        self.note("with these steps first", self.page.value("studio.run.steps.length") > 2)
+        self.note("with these steps first", self.value("studio.run.steps.length") > 2)
         self.go_to("example=triangle&tab=adversary&node=1")
         self.sees(
             "all of it again",
             "!studio.steps.made.length && document.querySelector('#possible button')",
         )
-        self.page.value(
-            "window.often = setInterval(() => document.getElementById('chance').click(), 2)"
-        )
+        self.value("window.often = setInterval(() => document.getElementById('chance').click(), 2)")
         self.sees("a key that is held makes steps", "studio.steps.made.length > 3")
-        self.page.value("clearInterval(often)")
+        self.value("clearInterval(often)")
         self.go_to("example=two&tab=adversary&without=acks,fifo&steps=1-2")
         self.sees(
             "two rules left out",
@@ -646,15 +645,15 @@ class Drawn(Page):
 
     def picture(self, kind, does, *words):
         """The picture that is on the page after something is done."""
-        self.page.value("kept.length = 0")
+        self.value("kept.length = 0")
         does(*words)
         is_there = f"kept.length && document.querySelector('#picture img[alt={kind}]')"
         self.sees(f"{kind} after {' '.join(words)}", is_there)
-        return self.page.value("kept.length ? kept[0].text() : ''")
+        return self.value("kept.length ? kept[0].text() : ''")
 
     def test_pictures(self):
         """Of the chosen program with its passes: what nodes have found, and a run, which ends at pulse 30 + 3 · 2."""
-        self.page.value(KEEP)
+        self.value(KEEP)
         self.go_to("example=two&tab=pictures&kind=plan")
         self.sees(
             "a plan has no program",
@@ -668,7 +667,7 @@ class Drawn(Page):
             self.note(f"what nodes find with {field} {value}", found == wanted, found)
         address = "/program=recolouring.*passes=2/.test(location.hash)"
         self.sees("the address has the passes", address)
-        shown = self.picture("run", self.page.click_on, "#kinds [data-kind=run]")
+        shown = self.picture("run", self.click_on, "#kinds [data-kind=run]")
         self.note("the run has them", " of 36" in shown, shown[:400])
         self.go_to("example=triangle&tab=pictures&kind=results&program=recolouring&passes=3")
         self.sees("as the address says", "document.getElementById('passes').value === '3'")
@@ -679,10 +678,10 @@ class Drawn(Page):
             "an unfinished plan",
             "studio.check.verdict && studio.check.verdict.said === 'C1 vertex 3'",
         )
-        self.page.click_on("#take")
+        self.click_on("#take")
         self.sees("the plan is proper", "studio.check.verdict && studio.check.verdict.ok")
-        wanted = self.page.value("studio.check.plan[1]")
-        while self.page.value("studio.check.plan[0]") != wanted:
+        wanted = self.value("studio.check.plan[1]")
+        while self.value("studio.check.plan[0]") != wanted:
             self.click(1)
         self.sees("a clash", "studio.check.verdict && studio.check.verdict.code === 'C4'")
         self.go_to("example=two&tab=check")
@@ -690,9 +689,9 @@ class Drawn(Page):
         text = said_by("simulate", "two")[1]
         for words, said in ((text.replace("ack 3", "ack 4", 1), "WrongWire"), (text, "whole run")):
             self.page.choose("transcript", words)
-            self.page.click_on("#judged")
+            self.click_on("#judged")
             self.sees(said, f"document.getElementById('judgement').textContent.includes('{said}')")
-        self.page.click_on("#watchit")
+        self.click_on("#watchit")
         self.sees("it is watched", "judge.textContent.startsWith('✓') && studio.run.transcript")
 
     def test_files(self):
@@ -702,38 +701,36 @@ class Drawn(Page):
             ("x.col", "p edge 2 1\ne 1 3\n", "document.body.textContent.includes('(F5)')"),
             ("x.txt", "a,b\nOslo,Ulm\nUlm,Rom\n", "!document.getElementById('unsaid').hidden"),
         ):
-            self.page.value(
+            self.value(
                 f"(() => {{ const d = new DataTransfer(); d.items.add(new File([{json.dumps(words)}], "
                 f"'{name}')); document.dispatchEvent(new DragEvent('drop', {{dataTransfer: d, "
                 "cancelable: true})); })()"
             )
             self.sees(name, seen)
-        self.page.click_on("#unsaidchoices button")
+        self.click_on("#unsaidchoices button")
         self.sees(
             "its columns", "document.getElementById('unsaidwhat').textContent.match('heading')"
         )
-        self.page.click_on("#unsaidchoices button")
+        self.click_on("#unsaidchoices button")
         self.sees(
             "which are stated", "studio.net.nodes.map(one => one.name).join() === 'Oslo,Ulm,Rom'"
         )
-        self.note(
-            "and no longer asked", self.page.value("document.getElementById('unsaid').hidden")
-        )
+        self.note("and no longer asked", self.value("document.getElementById('unsaid').hidden"))
 
     def test_cancel(self):
         """A call that takes long is ended by its button."""
         self.go_to("example=two&tab=draw")
         at_rest = "studio.drawn.plan && document.getElementById('busy').hidden"
         self.sees("two nodes, at rest", f"studio.net.nodes.length === 2 && {at_rest}")
-        self.page.value(
+        self.value(
             "window.real = fetch; window.fetch = (to, {signal}) => new Promise((_, end) => "
             "signal.addEventListener('abort', () => { window.ended = true; end(signal.reason); }))"
         )
-        self.page.click_on("#tidy")
+        self.click_on("#tidy")
         self.sees("it is under way", "!document.getElementById('busy').hidden")
-        self.page.click_on("#busy button")
+        self.click_on("#busy button")
         self.sees("it ends", "window.ended && document.getElementById('busy').hidden")
-        self.page.value("window.fetch = real")
+        self.value("window.fetch = real")
 
     def test_addresses(self):
         """What can't be read in an address is said, or left out, and the page goes on."""
@@ -769,7 +766,7 @@ class Drawn(Page):
     def test_names(self):
         """Names are texts, in each tab."""
         self.go_to("tab=draw")
-        self.page.value(
+        self.value(
             f"document.getElementById('text').value = {json.dumps(f'c name 1 {EVIL}')} + "
             "'\\np edge 2 1\\ne 1 2\\n'; document.getElementById('apply').click()"
         )
@@ -778,11 +775,10 @@ class Drawn(Page):
             "studio.net.nodes.length === 2 && studio.net.nodes[0].name[0] === '<'",
         )
         for tab in TABS:
-            self.page.click_on(f"[data-tab={tab}]")
+            self.click_on(f"[data-tab={tab}]")
             time.sleep(0.6)
             self.note(
-                f"a name is a text in {tab}",
-                self.page.value("document.title") == "forestplan studio",
+                f"a name is a text in {tab}", self.value("document.title") == "forestplan studio"
             )
 
     def test_z_no_script_complained(self):

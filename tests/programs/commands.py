@@ -9,7 +9,7 @@ from build import completion
 from build.__main__ import MODULES
 from lab.__main__ import COMMANDS as OF_LAB
 from tests import TOP
-from tests.cases import Case, called, contents, text_in
+from tests.cases import Case, called, contents, forestlab, text_in
 from tests.commands import HELPS, SCRIPTS, commands_of
 from tests.settings import PATHS
 from tests.tools import need
@@ -79,26 +79,22 @@ class Commands(Case):
 
     def test_output(self):
         """-o writes to a file, and leaves the one that was there if it can't, or if something is wrong."""
-        path, run = os.path.join(self.folder, "made"), self.call("forestlab", "simulate", "two")[1]
+        path, run = os.path.join(self.folder, "made"), forestlab("simulate", "two")[1]
         for words, data in (
             (["network", "path", "3"], b""),
             (["transcript", "check", "two", "-"], run),
             (["sheet", "--lesson", "1"], b""),
             (["channels", "7"], b"plan\n1 1\n"),
         ):
-            wanted, done = (
-                self.call("forestlab", *words, *more, data=data) for more in ([], ["-o", path])
-            )
+            wanted, done = (forestlab(*words, *more, data=data) for more in ([], ["-o", path]))
             self.same(f"{words} -o", (*done[:2], contents(path)), (0, b"", wanted[1]))
         for words, said in (
             (["picture", "rounds", "nowhere"], b"picture: nowhere: No such file"),
             (["network", "tell", "path0"], b"network: NODES is 0"),
         ):
-            self.refusal(f"{words} -o", self.call("forestlab", *words, "-o", path), 1, said)
+            self.refusal(f"{words} -o", forestlab(*words, "-o", path), 1, said)
             self.same("what was there is left", contents(path), b"plan\n1 7\n")
-        done = self.call(
-            "forestlab", "network", "path", "3", "-o", os.path.join(self.folder, "no", "folder")
-        )
+        done = forestlab("network", "path", "3", "-o", os.path.join(self.folder, "no", "folder"))
         self.refusal("-o in no folder", done, 1, b"No such file or directory")
         self.same("nothing is left beside it", os.listdir(self.folder), ["made"])
 
@@ -106,10 +102,10 @@ class Commands(Case):
         """A name means the same network in each command."""
         given = os.path.join(TOP, "examples", "petersen.col")
         for words in (["picture", "rounds"], ["simulate"], ["network", "number"]):
-            done, wanted = (self.call("forestlab", *words, it) for it in ("petersen", given))
+            done, wanted = (forestlab(*words, it) for it in ("petersen", given))
             self.same(f"{words} of a name", done[:2], (0, wanted[1]))
         for name, nodes in (("path5", 5), ("grid3x4", 12), ("queen5x5", 25)):
-            done = self.call("forestlab", "network", "tell", name)
+            done = forestlab("network", "tell", name)
             self.note(f"network tell {name}", done[1].startswith(b"nodes: %d\n" % nodes), done)
         for name, said in (
             ("petersenn", b"No such file or directory"),
@@ -117,7 +113,7 @@ class Commands(Case):
             ("disk5", b"no network of this name"),
             ("path99999", b"at most 20000"),
         ):
-            self.refusal(f"no network {name}", self.call("forestlab", "simulate", name), 1, said)
+            self.refusal(f"no network {name}", forestlab("simulate", name), 1, said)
 
     def test_completion(self):
         """What completes the words knows each command of forestlab and its options, in bash, and in zsh if it is
@@ -151,7 +147,3 @@ class Commands(Case):
         ):
             said = typed_in_zsh(self.file("completion", script), line)
             self.note(f"zsh: {line}", f"\n{wanted}\r\n" in said, said)
-
-    def call(self, name, *words, data=b""):
-        path = os.path.join(TOP, "bin", name)
-        return called(path, *words, data=data, limit=LIMIT, env=dict(os.environ, COLUMNS="80"))

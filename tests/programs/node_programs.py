@@ -267,7 +267,8 @@ def program_of(asked):
 
 class Programs(Case):
     def test_ends(self):
-        """By each run, in the text of the rounds, where nothing is added, and by the definition."""
+        """By each run, in the text of the rounds, where nothing is added, and by the definition; and where the run ends
+        that one thread writes down, the same each time."""
         for asked, net, last, said in ENDS:
             ends = said.split("|") if said else []
             wanted = "".join(f"node {v} pulse {last} {end}|" for v, end in enumerate(ends, 1))
@@ -277,6 +278,13 @@ class Programs(Case):
                     play(command, asked, *words, data=net),
                     (0, text(wanted), b""),
                 )
+            run = play("alone", asked, "--transcript", data=net)
+            again = play("alone", asked, "--transcript", data=net)
+            self.same(f"transcript of {asked} on {net}, once more", again, (0, run[1], b""))
+            status, state, errors = play("replay", asked, data=text(net) + run[1])
+            nodes = b"".join(re.findall(rb"^node .*\n", state, re.M))
+            replayed = (status, nodes, errors)
+            self.same(f"{asked} on {net} replayed", replayed, (0, text(wanted), b""))
             found = [re.sub(r" (to \d+|elected)$", "", end) for end in ends]
             if asked != "colouring":
                 done = play("rounds", asked, data=net)
@@ -330,18 +338,6 @@ class Programs(Case):
             done = play("replay", other, data=text(EDGE) + unnamed)
             fault = b"X1 line " + b"4\n" * (program in PLAIN)
             self.refusal(f"{program} without its name as {other}", done, 1, fault)
-
-    def test_transcripts_alone(self):
-        """What one thread writes down is the same each time: a whole run with the same ends, which `replay` accepts."""
-        for asked, net, last, said in ENDS:
-            run = play("alone", asked, "--transcript", data=net)
-            again = play("alone", asked, "--transcript", data=net)
-            self.same(f"transcript of {asked} on {net}, once more", again, (0, run[1], b""))
-            ends = said.split("|") if said else []
-            wanted = [f"node {v} pulse {last} {end}" for v, end in enumerate(ends, 1)]
-            status, state, errors = play("replay", asked, data=text(net) + run[1])
-            nodes = [line for line in state.decode().splitlines() if line.startswith("node ")]
-            self.same(f"{asked} on {net} replayed", (status, nodes, errors), (0, wanted, b""))
 
     def test_refused(self):
         for command, asked, data, fault in (

@@ -13,7 +13,6 @@ from lab.network import Network
 from lab.networks.network_text import network_of
 from lab.schedules import ruled_rounds, rules
 from lab.schedules.space import Space
-from lab.words import counted
 from tests import TOP
 from tests.cases import Case, called, said_by, text_in
 from tests.programs.events import words_of
@@ -117,17 +116,17 @@ def explored(*words):
     return said_by("explore", *words, cwd=TOP)
 
 
-# (network, rules, what goes wrong, the fault of `forestplay events` on that list or None): what happens to two nodes is
+# (network, rules, the fault of `forestplay events` on the list without them, or None): what happens to two nodes is
 # worked by hand. Without `early` the list is one that the program can play, since it keeps what comes early apart; a
-# wire out of turn is one that it can't take.
+# wire out of turn is one that it can't take. What goes wrong, after how many events, is on TUTORIAL and GALLERY.
 BROKEN = [
-    ("two", "safes", "node 2 makes pulse 2 without `label 0` from 1", 8, "NotReady"),
-    ("two", "early", "node 2 makes pulse 1 with `label 0` from 1, not with `hello 1`", 16, None),
-    ("two", "fifo", "node 2 refuses `payload 1 label 0` from 1", 14, None),
-    ("two", "acks,fifo", "node 1 makes pulse 1 without `hello 2` from 2", 4, "NothingToPut"),
-    ("two", "safes,acks", "node 1 makes pulse 1 without `hello 2` from 2", 1, "NotReady"),
-    ("triangle", "safes", None, None, "NotReady"),
-    ("triangle", "early", None, None, None),
+    ("two", "safes", "NotReady"),
+    ("two", "early", None),
+    ("two", "fifo", None),
+    ("two", "acks,fifo", "NothingToPut"),
+    ("two", "safes,acks", "NotReady"),
+    ("triangle", "safes", "NotReady"),
+    ("triangle", "early", None),
 ]
 
 
@@ -249,18 +248,12 @@ class Schedules(Case):
         return explored(self.file(f"{name}.col", text_of(name)), "--limit", str(MOST), *words)
 
     def test_broken(self):
-        for name, without, what, count, fault in BROKEN:
+        for name, without, fault in BROKEN:
             (status, said, _), (_, listed, _) = (
                 self.explored(name, "--without", without, *more) for more in ([], ["--list"])
             )
-            lines, first = listed.splitlines(), said.split("\n")[0]
-            rest = sum(not line.startswith("put ") for line in lines)
-            kinds = "take or pulse" if rest == 1 else "takes and pulses"
-            is_first = True
-            if what is not None:
-                events = f"{counted(count, 'event')} ({rest} {kinds})"
-                is_first = first == f"broken after {events}: {what}"
-            self.note(f"{name} without {without}", status == 1 and is_first, said)
+            lines = listed.splitlines()
+            self.note(f"{name} without {without}", status == 1, said)
             self.same(
                 f"the list of {name} without {without}",
                 [line.split(":")[0] for line in said.splitlines()[1 : 1 + len(lines)]],
@@ -276,10 +269,6 @@ class Schedules(Case):
 
     def test_whole_lists(self):
         """One whole list of each network, by the program, which ends as `explore` says."""
-        events, wires = count_of_events(net_of("two"))
-        said, pulses = self.explored("two")[1], events - 2 * wires
-        wanted = f"\neach has {wires + pulses} events: {wires} takes and {pulses} pulses\n"
-        self.note("what explore says of two", wanted in said, said)
         for name in ("alone", "apart", "path"):
             listed, said = (self.explored(name, *more)[1] for more in (["--list"], []))
             done = called(PLAY, "events", data=list_of(name, listed.splitlines()))
@@ -287,12 +276,6 @@ class Schedules(Case):
             ended = f"\none end: channels {b' '.join(channels).decode()}\n"
             good = len(channels) == net_of(name).nodes and said.endswith(ended)
             self.note(f"a whole list of {name}", done[0] == 0 and good, (done, said))
-
-    def test_not_broken(self):
-        """On links that keep the order, acknowledgements aren't needed."""
-        space = Space(net_of("two"), without=("acks",), limit=MOST)
-        good = not space.faults and len(space.ends) == 1 and space.count == 536
-        self.note("two without acks", good, (space.count, space.faults))
 
     def test_rounds(self):
         for net in map(network_of, networks_by_chance(20, 9)):
