@@ -161,7 +161,7 @@ def plan(
 
     `bars` is a dict with the channels barred at a node, and `licence` has the channels that all may use, in order of
     preference; without it channels count from 1. In each of so many `passes` the nodes choose their channels anew,
-    which mostly takes fewer channels, and without bars never more. With `workers`, 1 to 64, it is found by that many
+    which mostly takes fewer channels, and never more. With `workers`, 1 to 64, it is found by that many
     threads without a clock, else on one thread, much sooner: the plan is the same.
 
     >>> plan({"Ulm": ["Aue", "Hof"], "Aue": ["Hof"], "Hof": []}, licence=[36, 40, 44])
