@@ -17,6 +17,7 @@ Settings are variables, here with their defaults:
   TESTS_TEXTS        10000: how many random texts programs.hostile makes
   TESTS_SEED         2026: the seed of these random texts
   TESTS_GRAPHS       33: how many random graphs programs.in_python plans
+  TESTS_LARGE        4: how many large networks programs.own_networks numbers
   TESTS_RUNS         40: how many runs of threads programs.transcripts checks
   TESTS_SEQUELS      12: how many networks by chance programs.sequel_runs plays
 """
@@ -25,6 +26,7 @@ DEFAULTS = {
     "texts": "10000",
     "seed": "2026",
     "graphs": "33",
+    "large": "4",
     "runs": "40",
     "sequels": "12",
 }

@@ -9,7 +9,6 @@ import os
 import random
 import re
 
-from lab.definitions.colours import colours
 from lab.definitions.nodes import last_pulse
 from lab.networks import network
 from lab.networks.describe import most_payloads
@@ -18,7 +17,7 @@ from lab.words import duration
 from tests.cases import Case, called, example, forestlab, in_process
 from tests.programs import plain_networks
 from tests.programs.plain_networks import payloads_of, reached, some_bars
-from tests.settings import PLAY
+from tests.settings import PLAN, PLAY, setting
 
 
 def call(*words, **more):
@@ -87,6 +86,20 @@ def by_names(text):
         )
         for v in net.vertices
     }
+
+
+def known(text, plan):
+    """Of each node by its name its channel and identifier, and the rest of what the lines say."""
+    net, lines, found = network_of(text), by_names(text), {}
+    for v, channel in zip(net.vertices, plan.split()[2::2], strict=True):
+        name = net.names.get(v, str(v))
+        place, _, *others = lines[name]
+        found[name] = (channel, net.identifiers[v], place, *others)
+    return found
+
+
+# Kinds of large networks.
+LARGE = ("tree {}", "disk {} --radius 0.04", "ring {}")
 
 
 def is_near(net):
@@ -281,30 +294,24 @@ class OwnNetworks(Case):
 
     def test_near(self):
         """A large network is numbered by breadth first search, where each node has the channel that it has in the
-        order that is kept; a smaller network is written as it is."""
-        many = large_network(random.Random(5), 1000)
-        made = {f"{words} -": many for words in ("read", "number --seed 2")}
-        made["read - --as dimacs"] = self.written("disk", 1100, "--radius", 0.03)
-        for words, data in made.items():
-            kept = self.written(*words.split(), "--keep-order", data=data)
-            near = self.written(*words.split(), data=data)
-            nets = network_of(kept), network_of(near)
-            self.note(f"{words}: neighbours are near", [*map(is_near, nets)] == [False, True])
-            found = []
-            for net, text in zip(nets, (kept, near)):
-                plan, own = colours(net), by_names(text)
-                found.append({})
-                for v in net.vertices:
-                    name = net.names.get(v, str(v))
-                    place, _, *others = own[name]
-                    found[-1][name] = (plan[v], net.identifiers[v], place, *others)
-            self.note(f"{words}: the same nodes and channels", found[0] == found[1])
+        order that is kept; a smaller one is written as it is."""
+        for seed in range(int(setting("large"))):
+            source, nodes = random.Random(seed), 1000 + seed
+            data = large_network(source, nodes)
+            if seed % 2:
+                data = self.written(*source.choice(LARGE).format(nodes).split())
+            words = ("read -", "number - --seed 2")[seed // 2 % 2]
+            orders = ([], ["--keep-order"])
+            texts = [self.written(*words.split(), *more, data=data) for more in orders]
+            command = "plan" if seed % 50 == 1 else "plain"
+            plans = [called(PLAN, command, data=text)[1].decode() for text in texts]
+            near, kept = map(known, texts, plans)
+            self.note(f"{words} by {seed}: the same nodes and channels", near == kept)
+            are_near = [is_near(network_of(text)) for text in texts]
+            self.same(f"{words} by {seed}: whether neighbours are near", are_near, [True, False])
         small = large_network(random.Random(6), 999)
-        self.same(
-            "999 nodes",
-            network_of(self.written("read", "-", data=small)).said,
-            network_of(small).said,
-        )
+        written = network_of(self.written("read", "-", data=small))
+        self.same("999 nodes", written.said, network_of(small).said)
 
     def told_of(self, data, *words):
         """{name: what} of the lines of `network tell`."""
