@@ -73,12 +73,7 @@ SAID_OF_LIMITS = {
     "docs/work/LOOKUP.md": ("{MAX_DEGREE:,} + {MAX_BARS:,}, below `COLOURS`, {MAX_CHANNEL:,}",),
     "lab/networks/network_text.py": assigned(*OF_NETWORKS, "MAX_DEGREE"),
     "lab/definitions/programs.py": ("PASSES = {ALL_PASSES} ",),
-    "lab/networks/codes.py": (
-        "NODES is above {MAX_NODES:,}, or it names one more than {MAX_EDGES:,} different edges",
-        "the barred channel is 0 or above {MAX_CHANNEL:,}",
-        "bars one more than {MAX_BARS:,} different channels",
-        "has more than {MAX_DEGREE:,} neighbours",
-    ),
+    "lab/networks/codes.py": ("it names one more than {MAX_EDGES:,} different edges",),
     "lab/python/forestplan/__init__.py": (
         "`workers`, 1 to {MAX_WORKERS},",
         "more than {MAX_DEGREE:,} neighbours",

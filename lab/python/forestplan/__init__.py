@@ -132,7 +132,10 @@ class Plan(_Answer, dict[Node, int]):
 
     def number(self, node: Node) -> int:
         """The channel of a node, counted from 1 if it is one of a licence."""
-        return self.licence.needed(node, self[node])
+        found = self.licence.number(self[node], f"the channel of {node!r}")
+        if found is None:
+            raise ValueError(f"{node!r} has channel {self[node]!r}, which isn't in the licence")
+        return found
 
     def colours(self) -> dict[Node, str]:
         """{node: "#0072B2"}: the colours of the channels, the same as in all pictures here, as for
@@ -183,8 +186,9 @@ def plan(
         words = f"the plan takes {most} channels, and the licence has {len(licence)}"
         lacking = [node for node, k in found.items() if k > len(licence)]
         raise Refused(words, "licence", lacking, found)
+    if licence is not None:
+        found.update((node, int(licence[k - 1])) for node, k in found.items())
     found.licence = Licence(licence)
-    found.update((node, found.licence.real(k)) for node, k in found.items())
     return found
 
 

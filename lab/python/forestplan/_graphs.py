@@ -58,17 +58,6 @@ class Licence:
             return whole(channel, what, 1, MAX_CHANNEL)
         return self.counted.get(whole(channel, what, 0, MAX_REAL))
 
-    def needed(self, node, channel):
-        """The same of the channel of a node, which the licence has to have."""
-        found = self.number(channel, f"the channel of {node!r}")
-        if found is None:
-            raise ValueError(f"{node!r} has channel {channel!r}, which isn't in the licence")
-        return found
-
-    def real(self, k):
-        """Channel k of a program."""
-        return k if self.channels is None else self.channels[k - 1]
-
 
 class Sites(dict[Node, list[Node]]):
     """{site: [the sites within its reach]}, as `sites` makes it: a graph that all functions take. `places` has where a
