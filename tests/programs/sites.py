@@ -131,28 +131,28 @@ class Sites(Case):
             self.refusal(f"{sites!r} {bars!r}", done, 1, said.encode())
 
     def test_reach(self):
-        """Places by chance: two are joined just if they are less than the reach apart, on a plane and on the ground;
-        near the poles and over the line where the longitudes meet, too."""
+        """Places by chance: two are joined just if they are less than the reach apart on the ground; near the poles and
+        over the line where the longitudes meet, too. (Of a plane test_disk of own_networks.py does the same.)
+        """
         source = random.Random(7)
-        for name, columns, far, reach, one, other in (
-            ("a town", "lat,lon", on_ground, 4, (52.3, 52.6), (13.1, 13.7)),
-            ("a pole", "lat,lon", on_ground, 60, (88, 90), (-180, 180)),
-            ("the line", "lat,lon", on_ground, 30, (-1, 1), (179, 181)),
-            ("the earth", "lat,lon", on_ground, 1500, (-90, 90), (-180, 180)),
-            ("a plane", "x_km,y_km", math.dist, 10, (0, 100), (0, 100)),
+        for name, reach, one, other in (
+            ("a town", 4, (52.3, 52.6), (13.1, 13.7)),
+            ("a pole", 60, (88, 90), (-180, 180)),
+            ("the line", 30, (-1, 1), (179, 181)),
+            ("the earth", 1500, (-90, 90), (-180, 180)),
         ):
             places = [(source.uniform(*one), source.uniform(*other)) for _ in range(120)]
             rows = [f"s{at},{a!r},{b!r}\n" for at, (a, b) in enumerate(places, 1)]
-            sites = f"id,{columns}\n{''.join(rows)}"
+            sites = f"id,lat,lon\n{''.join(rows)}"
             near = {
                 (v, w)
                 for (v, here), (w, there) in itertools.combinations(enumerate(places, 1), 2)
-                if far(here, there) < reach
+                if on_ground(here, there) < reach
             }
             self.note(f"near each other: {name}", 20 < len(near) < 5000, len(near))
             found = edges_of(self.read(None, sites, f"--reach {reach}")[1])
             self.same(f"edges of {name}", found, near)
-        found = edges_of(self.read("from,to\ns1,s2\n", sites, "--reach 10")[1])
+        found = edges_of(self.read("from,to\ns1,s2\n", sites, "--reach 1500")[1])
         self.same("and pairs besides", found, near | {(1, 2)})
 
 
