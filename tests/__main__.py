@@ -4,8 +4,8 @@ Each module of tests/ is a process of its own, and they run side by side. What f
 is printed module by module, and last 'N passed, M failed' over all of them, in rows:
 a test has one or many.
 
-NAME is a module, a class or a test as --list prints them, a folder of tests/, or a
-word of a test's name. Without NAME all tests run.
+NAME is a module, a class or a test as --list prints them; one part of such a name, as
+a folder, a module or a class; or a word of a test's name. Without NAME all tests run.
 
 The programs are those that `rt ci`, or ./forestplan and forestplay, have built. It
 needs a C compiler, `cc`. What is in tests/by_hand/ has to be called by hand."""

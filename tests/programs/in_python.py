@@ -171,6 +171,12 @@ def is_proper(graph, plan):
     return all(plan[node] != plan[other] for node in graph for other in graph[node])
 
 
+def small_graph(source):
+    """A graph of up to nine nodes; of each edge the greater end names the other."""
+    nodes = range(source.randint(1, 9))
+    return {v: [w for w in range(v) if source.random() < 0.4] for v in nodes}
+
+
 class InPython(Case):
     def refused(self, kind, call):
         """What a call raises."""
@@ -265,10 +271,7 @@ class InPython(Case):
     def test_pool(self):
         """A thousand graphs in four processes, of which each tenth is refused: nothing is lost."""
         source = random.Random(7)
-        graphs = [
-            {v: [w for w in range(v) if source.random() < 0.4] for v in range(source.randint(1, 9))}
-            for _ in range(1000)
-        ]
+        graphs = [small_graph(source) for _ in range(1000)]
         with ProcessPoolExecutor(4) as pool:
             found = [
                 pool.submit(forestplan.plan, graph, licence=[] if at % 10 == 0 else None)
