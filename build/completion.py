@@ -7,27 +7,75 @@ import subprocess
 import sys
 
 from build.crate_lists import TOP
+from lab.networks.stated import ENDINGS
+from lab.pictures.run_picture import KINDS
+from lab.pictures.sheet import LESSONS
+from lab.schedules.policies import POLICIES
+from lab.schedules.rules import OF_ANY_ROUNDS, OF_SCHEDULES
+from lab.transcripts.convert import FORMS
+from lab.transcripts.fields import PAYLOADS
 
 COMMANDS = ("forestplan", "forestplay", "forestlab")
-# What of forestlab has commands of its own, each in a line of the help.
+# What of forestlab has commands of its own, each in a line of the help; and `workshop`, whose help has no list.
 WITH_COMMANDS = ((), ("picture",), ("network",), ("transcript",))
+OF_WORKSHOP = ["grade", "class"]
+# The words that a first argument, or an option, may be; with a command's name before it, of that command alone.
+ARGUMENTS = {"convert": FORMS, "workshop": ("rounds", "alpha", "open")}
+VALUES = {
+    "--as": ENDINGS,
+    "--edition": ("1", "2"),
+    "--lesson": [str(lesson) for lesson in LESSONS],
+    "--only": KINDS,
+    "--policies": POLICIES,
+    "--policy": POLICIES,
+    "--program": PAYLOADS,
+    "--without": OF_SCHEDULES | OF_ANY_ROUNDS,
+    "broken --without": OF_ANY_ROUNDS,
+    "schedules --without": OF_SCHEDULES,
+}
 HEAD = """\
-# Completes the words of forestplan, forestplay and forestlab: `source` it in bash or zsh. Made by `python3 build
-# completion`.
-if [ -n "${ZSH_VERSION-}" ]; then autoload -U +X bashcompinit && bashcompinit; fi
-_forestplan() {
-  local words= commands=
-  case "$(IFS=' '; echo "${COMP_WORDS[*]:0:$COMP_CWORD}") " in
+#compdef forestplan forestplay forestlab
+# Completes the words of forestplan, forestplay and forestlab in bash and zsh: `source` it, or put it where these look.
+# Made by `python3 build completion`.
+
+# Finds what may come after the words of $1, with a blank after each, of which $2 is the last.
+_forestlab_words() {
+  options= found=
+  case $1 in
 """
 TAIL = """\
   esac
-  case ${COMP_WORDS[COMP_CWORD]}:$commands in
-    -*) COMPREPLY=($(compgen -W "$words" -- "${COMP_WORDS[COMP_CWORD]}")) ;;
-    *:) COMPREPLY=($(compgen -f -- "${COMP_WORDS[COMP_CWORD]}")) ;;
-    *) COMPREPLY=($(compgen -W "$commands" -- "${COMP_WORDS[COMP_CWORD]}")) ;;
-  esac
 }
-complete -o filenames -F _forestplan forestplan forestplay forestlab
+
+if [ -n "${ZSH_VERSION-}" ]; then
+  _forestlab() {
+    local options found before=$words[CURRENT-1]
+    if [[ $words[CURRENT] == --*=* ]]; then before=${words[CURRENT]%%=*}; compset -P '*='; fi
+    _forestlab_words "${words[1,CURRENT-1]} " "$before"
+    [[ $PREFIX != -* ]] || found=$options
+    compset -P '*,'
+    compadd -- ${=found} || _files
+  }
+  # Where zsh looks, this file is the function itself, and is read when it is called.
+  if [ "${funcstack[1]-}" = _forestlab ]; then
+    _forestlab "$@"
+  else
+    whence compdef >/dev/null || { autoload -Uz compinit && compinit; }
+    compdef _forestlab forestplan forestplay forestlab
+  fi
+else
+  _forestlab() {
+    local options found word=${COMP_WORDS[COMP_CWORD]} at=$((COMP_CWORD - 1)) start=
+    [[ $word != = ]] || { word= at=$((at + 1)); }
+    [[ ${COMP_WORDS[at]} != = ]] || at=$((at - 1))
+    _forestlab_words "${COMP_WORDS[*]:0:COMP_CWORD} " "${COMP_WORDS[at]}"
+    [[ $word != -* ]] || found=$options
+    [[ $word != *,* ]] || start=${word%,*},
+    COMPREPLY=($(compgen -P "$start" -W "$found" -- "${word##*,}"))
+  }
+  # If nothing is found bash has the names of files, and quotes them.
+  complete -o default -F _forestlab forestplan forestplay forestlab
+fi
 """
 
 
@@ -36,6 +84,8 @@ def commands_in(words, text):
     listed = re.search(r"^Commands:\n((?:  .*\n)+)", text, re.M)
     if listed:
         return re.findall(r"^  ([a-z]+) ", listed.group(1), re.M)
+    if words == ("forestlab", "workshop"):
+        return OF_WORKSHOP
     if words[0] != "forestlab" or words[1:] not in WITH_COMMANDS:
         return []
     before = re.split("positional arguments:|^Example", text, flags=re.M)[0]
@@ -51,7 +101,7 @@ def helps(folder, *words):
         check=True,
         stdout=subprocess.PIPE,
         text=True,
-        env=dict(os.environ, COLUMNS="80"),
+        env=dict(os.environ, COLUMNS="80", PYTHONDONTWRITEBYTECODE="1"),
     ).stdout
     below = commands_in(words, text)
     return [
@@ -60,21 +110,26 @@ def helps(folder, *words):
     ]
 
 
+def cases_of(words, text, below):
+    """The lines of the shell for some words: which options there are, what else may come, and what after an option."""
+    options = sorted(set(re.findall(r"^ +(?:-\w(?: [A-Z.]+)?, )?(--[a-z-]+)", text, re.M)))
+    # A path may be before the command's name, and more words after all of them.
+    pattern = "*" + "".join(f"{word}\\ " for word in words) + "*"
+    first = " ".join([*below, *ARGUMENTS.get(words[-1], ())])
+    yield f'    {pattern}) options="{" ".join(options)}" found="{first}"\n      case $2 in\n'
+    for option in options:
+        values = VALUES.get(f"{words[-1]} {option}", VALUES.get(option))
+        if values:
+            yield f'        {option}) found="{" ".join(values)}" ;;\n'
+    yield "      esac ;;\n"
+
+
 def completion(folder):
-    """The file that completes the words of the commands in a folder."""
-    lines = []
-    # The shell takes the first pattern that fits, so those of more words come first.
-    for words, text, below in sorted(
-        (found for name in COMMANDS for found in helps(folder, name)),
-        key=lambda found: -len(found[0]),
-    ):
-        options = sorted(set(re.findall(r"^ +(?:-\w(?: [A-Z.]+)?, )?(--[a-z-]+)", text, re.M)))
-        # A path may be before the command's name, and more words after all of them.
-        pattern = "*" + "".join(f"{word}\\ " for word in words) + "*"
-        lines.append(
-            f'    {pattern}) words="{" ".join(options)}" commands="{" ".join(below)}" ;;\n'
-        )
-    return HEAD + "".join(lines) + TAIL
+    """The file that completes the words of the commands in a folder. The shell takes the first pattern that fits, so
+    those of more words come first."""
+    found = [of for name in COMMANDS for of in helps(folder, name)]
+    found.sort(key=lambda of: -len(of[0]))
+    return HEAD + "".join(line for of in found for line in cases_of(*of)) + TAIL
 
 
 def as_roff(text):

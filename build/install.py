@@ -15,6 +15,8 @@ from lab.workshop.class_files import is_free, make_folder, write, write_scripts,
 # What is copied, each at the path that it has here.
 FOLDERS = ("examples", "docs", "lab")
 FILES = ("CHANGELOG.md", "LICENSE-MIT", "LICENSE-APACHE", "bin/forestlab")
+# Where shells look for what completes words, below share/.
+OF_SHELLS = ("bash-completion/completions/forestlab", "zsh/site-functions/_forestlab")
 # What pip reads, which is at the top of an installed folder.
 PYPROJECT = os.path.join("lab", "python", "pyproject.toml")
 
@@ -24,20 +26,27 @@ without the toolchain and without this tree.
 
 The folder gets the layout of this tree: in bin/ forestlab and the scripts that run the
 two programs of lib/, their modules, the examples, a README of what is there, the pages and
-lessons, the licences, a manual page for each of the three, and what completes their words
-in bash and zsh. With its bin/ on the PATH the lessons' commands work in it as they do here.
-VERSION says what it was made from, and SHA256SUMS has a sum of each file: sha256sum -c
-SHA256SUMS. The programs need the C library alone, the scripts bash and Python 3. One such
-folder serves every machine of the same kind: copy it with cp -r or tar. After
-`pip install DIR` Python can import forestplan.
+lessons, the licences; in share/ a manual page for each of the three, and what completes
+their words in bash and zsh. With its bin/ on the PATH the lessons' commands work in it as
+they do here. VERSION says what it was made from, and SHA256SUMS has a sum of each file:
+sha256sum -c SHA256SUMS. The programs need the C library alone, the scripts bash and
+Python 3. One such folder serves every machine of the same kind: copy it with cp -r or
+tar. After `pip install DIR` Python can import forestplan.
+
+With --prefix this folder is PREFIX/lib/forestplan, and what a system looks for is where
+it looks: bin, share/doc, share/man/man1, share/bash-completion/completions and
+share/zsh/site-functions. With --destdir all of it is written below D in place of /, for a
+package; then `cp -a D/. /` has it in place.
 
 Programs that aren't built from these sources are proved and built first. That takes
 the minutes that README.md says, and needs the toolchain's command rt.
 """
 
 MORE_HELP = """\
-DIR is a folder that isn't there yet, or is empty; so remove an earlier one. If it can't
-be written to the end, as on a full disk, nothing of it is left.
+DIR, or PREFIX in D, is a folder that isn't there yet, or is empty; so remove an earlier
+one. If it can't be written to the end, as on a full disk, nothing of it is left. All may
+read what is installed, whatever the umask is. If there is the command strip, the programs
+are without the names of their functions.
 
 Status: 0 done, 1 the folder can't be written, 2 the command line is refused; if the
 programs can't be built, what `forestplan` ends with.
@@ -46,6 +55,8 @@ Example:
   python3 build install ~/forestplan
   cd ~/forestplan
   forestplan plain < examples/triangle.col
+
+  python3 build install --prefix /usr --destdir package
 """
 
 # In place of README's section on the first call and the tests, up to the table of the commands.
@@ -56,9 +67,20 @@ SECTION = """\
     forestplan plan < examples/triangle.col     prints the plan
 
 The programs need no toolchain, `forestlab` bash and Python 3. With `bin/` on the PATH the commands work anywhere, and
-`man` finds their pages; `source share/forestlab.bash` completes their words in bash and zsh. VERSION says from which
-commit the folder was made, and SHA256SUMS has a sum of each file. What a page says of `crates/`, `bench/`, `tests/`,
-the toolchain and `python3 build` is about the repository of that commit.
+`man` finds their pages; `source share/bash-completion/completions/forestlab` completes their words in bash and zsh.
+VERSION says from which commit the folder was made, and SHA256SUMS has a sum of each file. What a page says of
+`crates/`, `bench/`, `tests/`, the toolchain and `python3 build` is about the repository of that commit.
+
+"""
+# The same, if the folder is lib/forestplan below a prefix.
+SECTION_OF_SYSTEM = """\
+## On this system
+
+    forestplan plan < examples/triangle.col     prints the plan
+
+The programs need no toolchain, `forestlab` bash and Python 3. `man` has pages of the three commands, bash and zsh
+complete their words, and `forestplan --version` says from which commit they were made. What a page says of `crates/`,
+`bench/`, `tests/`, the toolchain and `python3 build` is about the repository of that commit.
 
 """
 
@@ -68,20 +90,22 @@ OF_THE_KIT = " Rows with a star need [the kit](#two-commands), the others Python
 OF_THE_REPOSITORY = r"\[([^\]]+)\]\((?:crates/[^)]+|CONTRIBUTING\.md)\)"
 
 
-def readme():
+def readme(section):
     """The text of README as it is in a folder: with the commands that the folder has, as they are called."""
     with open(os.path.join(TOP, "README.md"), encoding="utf-8") as file:
         text = file.read()
-    text = re.sub(r"^## Two commands\n.*?(?=^Command \| )", SECTION, text, flags=re.M | re.S)
+    text = re.sub(r"^## Two commands\n.*?(?=^Command \| )", section, text, flags=re.M | re.S)
     text = text.replace(OF_THE_KIT, "").replace(" * | ", " | ")
     return re.sub(OF_THE_REPOSITORY, r"\1", text)
 
 
-def make(room):
+def make(room, section=SECTION):
     """Makes all that is installed in an empty folder."""
     os.makedirs(os.path.join(room, "lib"))
     for name in PROGRAMS:
-        shutil.copy(program.program_at(name), os.path.join(room, "lib"))
+        to = shutil.copy(program.program_at(name), os.path.join(room, "lib"))
+        if shutil.which("strip"):
+            subprocess.run(["strip", to], check=True)
     for folder in FOLDERS:
         shutil.copytree(
             os.path.join(TOP, folder),
@@ -92,13 +116,12 @@ def make(room):
     for path in FILES:
         shutil.copy(os.path.join(TOP, path), os.path.join(room, path))
     os.rename(os.path.join(room, PYPROJECT), os.path.join(room, "pyproject.toml"))
-    write(os.path.join(room, "README.md"), readme())
+    write(os.path.join(room, "README.md"), readme(section))
+    share, commands = os.path.join(room, "share"), os.path.join(room, "bin")
     for name in COMMANDS:
-        write(
-            os.path.join(room, "share", "man", "man1", f"{name}.1"),
-            manual(os.path.join(room, "bin"), name),
-        )
-    write(os.path.join(room, "share", "forestlab.bash"), completion(os.path.join(room, "bin")))
+        write(os.path.join(share, "man", "man1", f"{name}.1"), manual(commands, name))
+    for path in OF_SHELLS:
+        write(os.path.join(share, path), completion(commands))
     # Which kit is here, if it isn't the one that the sources name.
     kits = {kit.found()} - {kit.wanted()} if kit.command() else ()
     write(
@@ -106,12 +129,28 @@ def make(room):
         version.text() + "".join(f"built where rt is of {it}\n" for it in kits),
     )
     write_sums(room)
+    subprocess.run(["chmod", "-R", "u=rwX,go=rX", room], check=True)
+
+
+def make_below(room):
+    """Makes all that is installed below a prefix, in an empty folder."""
+    os.mkdir(room)
+    make(f"{room}.folder", SECTION_OF_SYSTEM)
+    below = os.path.join(TOP, "build", "below.sh")
+    subprocess.run([below, f"{room}.folder", room], check=True)
 
 
 def main():
-    words = parser_of("install", "DIR", HELP, MORE_HELP, "python3 build")
-    words.add_argument("dir", metavar="DIR", help="the folder that is made")
-    folder = os.path.abspath(words.parse_args().dir)
+    words = parser_of(
+        "install", "DIR | --prefix PREFIX [--destdir D]", HELP, MORE_HELP, "python3 build"
+    )
+    words.add_argument("dir", metavar="DIR", nargs="?", help="the folder that is made")
+    words.add_argument("--prefix", help="the folder in which a system has bin, lib and share")
+    words.add_argument("--destdir", metavar="D", default="", help="what comes before PREFIX")
+    given = words.parse_args()
+    if (given.dir is None) == (given.prefix is None) or given.dir and given.destdir:
+        words.error("either DIR or --prefix is wanted")
+    folder = os.path.abspath(given.dir or given.destdir + os.path.abspath(given.prefix))
     inside = os.path.relpath(os.path.realpath(folder), os.path.realpath(TOP))
     if inside.split(os.sep)[0] in FOLDERS:
         words.error("the folder can't be inside of what is copied")
@@ -120,8 +159,9 @@ def main():
     status = program.built(PROGRAMS)
     if status:
         return status
+    os.umask(0o022)
     try:
-        make_folder(folder, make)
+        make_folder(folder, make if given.dir else make_below)
     except (OSError, shutil.Error, subprocess.CalledProcessError) as failed:
         why = failed.args[0][0][2] if isinstance(failed, shutil.Error) else failed
         print(f"install: {folder}: {why}", file=sys.stderr)

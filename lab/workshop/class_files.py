@@ -148,8 +148,14 @@ tar czf class.tar.gz DIR.
 """
 
 
+EXAMPLE = """\
+Example:
+  forestlab workshop class ~/class
+"""
+
+
 def main(words: list[str]) -> int:
-    line = parser_of("workshop class", "DIR", HELP, None)
+    line = parser_of("workshop class", "DIR", HELP, EXAMPLE)
     line.add_argument("dir", metavar="DIR", help="the folder that is made")
     folder = os.path.abspath(line.parse_args(words).dir)
     if not is_free(folder):

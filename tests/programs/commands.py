@@ -2,6 +2,7 @@
 import contextlib
 import os
 import pty
+import re
 import subprocess
 import sys
 
@@ -18,25 +19,71 @@ from tests.tools import need
 LIMIT = 300
 
 
-def typed_in_zsh(script, line):
-    """What a terminal shows where a line is typed, completed by Tab, and then printed: before it, after the key that
-    goes to its beginning, the command `print` is typed."""
+# Lines whose next word can't be `nothing`: the refusal lists what it may be.
+REFUSED = (
+    "forestlab network read --as",
+    "forestlab simulate two --policy",
+    "forestlab simulate two --program",
+    "forestlab workshop alpha --policies",
+    "forestlab workshop alpha --program",
+    "forestlab picture run two --only",
+    "forestlab picture schedules two --without",
+    "forestlab picture broken two --without",
+    "forestlab explore two --without",
+    "forestlab transcript convert",
+    "forestplay rounds --program",
+)
+
+# How each shell begins without the user's own files, with the completion in a file `_forestlab` of this folder.
+SHELLS = {
+    "bash": ("bash --norc -i", ". ./_forestlab"),
+    "zsh": ("zsh -f -i", "autoload -Uz compinit && compinit -u -D && . ./_forestlab"),
+    "zsh by its path": (
+        "zsh -f -i",
+        "fpath=($PWD $fpath); autoload -Uz compinit && compinit -u -D",
+    ),
+}
+# What is typed before Tab, and the words of the line then.
+TYPED = {
+    "forestlab network que": "forestlab network queen",
+    "bin/forestlab transcript check --j": "bin/forestlab transcript check --json",
+    "forestplan tr": "forestplan transcript",
+    "forestplay run --tr": "forestplay run --transcript",
+    "forestplay run --program mat": "forestplay run --program matching",
+    "forestlab network read --as ad": "forestlab network read --as adjacency",
+    "forestlab network read --as=ad": "forestlab network read --as=adjacency",
+    "forestlab workshop alpha --policies random,late-a": "forestlab workshop alpha --policies random,late-acks",
+    "forestlab workshop gra": "forestlab workshop grade",
+    "forestlab network read the": "forestlab network read the <net>.csv",
+    "forestlab simulate two --program my": "forestlab simulate two --program my_own.py",
+}
+
+
+def typed(shell, folder):
+    """What a terminal shows where each line is typed in a folder, completed by Tab, and then printed: before it, after
+    the key that goes to its beginning, the command that prints its words is typed."""
+    words, begin = SHELLS[shell]
     ours, its = pty.openpty()
-    keys = f"autoload -Uz compinit && compinit -u -D\n. {script}\n{line}\t\x01print -r -- \nexit\n"
-    words = ["zsh", "-f", "-i"]
+    lines = "".join(f"{line}\t\x01printf '<%s> ' \n" for line in TYPED)
     env = dict(os.environ, TERM="dumb")
     with subprocess.Popen(
-        words, stdin=its, stdout=its, stderr=its, env=env, start_new_session=True
-    ) as zsh:
+        words.split(),
+        stdin=its,
+        stdout=its,
+        stderr=its,
+        env=env,
+        cwd=folder,
+        start_new_session=True,
+    ) as started:
         os.close(its)
-        os.write(ours, keys.encode())
+        os.write(ours, f"{begin}\n{lines}exit\n".encode())
         said = b""
         # At its end the other side of the terminal is closed, which is an error to who reads.
         with contextlib.suppress(OSError):
             while more := os.read(ours, 1 << 16):
                 said += more
         os.close(ours)
-        zsh.wait(LIMIT)
+        started.wait(LIMIT)
     return said.decode()
 
 
@@ -116,34 +163,33 @@ class Commands(Case):
             self.refusal(f"no network {name}", forestlab("simulate", name), 1, said)
 
     def test_completion(self):
-        """What completes the words knows each command of forestlab and its options, in bash, and in zsh if it is
-        there."""
-        script = completion.completion(os.path.join(TOP, "bin"))
-        for words, wanted in (
-            (["forestlab", ""], list(OF_LAB)),
-            (["forestlab", "network", "que"], ["queen"]),
-            (["bin/forestlab", "transcript", "check", "--j"], ["--json"]),
-            (["forestlab", "network", "tell", "path5", "--h"], ["--help"]),
-            (["forestplan", "tr"], ["transcript"]),
-            (["forestplay", "run", "--tr"], ["--transcript"]),
-        ):
-            quoted = " ".join(map(repr, words))
-            line = f"{script}\nCOMP_WORDS=({quoted}); COMP_CWORD={len(words) - 1}\n_forestplan\n"
-            line += "printf '%s\\n' \"${COMPREPLY[@]}\"\n"
-            done = subprocess.run(
-                ["bash", "-c", line], capture_output=True, text=True, timeout=LIMIT
+        """The words that complete a line are all commands of forestlab; and of an option those that a refusal lists."""
+        script = self.file("completion", completion.completion(os.path.join(TOP, "bin")))
+        rows = [("forestlab", "", set(OF_LAB))]
+        for line in REFUSED:
+            said = called("bash", "-c", f"bin/{line} nothing", cwd=TOP)[2]
+            listed = said.decode().split("\n\nFor more")[0].rpartition(": ")[2]
+            listed = re.sub(r".*some of |.*there are |.*choose from |, and a file.*", "", listed)
+            rows.append((line, "", set(re.findall(r"[\w-]+", listed))))
+        for line, begun, wanted in rows:
+            words = [*line.split(), begun]
+            shell = (
+                'source "$0"; COMP_WORDS=("$@") COMP_CWORD=$(($# - 1)); _forestlab; '
+                'printf "%s\\n" "${COMPREPLY[@]}"'
             )
-            self.note(f"bash: {words}", sorted(done.stdout.split()) == sorted(wanted), done)
+            done = called("bash", "-c", shell, script, *words)
+            self.same(line, ({*done[1].decode().split()}, done[2]), (wanted, b""))
 
-    def test_completion_in_zsh(self):
-        """A line that has one completion, after the key Tab."""
-        need(self, "zsh")
-        script = completion.completion(os.path.join(TOP, "bin"))
-        for line, wanted in (
-            ("forestlab network que", "forestlab network queen"),
-            ("forestlab transcript check --j", "forestlab transcript check --json"),
-            ("forestplan tr", "forestplan transcript"),
-            ("forestplay run --tr", "forestplay run --transcript"),
-        ):
-            said = typed_in_zsh(self.file("completion", script), line)
-            self.note(f"zsh: {line}", f"\n{wanted}\r\n" in said, said)
+    def test_completion_in_shells(self):
+        """Lines that have one completion, after the key Tab."""
+        for name in ("the <net>.csv", "my_own.py"):
+            self.file(name, "")
+        self.file("_forestlab", completion.completion(os.path.join(TOP, "bin")))
+        for shell in SHELLS:
+            with self.subTest(shell):
+                need(self, shell.split()[0])
+                said = typed(shell, self.folder)
+                for line, wanted in TYPED.items():
+                    words = wanted.replace(" <net>", "\0").split(" ")
+                    shown = "".join(f"<{word}> " for word in words).replace("\0", " <net>")
+                    self.note(f"{shell}: {line}", f"{shown}" in said, said)

@@ -2,6 +2,7 @@
 
 What is installed has to run from another folder, through symbolic links, and from a copy of the folder; its manual
 pages have to be the help texts, which lab/help/ has."""
+import gzip
 import os
 import re
 import resource
@@ -14,7 +15,7 @@ from build import completion
 from lab.__main__ import COMMANDS as OF_LAB
 from tests import TOP
 from tests.cases import Case, called, contents, copied, text, wait_until
-from tests.commands import APART, COMMANDS, HELPS, PROGRAMS
+from tests.commands import APART, COMMANDS, PROGRAMS
 from tests.commands import SCRIPTS as OF_BIN
 from tests.pages.pages import PAGES, lines_of
 from tests.tools import need
@@ -24,8 +25,10 @@ LIMIT = 600
 NAMES = [*PROGRAMS, "forestlab"]
 # Stored pictures that version 0.5 drew, of kinds that there are no more.
 OF_NO_KIND = {"petersen-automaton.svg", "petersen-tally.svg", "four_cycle-forests.svg"}
-BUILD = [sys.executable, os.path.join(TOP, "build")]
-ENVIRONMENT = dict(os.environ, COLUMNS="80")
+BUILD = [sys.executable, "-B", os.path.join(TOP, "build")]
+# As a user has it: what Python compiles isn't kept elsewhere.
+OWN = {name: word for name, word in os.environ.items() if not name.startswith("PYTHON")}
+ENVIRONMENT = OWN | {"COLUMNS": "80"}
 
 
 def run(words, data=b"", most=None, **more):
@@ -170,7 +173,7 @@ class Install(Case):
             )
 
     def test_manual(self):
-        """A page for each of the three, with the help of each of its commands; that of the programs is stored."""
+        """A page for each of the three, with the help of each of its commands."""
         pages, there = os.path.join(self.target, "share", "man", "man1"), os.path.join(
             self.target, "bin"
         )
@@ -179,12 +182,6 @@ class Install(Case):
             sorted(os.listdir(pages)),
             sorted(f"{name}.1" for name in NAMES),
         )
-        for words, file in HELPS:
-            got, stored = (
-                run([os.path.join(there, words[0]), *words[1:], "--help"]),
-                f"lab/help/{file}.txt",
-            )
-            self.same(f"the help of {words}", got, (0, contents(os.path.join(TOP, stored)), b""))
         for name in NAMES:
             page = contents(os.path.join(pages, f"{name}.1")).decode()
             blocks = {
@@ -210,6 +207,9 @@ class Install(Case):
             [],
             [self.folder, self.folder],
             ["--all"],
+            [os.path.join(self.folder, "new"), "--prefix", "/usr"],
+            [os.path.join(self.folder, "new"), "--destdir", self.folder],
+            ["--prefix", clash],
             [clash],
             [TOP],
             [os.path.join(TOP, "docs", "new")],
@@ -235,15 +235,63 @@ class Install(Case):
         self.same("what a signal leaves", os.listdir(room), [])
 
     def test_limit(self):
-        """Where a file may not grow, the output can't be written: that is a fault of the stream, and no death."""
-        path = os.path.join(self.folder, "plan")
+        """Where a file may not grow the output can't be written, and little stack is too little memory: a line, and no
+        death. So are few files."""
         for name, words in (("forestplan", "plain"), ("forestplay", "rounds")):
             script = os.path.join(self.target, "bin", name)
-            got = run(
-                ["bash", "-c", 'ulimit -f 0; exec "$0" "$1" >"$2"', script, words, path],
-                b"p edge 2 1\ne 1 2\n",
-            )
-            self.same(f"{name}: no room", got, (4, b"", b"%s: stream\n" % name.encode()))
+            for limit, said in (
+                ("-f 0", f"{name}: stream"),
+                ("-s 96", f"{name}: memory: stack size is limited to .*"),
+                ("-n 4", ".*: Too many open files"),
+            ):
+                line = f'ulimit {limit}; exec "$0" "$1"'
+                with open(os.path.join(self.folder, "plan"), "wb") as plan:
+                    got = run(["bash", "-c", line, script, words], b"p edge 1 0\n", stdout=plan)
+                good = got[0] == 4 and re.fullmatch(said + "\n", got[2].decode())
+                self.note(f"{name}: ulimit {limit}", good, got)
+
+    def laid_out(self, folder):
+        """All may read each file of a folder, and run what is a program or a script, and Python has left nothing there
+        that it compiled."""
+        wrong = "-name __pycache__ -o -type d ! -perm 755 -o -type f ! -perm 644 ! -perm 755"
+        done = run(["bash", "-c", f"find . {wrong}"], cwd=folder)
+        self.same(f"modes in {folder}", done, (0, b"", b""))
+        done = run(["find", folder, "-type", "f", "-perm", "755"])
+        begin = {contents(path)[:2] for path in done[1].decode().splitlines()}
+        self.same(f"what is run in {folder}", begin, {b"#!", b"\x7fE"})
+
+    def test_prefix(self):
+        """What a package has: all where a system looks for it, whatever the umask is, called by links."""
+        room = os.path.join(self.folder, "package")
+        words = ["--prefix", "/usr", "--destdir", room]
+        done = run([*self.script, *words], umask=0o077)
+        self.note("install --prefix", done[:2] == (0, b""), done)
+        self.laid_out(self.target)
+        self.laid_out(room)
+        there, share = os.path.join(room, "usr"), os.path.join(room, "usr", "share")
+        pages = [f"{name}.1.gz" for name in NAMES]
+        for folder, names in (
+            ("bin", NAMES),
+            ("share/man/man1", pages),
+            ("share/bash-completion/completions", NAMES),
+            ("share/zsh/site-functions", ["_forestlab"]),
+            ("share", ["bash-completion", "doc", "man", "zsh"]),
+        ):
+            self.same(folder, {*os.listdir(os.path.join(there, folder))}, {*names})
+        for name in pages:
+            page = gzip.decompress(contents(share, "man", "man1", name))
+            self.same(name, page, contents(self.target, "share", "man", "man1", name[:-3]))
+        self.readme_of(os.path.join(share, "doc", "forestplan"))
+        for words, data in (
+            (["forestlab", "network", "tell", "two"], b""),
+            (["forestplay", "rounds"], b"p edge 1 0\n"),
+        ):
+            got = run([os.path.join(there, "bin", words[0]), *words[1:]], data, cwd=self.elsewhere)
+            self.note(f"{words} by a link", got[::2] == (0, b""), got)
+        need(self, "strip")
+        for name in PROGRAMS:
+            symbols = b".symtab" in contents(there, "lib", "forestplan", "lib", name)
+            self.note(f"{name} has no names of functions", not symbols)
 
     def test_python(self):
         """`pip install` of the folder has Python import the package, which finds its programs by itself, and puts the
@@ -321,15 +369,18 @@ class Install(Case):
         )
 
     def test_readme(self):
-        """README there has the links of the repository's, and names nothing that it alone has."""
-        there = contents(os.path.join(self.target, "README.md")).decode()
-        links = {link.partition("#")[0] for link in re.findall(r"\]\(([^)]+)\)", there)}
-        lost = {link for link in links if not os.path.isfile(os.path.join(self.target, link))}
-        self.note("each page that it links is there", len(links) > 10 and not lost, lost)
-        self.note(
-            "nothing of the repository alone",
-            not re.findall(r"\./\w+|\brt\b|wrong-bodies", there),
-            there,
+        """The first command of README prints a plan."""
+        self.readme_of(self.target)
+        shown = re.search(
+            r"\$ (forestplan plan < \S+)", contents(self.target, "README.md").decode()
         )
-        shown = re.search(r"\$ (forestplan plan < \S+)", there)
         self.same("its first command", self.line(shown[1]), (0, b"plan\n1 2\n2 3\n3 1\n", b""))
+
+    def readme_of(self, folder):
+        """README in a folder has the links of the repository's, and names nothing that it alone has."""
+        there = contents(folder, "README.md").decode()
+        links = {link.partition("#")[0] for link in re.findall(r"\]\(([^)]+)\)", there)}
+        lost = {link for link in links if not os.path.isfile(os.path.join(folder, link))}
+        self.note("each page that it links is there", len(links) > 10 and not lost, lost)
+        alone = re.findall(r"\./\w+|\brt\b|wrong-bodies", there)
+        self.same("what is of the repository alone", alone, [])
