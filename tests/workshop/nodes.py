@@ -306,7 +306,7 @@ class RightNodes(Played):
 
 
 # By how the other mistakes begin, the program, and the networks on which WORKSHOP has it tried.
-COLOURED = ("two", "triangle", "star4", "most4")
+COLOURED = ("two", "triangle", "star4", "most4", "barred")
 TRIED = {
     "layers": ("layers", ("path5", "alone4")),
     "matching": ("matching", COLOURED),
