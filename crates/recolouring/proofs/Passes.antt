@@ -161,7 +161,7 @@ module _ (again : ℕ) (net : Net) (ok : IsNetwork net) where
       subst (λ (m : ℕ). new m v ≤ greatest) (sym same)
       (plans.no_greater again net ok (suc n) begun.0 begun.1 begun.2 begun.3 greatest
       (λ w inside. let bound : new n w ≤ greatest = no_greater greatest k d most w inside in
-          omega (arith, next-old n before.0 before.3 w inside, bound))
+      omega (arith, next-old n before.0 before.3 w inside, bound))
       v is_vertex)
 
   abbrev pub barring : Bool

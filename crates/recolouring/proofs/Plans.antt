@@ -216,8 +216,8 @@ module _ (again : ℕ) (net : Net) (ok : IsNetwork net) (k : ℕ) (low : (v : �
           c,
           some.1,
           free-if v c is_vertex
-          (λ held. let wrong : true ≡ false = sym (among-right near (bars_of net v) c held) ∙ some.2 in cc)
-          (λ there.
+              (λ held. let wrong : true ≡ false = sym (among-right near (bars_of net v) c held) ∙ some.2 in cc)
+              (λ there.
               let here : get_or near there.0 c ≡ c = get_or-map colour (neighbours net v) there.0 0 c there.1 ∙ there.3 in
               let within_it : there.0 < length near = omega (arith, there.1, length-map (neighbours net v) colour) in
               let wrong : true ≡ false = sym (among-left near (bars_of net v) c (is_among-at near there.0 c within_it here)) ∙ some.2 in
@@ -300,10 +300,10 @@ module _ (again : ℕ) (net : Net) (ok : IsNetwork net) (k : ℕ) (low : (v : �
             let c : ℕ = greatest - old v in
             let top : old v ≤ greatest = most v is_vertex in
             let least : colour v ≤ c = at-most v c is_vertex (free-if v c is_vertex (no-bar v c is_vertex) (λ there.
-                let w : ℕ = neighbour_of net v there.0 in
-                let inside : IsVertex net w = ok.vertices v there.0 is_vertex there.1 in
-                let bound : colour w + old w ≤ greatest = mirrored n w inside (omega (arith, there.2, h)) in
-                omega (arith, there.2, there.3, bound, down v, down w, top, low v is_vertex))) in
+            let w : ℕ = neighbour_of net v there.0 in
+            let inside : IsVertex net w = ok.vertices v there.0 is_vertex there.1 in
+            let bound : colour w + old w ≤ greatest = mirrored n w inside (omega (arith, there.2, h)) in
+            omega (arith, there.2, there.3, bound, down v, down w, top, low v is_vertex))) in
             omega (arith, least, top)
 
         pub no_more : (v : ℕ) → IsVertex net v → colour v + old v ≤ greatest
