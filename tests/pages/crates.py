@@ -15,20 +15,16 @@
   lower crate in src/, specs/ or proofs/, and no import by way of one (`below`).
 """
 import collections
-import glob
 import os
 import re
 
 from build.crate_lists import PROGRAMS, listed
 from tests import TOP
 from tests.cases import Case, text_in
+from tests.pages.pages import crate_files
 
 GHOST, CODE = r"\bRattle\.(\w+)\.", r"(?<![\w:.])([a-z_]\w*)::"
-SOURCES = [
-    path
-    for part in ("src", "specs")
-    for path in sorted(glob.glob(f"{TOP}/crates/*/{part}/**/*.*t", recursive=True))
-]
+SOURCES = crate_files("*/src/**/*.*t") + crate_files("*/specs/**/*.*t")
 CALLERS = (
     r"((?:`\w+`(?:, and |, | and )?)+) "
     r"(?:calls?|cites?|uses?|reads?|writes?|prints?|plays?|checks?|keeps?|numbers|builds)\b"
@@ -99,9 +95,7 @@ def unfound(path):
 def files_of(crate):
     """Each file of a crate's sources, its path with its text, comments left out."""
     for part in ("src", "specs", "proofs"):
-        for path in sorted(
-            glob.glob(os.path.join(TOP, "crates", crate, part, "**", "*.*t"), recursive=True)
-        ):
+        for path in crate_files(f"{crate}/{part}/**/*.*t"):
             yield os.path.relpath(path, TOP), re.sub(
                 r"^\s*(//|-- ).*$", "", text_in(path), flags=re.M
             )
@@ -154,11 +148,7 @@ class Crates(Case):
     needs_programs = False
 
     def test_edits_apply(self):
-        edits = [
-            path
-            for name in ("must-fail", "wrong-bodies")
-            for path in sorted(glob.glob(os.path.join(TOP, "crates", "*", name, "*")))
-        ]
+        edits = crate_files("*/must-fail/*") + crate_files("*/wrong-bodies/*")
         self.note("there are edits", len(edits) > 100, len(edits))
         for path in edits:
             self.same(os.path.relpath(path, TOP), list(unfound(path)), [])
@@ -169,10 +159,9 @@ class Crates(Case):
 
     def test_widths(self):
         for part, widest in (("src", 120), ("specs", 120), ("proofs", 160)):
-            paths = glob.glob(f"{TOP}/crates/*/{part}/**/*.*t", recursive=True)
             wide = [
                 f"{os.path.relpath(path, TOP)}:{number}"
-                for path in sorted(paths)
+                for path in crate_files(f"*/{part}/**/*.*t")
                 for number, line in enumerate(text_in(path).split("\n"), 1)
                 if len(line) > widest
             ]
@@ -254,7 +243,7 @@ class Crates(Case):
     def test_callers(self):
         """Who a head says that calls its crate."""
         lists, count = listed(), 0
-        for path in glob.glob(f"{TOP}/crates/*/src/lib.rt"):
+        for path in crate_files("*/src/lib.rt"):
             crate = path.split("/")[-3]
             head = " ".join(re.findall(r"^//! ?(.*)$", text_in(path), re.M))
             callers = re.findall(r"\w+", " ".join(re.findall(CALLERS, head)))

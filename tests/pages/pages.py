@@ -117,16 +117,14 @@ def heading_anchor(line):
     return text.replace(" ", "-")
 
 
+def crate_files(pattern):
+    """The paths of the files in crates/ that a pattern means."""
+    return sorted(glob.glob(f"{TOP}/crates/{pattern}", recursive=True))
+
+
 def clauses_of_crate(crate):
     """The names of the clauses of each function and type of a crate, and under `ghost` those of its ghost members."""
-    text = "\n".join(
-        map(
-            text_in,
-            sorted(
-                glob.glob(os.path.join(TOP, "crates", crate, "src", "**", "*.rt"), recursive=True)
-            ),
-        )
-    )
+    text = "\n".join(map(text_in, crate_files(f"{crate}/src/**/*.rt")))
     found = {
         name: set() for name in re.findall(r"\bimpl(?:<[^{]*?>)? (?:[\w:<>, ]* for )?(\w+)", text)
     }
@@ -143,7 +141,7 @@ def clauses_of_crate(crate):
 def laws_of_crates():
     """Each public law, a function with an empty body, by its path: `crate::function`, or `crate::laws::function`."""
     found = set()
-    for file in glob.glob(os.path.join(TOP, "crates", "*", "src", "l*.rt")):
+    for file in crate_files("*/src/l*.rt"):
         *_, crate, _, module = file.split(os.sep)
         is_inside = module == "laws.rt" and "pub mod laws;" in text_in(
             "crates", crate, "src", "lib.rt"

@@ -203,8 +203,6 @@ class Transcripts(Case):
         said = [said_of(edge, b"\n".join(lines[:count]) + b"\n") for count in range(2, pulse + 1)]
         unasked = [words for _, words in said if not words.endswith("(is the text cut?)")]
         self.note("each beginning without the last pulse may be cut", not unasked, unasked[:1])
-        got = said_of(edge, b"transcript 1 2\n1 put 2 payl")
-        self.note("a text that ends inside a line", got[0] == "line 2: X1" and "cut" in got[1], got)
 
     def test_replays(self):
         """`forestlab transcript replay`, which puts the entries in an order and has the program play them."""
