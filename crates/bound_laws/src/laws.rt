@@ -86,10 +86,10 @@ pub fn independent_set_is_bounded()
 pub fn recolouring_is_bounded()
     ensures pulses { (again : ℕ) (net : Net) → IsNetwork net → last_pulse_on (recolouring again) net
         ≤ 12 + (3 * greatest_degree_of net + (again + 1) * sweeps (sizes_of net))
-            * (greatest_degree_of net + greatest_bars_of net + 1) }
+        * (greatest_degree_of net + greatest_bars_of net + 1) }
     ensures payloads { (again : ℕ) (net : Net) → IsNetwork net
         → SendsAtMost (recolouring again) net
-            (13 + 2 * forest_count_of net + 2 * ((again + 1) * sweeps (sizes_of net))) }
+        (13 + 2 * forest_count_of net + 2 * ((again + 1) * sweeps (sizes_of net))) }
 {
     forest_count_is_the_greatest();
 }

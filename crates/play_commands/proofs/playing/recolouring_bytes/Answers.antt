@@ -82,4 +82,3 @@ pub returns-in-Eight-clause-fault : goal.returns-in-Eight-clause-fault
 returns-in-Eight-clause-fault g c =
     subst (λ (p : Passes). IfErr c.passes_bytes-in-Eight.result (λ fault. MayRecolour p c.args.play c.args.input.now (Err fault))) (sym c.in-Eight.is)
     c.passes_bytes-in-Eight.ensures.fault
-
