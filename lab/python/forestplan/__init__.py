@@ -172,12 +172,7 @@ def plan(
 
     Raises `Refused` if it takes more channels than the licence has, or if a node has more than 1,023 neighbours.
     """
-    more = [] if workers is None else ["--workers", str(whole(workers, "workers", 1, MAX_WORKERS))]
-    command = ["forestplan", "plan" if more else "plain"]
-    if many := whole(passes, "passes", 0, MAX_PASSES):
-        command = ["forestplay", "run" if more else "ends"]
-        more += ["--program", "recolouring", "--passes", str(many)]
-    network, order, text = _asked([*command, *more], G, bars, licence)
+    network, order, text = _asked(_words_of(workers, passes), G, bars, licence)
     lines = text.removeprefix("plan\n").splitlines()
     number = {node: int(line.split()[-1]) for node, line in zip(order, lines, strict=True)}
     found = Plan((node, number[node]) for node in dict.fromkeys([*G, *order]))
@@ -258,6 +253,16 @@ def colour_map(channels: int = 8) -> Any:
 
     hue = of_lab("pictures", "palette").channel_hue
     return ListedColormap([hue(channel + 1) for channel in range(channels)], "forestplan")
+
+
+def _words_of(workers, passes):
+    """The program and its words that find a plan."""
+    more = [] if workers is None else ["--workers", str(whole(workers, "workers", 1, MAX_WORKERS))]
+    command = ["forestplan", "plan" if more else "plain"]
+    if many := whole(passes, "passes", 0, MAX_PASSES):
+        command = ["forestplay", "run" if more else "ends"]
+        more += ["--program", "recolouring", "--passes", str(many)]
+    return [*command, *more]
 
 
 def _asked(words, G, bars, licence):
