@@ -72,3 +72,14 @@ class Network:
     def parent(self, f: int, v: int) -> int | None:
         """The parent of v in forest f; None at a root."""
         return self.higher[v][f] if f < len(self.higher[v]) else None
+
+
+def order(span: int, barring: bool, sweep: int) -> list[int]:
+    """The colours in the order in which recolouring has them choose in a sweep, counted from 0, as sweeps are."""
+    down = list(range(span, -1, -1))
+    if barring:
+        return down[::-1] if sweep % 2 else down
+    if sweep % 3 == 0:
+        return down
+    first = sweep % 3 - 1
+    return sorted(down, key=lambda colour: colour % 2 != first)

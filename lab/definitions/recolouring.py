@@ -2,18 +2,7 @@
 1992), at one node, by its definition (docs/claim/DEFINITIONS.md), slow and plain."""
 from lab.definitions.nodes import Slot, last_pulse
 from lab.definitions.sequel import Sequel
-from lab.network import Network
-
-
-def order(span: int, barring: bool, sweep: int) -> list[int]:
-    """The colours in the order in which they have a pulse in a sweep, counted from 0."""
-    down = list(range(span, -1, -1))
-    if barring:
-        return down[::-1] if sweep % 2 else down
-    if sweep % 3 == 0:
-        return down
-    first = sweep % 3 - 1
-    return sorted(down, key=lambda colour: colour % 2 != first)
+from lab.network import Network, order
 
 
 class Recolouring(Sequel):

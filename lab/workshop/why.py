@@ -1,5 +1,5 @@
 """Why a node has to do something in a pulse: the rule of the pulse, and this node's numbers, all of which it knows."""
-from lab.definitions.recolouring import order
+from lab.network import order
 from lab.workshop.findings import last_of, listed
 from lab.workshop.protocol import SEQUELS
 from lab.workshop.right_rounds import RightRounds
