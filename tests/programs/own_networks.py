@@ -17,7 +17,7 @@ from lab.words import duration
 from tests.cases import Case, called, example, forestlab, in_process
 from tests.programs import plain_networks
 from tests.programs.plain_networks import payloads_of, reached, some_bars
-from tests.settings import PLAN, PLAY, setting
+from tests.settings import PLAN, setting
 
 
 def call(*words, **more):
@@ -69,7 +69,6 @@ REFUSED = [
     "read",
     "number x --by degree",
     "tell",
-    "tell x y",
 ]
 
 
@@ -273,11 +272,6 @@ class OwnNetworks(Case):
                 call(*command, "/nowhere.col"),
                 (1, b"", b"network: /nowhere.col: No such file or directory\n"),
             )
-            self.same(
-                f"{command[0]} of a name",
-                call(*command, "path5", data=b"plan\n1 1\n2 2\n3 1\n4 2\n5 1\n")[0],
-                0,
-            )
 
     def test_numbers(self):
         """`number` and `read` leave each node its name, place, identifier, bars and neighbours."""
@@ -372,7 +366,7 @@ class OwnNetworks(Case):
             self.note(f"the fault {fault} of {text[:40]!r}", good, told)
 
     def test_large(self):
-        """Of a large network `network tell` has a bound of the payloads, and the command that counts them."""
+        """Of a large network `network tell` has the bound that test_tell compares, and the command that counts."""
         data = self.written("random", 3000, 9000)
         told, _ = self.told_of(data)
         wires = numbers(told["wires"])[-1]
@@ -380,10 +374,6 @@ class OwnNetworks(Case):
         self.note("the time of a large network", told["time"].startswith(said), told)
         times = [duration(59.9), duration(60), duration(185)]
         self.same("times in words", times, ["59 s", "1 min 0 s", "3 min 5 s"])
-        most, command = re.fullmatch(
-            "at most ([0-9,]+); `(.*)` counts them", told["payloads"]
-        ).groups()
-        command = command.replace("forestplay", PLAY).replace("< FILE ", "")
-        _, payloads, _ = called("sh", "-c", command, data=data)
-        good = 0 < int(payloads) <= int(most.replace(",", ""))
-        self.note("a bound of the payloads", good, (payloads, most))
+        most = most_payloads(network_of(data))
+        said = f"at most {most:,}; `forestplay rounds < FILE | grep -c ' put '` counts them"
+        self.same("a bound of the payloads", told["payloads"], said)

@@ -4,7 +4,7 @@ from unittest import mock
 
 from lab.networks import foreign
 from lab.networks.reading import listed_of, made_of
-from lab.networks.stated import Stated, form_of
+from lab.networks.stated import Stated
 from lab.wrong import Wrong
 from tests.cases import Case
 
@@ -30,7 +30,6 @@ REFUSED = (
         "source,target,from\na,b,c\n",
         "line 1: source and from may each be the column source",
     ),
-    ("pairs", "source,target,target\na,b,c\n", "target and target may each be the column target"),
     ("pairs", "sep=;\nsource;target\na;b\n", "line 1: `sep=;` is for Excel alone: delete this"),
     ("pairs", b"\x1f\x8b\x08\0", "it is compressed: unpack it by gunzip"),
     ("pairs", PAIR + "a,#N/A\n", "line 2: no name of a node"),
@@ -182,15 +181,6 @@ class Reading(Case):
         for form, text in self.readable(READ):
             edges, alone, _ = read(text, form)
             self.same(f"{form} {text[:40]!r}", (edges, alone), ({frozenset(("Ulm", "Aue"))}, set()))
-
-    def test_endings(self):
-        for path, form in (
-            ("-", "dimacs"),
-            ("a.col", "dimacs"),
-            ("a.CSV", "pairs"),
-            ("b.adjlist", "adjacency"),
-        ):
-            self.same(f"the form of {path}", form_of(path, path), form)
 
     def test_said(self):
         """What isn't read is said."""

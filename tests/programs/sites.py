@@ -32,11 +32,6 @@ TABLES = (
     (SITES, "site,channel\nHoff,1\n", "line 2: Hoff is no site, is it Hof?"),
     (SITES, "site,channel\nHof,2049\n", "line 2: no channel from 1 to 2048"),
     (SITES, "site,channel\nHof,6.0\n", "line 2: no channel: `6.0`"),
-    (
-        SITES,
-        "site,channel,channel\nHof,1,2\n",
-        "channel and channel may each be the column channel",
-    ),
 )
 
 
