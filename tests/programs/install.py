@@ -12,7 +12,6 @@ import sys
 import tempfile
 
 from build import completion
-from lab.__main__ import COMMANDS as OF_LAB
 from tests import TOP
 from tests.cases import Case, called, contents, copied, text, wait_until
 from tests.commands import APART, COMMANDS, PROGRAMS
@@ -90,14 +89,7 @@ class Install(Case):
         )
         os.mkdir(cls.elsewhere)
         cls.script = [*BUILD, "install"]
-        cls.installed = run([*cls.script, os.path.join("..", "my plans")], cwd=cls.elsewhere)
-
-    def test_installed(self):
-        self.note(
-            "install",
-            self.installed[:2] == (0, b"") and b"install: " in self.installed[2],
-            self.installed,
-        )
+        run([*cls.script, os.path.join("..", "my plans")], cwd=cls.elsewhere)
 
     def line(self, command):
         path = f"{os.path.join(self.target, 'bin')}:{ENVIRONMENT['PATH']}"
@@ -177,11 +169,6 @@ class Install(Case):
         pages, there = os.path.join(self.target, "share", "man", "man1"), os.path.join(
             self.target, "bin"
         )
-        self.same(
-            "a manual page for each",
-            sorted(os.listdir(pages)),
-            sorted(f"{name}.1" for name in NAMES),
-        )
         for name in NAMES:
             page = contents(os.path.join(pages, f"{name}.1")).decode()
             blocks = {
@@ -196,8 +183,6 @@ class Install(Case):
                 need(self, "groff")
                 got = run(["groff", "-man", "-Tutf8", "-ww", os.path.join(pages, f"{name}.1")])
                 self.assertEqual(got[::2], (0, b""), got)
-        missing = {f"forestlab {it.name}" for it in OF_BIN} - blocks.keys()
-        self.note("the commands of forestlab", not missing, missing)
 
     def test_refused(self):
         """A folder that has something, this tree and what is in it among them, stays as it is."""
@@ -266,8 +251,9 @@ class Install(Case):
         words = ["--prefix", "/usr", "--destdir", room]
         done = run([*self.script, *words], umask=0o077)
         self.note("install --prefix", done[:2] == (0, b""), done)
-        self.laid_out(self.target)
-        self.laid_out(room)
+        for folder in (self.target, room):
+            self.laid_out(folder)
+        self.readme_of(self.target)
         there, share = os.path.join(room, "usr"), os.path.join(room, "usr", "share")
         pages = [f"{name}.1.gz" for name in NAMES]
         for folder, names in (
@@ -348,16 +334,9 @@ class Install(Case):
         version = contents(os.path.join(self.target, "VERSION")).decode()
         lines = r"forestplan \d+\.\d+\.\d+\ncommit [^\n]+\nkit rattle-kit-[^\n]+\n(built where rt is of [^\n]+\n)?"
         self.note("VERSION", re.fullmatch(lines, version), version)
-        for words in (
-            ["forestlab"],
-            *(["forestlab", name] for name in OF_LAB),
-            *([name] for name in PROGRAMS),
-        ):
+        for words in (*([name] for name in NAMES), ["forestlab", "network"]):
             got = run([os.path.join(self.target, "bin", words[0]), *words[1:], "--version"])
             self.same(f"{words} --version", got, (0, version.encode(), b""))
-        for name in ("LICENSE-MIT", "LICENSE-APACHE", "CHANGELOG.md", "docs/claim/FORMATS.md"):
-            there, here = (contents(os.path.join(top, name)) for top in (self.target, TOP))
-            self.note(f"{name} is there", there == here)
         sums = contents(os.path.join(self.target, "SHA256SUMS")).decode()
         self.note(
             "the programs have sums", all(f"  lib/{name}\n" in sums for name in PROGRAMS), sums
@@ -367,14 +346,6 @@ class Install(Case):
             run(["sha256sum", "-c", "--quiet", "SHA256SUMS"], cwd=self.target)[0],
             0,
         )
-
-    def test_readme(self):
-        """The first command of README prints a plan."""
-        self.readme_of(self.target)
-        shown = re.search(
-            r"\$ (forestplan plan < \S+)", contents(self.target, "README.md").decode()
-        )
-        self.same("its first command", self.line(shown[1]), (0, b"plan\n1 2\n2 3\n3 1\n", b""))
 
     def readme_of(self, folder):
         """README in a folder has the links of the repository's, and names nothing that it alone has."""
