@@ -137,7 +137,7 @@ def wrong_of(seed, text):
     net, source = network_of(text), random.Random(seed)
     names = {v: NAMES[seed % len(NAMES)](v) for v in net.vertices}
     graph, bars, licence = asked_of(net, names, seed, source)
-    workers, passes = source.choice((None, None, 1, 3)), source.randint(0, 3)
+    workers, passes = source.choice((None, None, 1, 3)), source.randint(0, 8)
     plan = forestplan.plan(graph, bars, licence, workers, passes)
     real = licence or range(1, 2049)
     found = {v: real.index(plan[name]) + 1 for v, name in names.items()}
