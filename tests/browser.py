@@ -1,5 +1,4 @@
 """A browser without a window, told what to do by its DevTools protocol over a pipe, with the standard library alone."""
-import base64
 import json
 import os
 import shutil
@@ -131,13 +130,7 @@ class Browser:
         )
         self.ask("Emulation.setTouchEmulationEnabled", enabled=phone)
 
-    def dark(self, is_dark):
-        self.ask(
-            "Emulation.setEmulatedMedia",
-            features=[{"name": "prefers-color-scheme", "value": "dark" if is_dark else "light"}],
-        )
-
-    def mouse(self, kind, x, y, shift=False):
+    def mouse(self, kind, x, y):
         self.ask(
             "Input.dispatchMouseEvent",
             type=kind,
@@ -146,12 +139,11 @@ class Browser:
             button="left",
             buttons=int(kind != "mouseReleased"),
             clickCount=1,
-            modifiers=8 * shift,
         )
 
-    def click(self, x, y, shift=False):
-        self.mouse("mousePressed", x, y, shift)
-        self.mouse("mouseReleased", x, y, shift)
+    def click(self, x, y):
+        self.mouse("mousePressed", x, y)
+        self.mouse("mouseReleased", x, y)
 
     def tap(self, x, y):
         self.ask("Input.dispatchTouchEvent", type="touchStart", touchPoints=[{"x": x, "y": y}])
@@ -171,10 +163,6 @@ class Browser:
     def key(self, key, **more):
         for kind in ("keyDown", "keyUp"):
             self.ask("Input.dispatchKeyEvent", type=kind, key=key, **more)
-
-    def shot(self, path):
-        with open(path, "wb") as file:
-            file.write(base64.b64decode(self.ask("Page.captureScreenshot", format="png")["data"]))
 
     def end(self):
         self.process.terminate()

@@ -30,7 +30,6 @@ TABS = ("rounds", "run", "adversary", "check", "pictures")
 KEEP = """(() => { const make = URL.createObjectURL.bind(URL); window.kept = [];
   URL.createObjectURL = blob => { kept.push(blob); return make(blob); }; })()"""
 VIRTUAL = {"Enter": 13, " ": 32, "Delete": 46}
-SHOTS = os.environ.get("SHOTS")
 SHOWN = (
     "example=barred&tab=draw&node=3",
     "example=petersen&tab=rounds&at=15",
@@ -196,21 +195,18 @@ class Drawn(Page):
         ):
             self.value(f"document.querySelectorAll('#welcome a')[{number - 1}].click()")
             self.sees(links[number - 1], wanted)
-            self.note(
-                "without the buttons", self.value("document.getElementById('welcome').hidden")
-            )
+            self.reads("without the buttons", "document.getElementById('welcome').hidden", True)
             self.reads("and steadily", "studio.time.speed.value", "1")
 
     def test_changes(self):
         """A button, and what plays, leave out the pulses in which nothing happens."""
         self.go_to("example=petersen&tab=rounds&at=13")
         self.sees("a place", "document.getElementById('when').textContent === 'pulse 13 of 48'")
-        film = "studio.rounds.film.found.pulses"
         for wanted in (17, 25, 26):
             self.click_on("#change")
             self.reads("the next change", "studio.time.at", wanted)
-        idle = self.value(f"{film}.slice(18, 25).map(one => one.puts.length)")
-        self.same("nothing is sent between", idle, [0] * 7)
+        idle = "studio.rounds.film.found.pulses.slice(18, 25).map(one => one.puts.length)"
+        self.reads("nothing is sent between", idle, [0] * 7)
         self.value("studio.time.set(17.99); studio.time.toggle()")
         self.sees("played past", "studio.time.at >= 25")
         self.note("and soon", self.value("studio.time.at") < 27)
@@ -356,8 +352,8 @@ class Drawn(Page):
         self.sees("Tab goes from field to field", f"{named} === 'Oslo77'")
 
     def test_widths(self):
-        """Nothing is cut off or covered on a phone, on its side, and at 400 %; SHOTS names a folder for screenshots."""
-        for number, words in enumerate(SHOWN):
+        """Nothing is cut off or covered on a phone, on its side, and at 400 %."""
+        for words in SHOWN:
             self.go_to(words)
             self.sees(words, "document.getElementById('busy').hidden && studio.net.nodes.length")
             for wide, high in ((360, 740), (740, 360), (320, 256), (1280, 800)):
@@ -366,8 +362,6 @@ class Drawn(Page):
                 self.reads(f"{words} at {wide}", UNSEEN, [])
                 shown = self.value("document.documentElement.scrollWidth")
                 self.note(f"{words} at {wide}: no wider", shown <= wide, shown)
-                if SHOTS:
-                    self.page.shot(os.path.join(SHOTS, f"{number}-{wide}.png"))
 
     def test_lessons(self):
         """Each lesson has its text with its pictures, a hint and an answer; the lecture its places."""
@@ -386,7 +380,7 @@ class Drawn(Page):
             self.sees("its pictures", f"{pictures}.every(one => one.naturalWidth)")
         self.page.choose("lecture", "4")
         self.sees("minute 12", "studio.time.at === 13 && studio.rounds.film")
-        self.note("what to ask", "whose turn is it?" in self.page.text("lesson"))
+        self.sees("what to ask", "lesson.textContent.includes('whose turn is it?')")
 
     def test_token(self):
         """A token counts when the server has taken it: a link with a wrong one harms no later one."""
@@ -403,28 +397,24 @@ class Drawn(Page):
 
     def test_back(self):
         """The browser's Back restores the place, the node and what waits."""
-        self.go_to("example=petersen&tab=rounds&at=15&node=6")
-        self.sees("a place", "studio.time.at === 15 && studio.rounds.film")
-        self.click_on("[data-tab=check]")
-        self.sees("another tab", "studio.seen.tab === 'check' && studio.check.verdict")
-        self.value("history.back()")
-        self.sees(
-            "Back to it",
-            "studio.time.at === 15 && studio.seen.node === 6 && studio.seen.tab === 'rounds'",
-        )
-        self.go_to("example=chain6&tab=run&seed=7&at=50&slow=2-3")
+        self.go_to("example=chain6&tab=run&seed=7&at=50&slow=2-3&node=4")
         self.sees("a run", "studio.run.found && studio.run.found.judge && studio.time.at === 50")
         self.click_on("[data-tab=rounds]")
         self.sees("its rounds", "studio.seen.tab === 'rounds' && studio.time.at === 0")
         self.value("history.back()")
-        self.sees("Back to the run", "studio.time.at === 50 && studio.seen.slow.join() === '2,3'")
+        self.sees("Back to the run", "studio.seen.tab === 'run' && studio.time.at === 50")
+        self.reads(
+            "with what waits and the node",
+            "[studio.seen.slow.join(), studio.seen.node]",
+            ["2,3", 4],
+        )
         self.go_to("net=0.0_90.0_90.90~1-2_2-3&tab=draw")
         self.sees("a drawing", "studio.net.nodes.length === 3")
         self.click_on("[data-tab=check]")
         self.sees("its check", "studio.seen.tab === 'check'")
         self.value("history.back()")
         self.sees("Back to the drawing", "studio.seen.tab === 'draw'")
-        self.note("nothing was replaced", "Undo" not in self.page.text("hint"))
+        self.reads("nothing was replaced", "hint.textContent.includes('Undo')", False)
 
     def test_numbers(self):
         """What waits, and the typed plan, keep their nodes when one is deleted, and when that is undone."""
@@ -435,8 +425,7 @@ class Drawn(Page):
         self.click_on("[data-tab=draw]")
         self.click(1)
         self.click_on("#delete")
-        found = self.value(numbers)
-        self.same("without node 1", found, "[[[4,5]],[3],[2,1,2,1,2]]")
+        self.reads("without node 1", numbers, "[[[4,5]],[3],[2,1,2,1,2]]")
         self.click_on("#undo")
         self.reads("undone", numbers, "[[[5,6]],[4],[0,2,1,2,1,2]]")
         self.click_on("#redo")
@@ -455,8 +444,7 @@ class Drawn(Page):
                 f"Object.entries({json.dumps(fields)}).forEach(([name, value]) => "
                 "{ document.querySelector(`#make [name=${name}]`).value = value; })"
             )
-            valid = self.value("document.getElementById('make').checkValidity()")
-            self.same(f"sizes {sizes}", valid, is_made)
+            self.reads(f"sizes {sizes}", "make.checkValidity()", is_made)
             if is_made:
                 self.click_on("#make button")
                 self.sees("it is there", f"studio.net.edges.length === {sizes[1]}")
@@ -470,8 +458,7 @@ class Drawn(Page):
         for v, w in ((1, 2), (2, 3), (1, 3), (3, 4)):
             self.click(v)
             self.click(w)
-        edges = self.value("studio.net.edges.join()")
-        self.same("two clicks, an edge", edges, "1,2,1,3,2,3,3,4")
+        self.reads("two clicks, an edge", "studio.net.edges.join()", "1,2,1,3,2,3,3,4")
         self.sees("the plan is there", "studio.drawn.fresh && studio.drawn.plan.plan.length === 4")
         plan = self.value("studio.drawn.plan.plan")
         text = self.value("document.getElementById('text').value")
@@ -483,11 +470,11 @@ class Drawn(Page):
         for by in (20, 40):
             self.page.mouse("mouseMoved", at[0] + by, at[1])
         self.note("a drag moves a node", self.value(place) > before)
-        self.note("all is drawn where it is", self.value(DRAWN))
+        self.reads("all is drawn where it is", DRAWN, True)
         self.page.key("+", text="+")
-        self.note("when it is drawn for another reason, too", self.value(DRAWN))
+        self.reads("when it is drawn for another reason, too", DRAWN, True)
         self.page.mouse("mouseReleased", at[0] + 40, at[1])
-        self.note("and when it is let go", self.value(DRAWN))
+        self.reads("and when it is let go", DRAWN, True)
         self.page.key("z", code="KeyZ", modifiers=2, windowsVirtualKeyCode=90)
         self.reads("undo takes a drag back in one step", place, before)
         self.click_on("#zoomfit")
@@ -511,16 +498,13 @@ class Drawn(Page):
             "document.getElementById('why').textContent.includes('29 of 269')",
         )
         self.click_on("#next")
-        self.note("one step on", self.value("studio.time.at") == 5)
+        self.reads("one step on", "studio.time.at", 5)
         self.leave_out("without2", "digit")
         self.sees(
             "without a rule",
             "document.getElementById('broken').textContent.includes('both have colour')",
         )
-        self.note(
-            "nothing is said of the rounds with all rules",
-            self.value("document.getElementById('allrules').hidden"),
-        )
+        self.reads("nothing is said of the rounds with all rules", "allrules.hidden", True)
         self.leave_out("without2", "root")
         self.sees(
             "without two rules",
@@ -572,7 +556,7 @@ class Drawn(Page):
             "a run is accepted",
             "document.getElementById('judge').textContent.includes('accepts these 866')",
         )
-        self.note("the same as the rounds", "✓" in self.page.text("same"), self.page.text("same"))
+        self.sees("the same as the rounds", "same.textContent.includes('✓')")
         self.value(
             "window.real = fetch; window.fetch = (to, ...more) => to.includes('replay') "
             "? Promise.resolve(new Response('no judge', {status: 500})) : real(to, ...more)"
@@ -586,7 +570,7 @@ class Drawn(Page):
         self.sees(
             "judged up to here", "document.getElementById('judgehere').textContent.startsWith('✓')"
         )
-        self.note("takes its line back", not self.page.text("wrong"), self.page.text("wrong"))
+        self.reads("takes its line back", "wrong.textContent", "")
         self.click_on("#play")
         self.sees("what is said of another place goes", "!judgehere.textContent")
         self.click_on("#play")
@@ -595,8 +579,8 @@ class Drawn(Page):
         self.go_to("example=chain6&tab=run&seed=7&other=newest.2&at=5")
         self.sees("another order beside", "document.querySelectorAll('#second .node').length === 6")
         for name in ("judge2", "same2"):
-            said = self.page.text(name)
-            self.note(f"the verdict {name} on it", said.startswith("Second run: ✓"), said)
+            said = f"{name}.textContent.startsWith('Second run: ✓')"
+            self.sees(f"the verdict {name} on it", said)
         self.sees(
             "rows of both", "document.getElementById('now').textContent.includes('second, stamp')"
         )
@@ -624,7 +608,7 @@ class Drawn(Page):
             "studio.seen.tab === 'run' && document.getElementById('judge').textContent"
             ".startsWith('✓')",
         )
-        self.note("with these steps first", self.value("studio.run.steps.length") > 2)
+        self.reads("with these steps first", "studio.run.steps.length > 2", True)
         self.go_to("example=triangle&tab=adversary&node=1")
         self.sees(
             "all of it again",
@@ -715,7 +699,7 @@ class Drawn(Page):
         self.sees(
             "which are stated", "studio.net.nodes.map(one => one.name).join() === 'Oslo,Ulm,Rom'"
         )
-        self.note("and no longer asked", self.value("document.getElementById('unsaid').hidden"))
+        self.reads("and no longer asked", "unsaid.hidden", True)
 
     def test_cancel(self):
         """A call that takes long is ended by its button."""
@@ -777,9 +761,7 @@ class Drawn(Page):
         for tab in TABS:
             self.click_on(f"[data-tab={tab}]")
             time.sleep(0.6)
-            self.note(
-                f"a name is a text in {tab}", self.value("document.title") == "forestplan studio"
-            )
+            self.reads(f"a name is a text in {tab}", "document.title", "forestplan studio")
 
     def test_z_no_script_complained(self):
         faults = [fault for fault in self.page.faults if "favicon" not in fault]
