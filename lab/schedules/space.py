@@ -41,6 +41,7 @@ far neighbours are apart and how much a link holds don't.
 import time
 from array import array
 from collections import Counter, namedtuple
+from functools import cache
 
 from lab.definitions.nodes import Colouring, Refused, wire_words
 from lab.definitions.own_program import OwnNode, asks_for_messages, what_is_wrong
@@ -93,7 +94,9 @@ class Space:
             Numbered(),
         )
         self.contents.number(())
-        self.moves, self.made = [{} for _ in self.vertices], {}
+        # Each is worked out once for the same parts of a state.
+        self.moves_of, self.pulse = cache(self.moves_of), cache(self.pulse)
+        self.take, self.with_wires = cache(self.take), cache(self.with_wires)
         self.faults, self.ends, self.broken, self.said = {}, [], set(), {}
         self.first, self.event_of, self.target = array("I", [0]), array("I"), array("I")
         self.search(progress)
@@ -127,17 +130,11 @@ class Space:
             return None, (), f"node {v} refuses `{wire_words(wire)}` from {self.ports[v][port]}"
         return *self.after(a, node), None
 
-    def once(self, made, *key):
-        """What a pulse or a take makes, or wires on a link, worked out once; the keys of the three differ in form."""
-        if key not in self.made:
-            self.made[key] = made(*key)
-        return self.made[key]
-
-    def moves_of(self, a, i, arriving):
-        """The moves of a node with this value and these contents of the links to it."""
+    def moves_of(self, a, i, *arriving):
+        """The moves of a node with this value and these contents of the links to it, and which is made `alone`."""
         v, node, moves = self.vertices[a], self.locals[a][i], []
         if node.can_pulse():
-            j, gone, fault = self.once(self.pulse, a, i)
+            j, gone, fault = self.pulse(a, i)
             moves.append(
                 Move(
                     self.events.number(Event("pulse", v, None, None, None, 0)),
@@ -151,11 +148,11 @@ class Space:
         for p, (w, c) in enumerate(zip(self.ports[v], arriving)):
             wires = self.contents[c]
             for place in range(len(wires) if "fifo" in self.without else min(1, len(wires))):
-                j, gone, fault = self.once(self.take, a, i, p, wires[place])
+                j, gone, fault = self.take(a, i, p, wires[place])
                 e = self.events.number(Event("take", v, p, w, wire_words(wires[place]), place))
                 rest = self.contents.number(wires[:place] + wires[place + 1 :])
                 moves.append(Move(e, j, self.slot[w, v], rest, gone, fault))
-        return moves
+        return moves, self.alone(moves)
 
     def alone(self, moves):
         """With `reduce`, the take of a safe or a close that comes next on its link, if a node has one among its moves.
@@ -166,20 +163,11 @@ class Space:
         comes first, by exchanging neighbours that don't depend on each other, and what each pulse finds and whatever
         is refused stays as it is. Without `safes` or `fifo` that isn't so. (A take that is refused isn't meant.)
         """
-        return (
-            next(
-                (
-                    move
-                    for move in moves
-                    if move.value is not None
-                    and move.link is not None
-                    and self.events[move.event].wire.split()[0] in ("safe", "close")
-                ),
-                None,
-            )
-            if self.reduce
-            else None
-        )
+        for move in moves if self.reduce else ():
+            if move.value is not None and move.link is not None:
+                if self.events[move.event].wire.startswith(("safe", "close")):
+                    return move
+        return None
 
     # The search.
 
@@ -194,7 +182,7 @@ class Space:
     def with_all(self, state, gone):
         """The state with these wires on its links."""
         for slot, wires in gone:
-            state[slot] = self.once(self.with_wires, state[slot], wires)
+            state[slot] = self.with_wires(state[slot], wires)
         return tuple(state)
 
     def with_wires(self, c, wires):
@@ -221,12 +209,8 @@ class Space:
         self.expanded = s
 
     def moves_in(self, state, a):
-        """The moves of a node in a state."""
-        key = (state[a], *[state[k] for k in self.arriving[a]])
-        if key not in self.moves[a]:
-            moves = self.moves_of(a, key[0], key[1:])
-            self.moves[a][key] = moves, self.alone(moves)
-        return self.moves[a][key]
+        """The moves of a node in a state, and which is made alone."""
+        return self.moves_of(a, state[a], *[state[k] for k in self.arriving[a]])
 
     def moved(self, state, a, move):
         """The state after a move of a node."""
@@ -325,9 +309,8 @@ class Space:
             for v, node in self.nodes(s).items()
             if node.waits
         ]
-        return ", and ".join(
-            ["nothing is possible before the end", *[", ".join(waiting)] * bool(waiting)]
-        )
+        said = "nothing is possible before the end"
+        return f"{said}, and {', '.join(waiting)}" if waiting else said
 
     def nodes(self, s):
         return {
