@@ -27,7 +27,9 @@ from tests.settings import PLAN, PLAY, setting
 HEAD = struct.Struct("=iII")
 NETWORK = b"p edge 3 2\ni 2 7\nb 3 1\ne 1 2\ne 2 3\n"
 # Refusals of a transcript.
-CODES = set("X1 NoSuch NotReady NothingToPut LinkEmpty WrongWire WrongStamp NotWhole".split())
+CODES = set(
+    "X1 WrongProgram NoSuch NotReady NothingToPut LinkEmpty WrongWire WrongStamp NotWhole".split()
+)
 LIMITS = [1023, 1024, 2048, 20_000, 10**60, *(2**digits for digits in (16, 32, 64, 128))]
 NUMBERS = [b"%d" % (limit + d) for limit in LIMITS for d in (-1, 0, 1)]
 # More digits than Python makes a number of; and what is no number, though Python takes some of it for one.
@@ -35,6 +37,21 @@ NUMBERS += [b"0" * 5000 + b"2", b"9" * 5000]
 NUMBERS += [b"-1", b"+1", b"1.0", b"0x1", b"1_0", b"\xd9\xa1", b"\xb2", b"1\x00", b""]
 # Payloads of each program, and of none.
 PAYLOADS = [*product((b"hop", *sorted(set().union(*fields.PAYLOADS.values()))), NUMBERS)]
+# First lines that no transcript has, after the word `transcript`, and one of another program.
+HEADS = (
+    b"",
+    b"1",
+    b"2 02 2",
+    b"02 2",
+    b"1 -2",
+    b"1 4294967296",
+    b"4 leader 2",
+    b"3 leader",
+    b"3 leader x",
+    b"3 leader 2 2",
+    b"3 lead\x1ber 2",
+    b"3 another 2",
+)
 # Lines of a network, of a plan and of a transcript.
 LINES = (
     b"\r",
@@ -153,7 +170,8 @@ class Hostile(Case):
             self.note("some are good, and most are not", size // 10 < count < size // 2, count)
 
     def test_transcripts(self):
-        """Of a run of each program, with stamps, spoiled after the first line; and each payload as the first one."""
+        """Of a run of each program, with stamps, spoiled after the first line; each payload as the first one; and other
+        first lines."""
         size, seed, found = int(setting("texts")) // 30, setting("seed"), set()
         net, before = network_of(NETWORK), NETWORK.count(b"\n")
         for name, program in PROGRAMS.items():
@@ -162,6 +180,7 @@ class Hostile(Case):
             spoiled_rows = islice(spoiled_texts(random.Random(f"{seed} {name}"), [rows]), size)
             puts = [b"1 1 put 2 payload 0 %s %s\n" % payload for payload in PAYLOADS]
             texts = [head + b"\n" + behind for behind in (*spoiled_rows, *puts)]
+            texts += [b"transcript " + other + b"\n" + rows for other in HEADS]
             words = [PLAY, "replay", "--program", name]
             got = self.answers(words, [NETWORK + data for data in texts])
             for data, (status, _, errors) in zip(texts, got):
