@@ -38,61 +38,27 @@ GREETED = (
 )
 APART = "".join(f"{v} pulse {p}|" for v in (1, 2) for p in range(1, 13))
 # (network, transcript, what is said, up to the second colon of a refusal), in which '|' is a line feed. Refusals of
-# stamps, and of what a node does, are in tests/workshop/transcripts.py, whole; lines that are no entries are for
-# hostile.py.
+# stamps, and of what a node does, are in tests/workshop/transcripts.py, whole; lines that are no entries, other first
+# lines, and stamped texts beside the program are for hostile.py.
 ALONE = "p edge 2 0|"
-APART_IS_WHOLE = "whole run of 2 nodes, 24 entries, 0 payloads, 0 wires"
-# Two nodes apart: both make pulse P at stamp P.
-STAMPED_APART = "".join(f"{p} {v} pulse {p}|" for p in range(1, 13) for v in (1, 2))
-BY_VERTEX = "".join(f"{p} {v} pulse {p}|" for v in (1, 2) for p in range(1, 13))
-GREATEST = 2**64 - 1
 WORKED = (
     ("p edge 0 0|", "transcript 1 0|", "whole run of 0 nodes, 0 entries, 0 payloads, 0 wires"),
-    ("p edge 0 0|", "transcript 2 0|", "whole run of 0 nodes, 0 entries, 0 payloads, 0 wires"),
-    # an odd layout, of both editions
+    # an odd layout
     (
         ALONE,
         "\r| transcript\t1  002\r|" + APART[:-1].replace("1 pulse 2", "  01\tpulse 02 \r|| \t"),
-        APART_IS_WHOLE,
-    ),
-    (
-        ALONE,
-        "\r| transcript\t2  002\r|" + STAMPED_APART[:-1].replace("|7 1", "||007 01"),
-        APART_IS_WHOLE,
+        "whole run of 2 nodes, 24 entries, 0 payloads, 0 wires",
     ),
     (ALONE, "transcript 1 2|" + APART + "2 pulse 13|", "line 26: NotReady"),
     (ALONE, "transcript 1 2|" + APART[:-11], "line 24: NotWhole"),
     (ALONE, "transcript 1 2|" + APART.replace("2 pulse 3|", ""), "line 16: WrongWire"),
     (ALONE, "transcript 1 3|" + APART, "line 1: Nodes"),
     (ALONE, "transcript 1 2|" + APART + "1 put 2 close|", "line 26: NoSuch"),
-    (ALONE, "transcript 2 2|" + STAMPED_APART[:-14], "line 24: NotWhole"),
-    # an order by vertex comes too late at line 14; and where stamps are equal the vertices ascend
-    (ALONE, "transcript 2 2|" + BY_VERTEX, "line 14: WrongStamp"),
-    (ALONE, "transcript 2 2|1 2 pulse 1|1 1 pulse 1|", "line 3: WrongStamp"),
-    (EDGE, f"transcript 2 2|{GREATEST} 1 put 2 {HELLO_1}|", "line 2: WrongStamp"),
-    # an entry that isn't possible is that first, whatever its stamp is
-    (EDGE, "transcript 2 2|7 1 pulse 1|", "line 2: NotReady"),
     # the reading
     (EDGE, "", "line 1: X1"),
     (EDGE, "|1 put 2 close|", "line 2: X1"),
-    (EDGE, "transcript 2 2|", "line 1: NotWhole"),
-    *(
-        (EDGE, f"{head}|", "line 1: X1")
-        for head in (
-            "transcript",
-            "transcript 3 2",
-            "transcript 1",
-            "transcript 1 2 2",
-            "transcript 1 4294967296",
-            "transcript 1 -2",
-            "transcript 02 2",
-            "c|transcript 1 2",
-        )
-    ),
     # the search
-    (EDGE, "transcript 1 2|1 take 2 close|", "line 2: LinkEmpty"),
     (EDGE, "transcript 1 2|1 put 2 safe 0|", "line 2: WrongWire"),
-    (EDGE, "transcript 1 2|0 pulse 1|", "line 2: NoSuch"),
     (EDGE, f"transcript 1 2|1 put 2 {HELLO_1}|1 put 2 safe 0|", "line 3: NothingToPut"),
     (EDGE, GREETED.replace(f"1 take 2 {HELLO_2}|", ""), "line 4: NotWhole"),
     # each takes before it puts: the first of two that wait for each other
