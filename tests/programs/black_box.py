@@ -154,20 +154,9 @@ class BlackBox(Case):
                     called(program, *words, data=network),
                     (0, answer, b""),
                 )
-            self.says(
-                f"check of {name}",
-                network.rstrip() + b"\n" + plan,
-                f"proper {max(map(int, plan.split()[2::2]), default=0)}",
-            )
-
-    def says(self, name, data, said):
-        """The verdict of `check`."""
-        wanted = (
-            (0, f"{said}\n".encode(), b"")
-            if said.startswith("proper")
-            else (1, b"", f"forestplan: {said}\n".encode())
-        )
-        self.same(name, called(PLAN, "check", data=data), wanted)
+            verdict = f"proper {max(map(int, plan.split()[2::2]), default=0)}\n"
+            done = called(PLAN, "check", data=network.rstrip() + b"\n" + plan)
+            self.same(f"check of {name}", done, (0, verdict.encode(), b""))
 
     def test_limits(self):
         """20,000 vertices in blocks of 22, each joined to the next ones, and 400,000 different edges are read and
@@ -181,11 +170,6 @@ class BlackBox(Case):
             done = called(PLAN, "forests", data=data)
             self.same("400,000 edges by the definition", done, answer_to("forests", data))
         self.same("one more", done, (1, b"", b"forestplan: F7 line 401002\n"))
-        for last, said in ((20_000 % 22, "proper 22"), (19_999 % 22, "C4 vertices 19999 20000")):
-            plan = b"".join(
-                b"%d %d\n" % (v, 1 + v % 22) for v in range(1, 20_000)
-            ) + b"20000 %d\n" % (1 + last)
-            self.says(f"the last of 20,000 rows has {last}", head + body + b"plan\n" + plan, said)
 
     def test_help(self):
         """Each help text whole, of both programs, as lab/help/ has it, but for the words on `-h`: at both options the

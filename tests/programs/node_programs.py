@@ -25,7 +25,6 @@ ENDS = [
     ("leader", APART, 3, "leader 9 elected|leader 3|leader 3 elected"),
     ("leader", NONE, 0, ""),
     ("layers", APART, 2, "layer none|layer none|layer none"),
-    ("layers", NONE, 0, ""),
     # A node alone has no pulse to make before it knows its layer.
     ("layers", ALONE, 0, "layer 0"),
     # Two ways lead from vertex 1 to the root, and the one by the lesser port is taken.
@@ -63,7 +62,6 @@ ENDS = [
     # has two sweeps of D + B + 1 pulses.
     ("recolouring --passes 3", BARRED, 39, "channel 2|channel 1"),
     ("recolouring --passes 2", ALONE, 14, "channel 1"),
-    ("recolouring --passes 3", NONE, 15, ""),
     ("matching", NONE, 13, ""),
 ]
 # The rounds of programs; sequel_runs.py has all of them. Of an edge, node 2 has the greater identifier, and node 1 is
