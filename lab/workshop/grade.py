@@ -38,8 +38,8 @@ second plays share {AGAIN} times the seconds of --seconds.
 Each node runs in a container of its own, which bubblewrap makes (`apt install
 bubblewrap`): it reads the system's folders, what is on your PATH, and the submission. Of
 your home, other submissions, this program, other processes and the network it sees
-nothing. It begins in /tmp, where links lead to its files, and writes there alone. As root
-each submission is another user.
+nothing. It begins in /tmp, where links lead to its files, and writes there and in
+/dev/shm alone, at most 256 and 16 megabytes. As root each submission is another user.
 """
 MORE_HELP = """\
 After `--` come words that are put before each command, as those of a container, in which

@@ -5,7 +5,8 @@
   `..` means lines that are left out.
 - No line of a page is wider than 150 columns.
 - Each file named in backquotes exists, also if it is named without its folder; each link leads to a page and a
-  heading, and each function and clause that docs/claim/PROMISES.md names is in the code. It names each public law.
+  heading, and each function and clause that docs/claim/PROMISES.md names is in the code. It names each public law, with
+  all its clauses.
 """
 import glob
 import os
@@ -238,18 +239,23 @@ class Pages(Case):
 
     def test_promises(self):
         """A promise is written as `crate::function`: `clause`, `clause`; it may go on in the next line."""
-        crates, text = {}, " ".join(line.strip() for line in lines_of("docs/claim/PROMISES.md"))
+        text = " ".join(line.strip() for line in lines_of("docs/claim/PROMISES.md"))
+        crates, named = {}, {}
         promises = re.findall(r"`((?!crate::)[a-z_]+(?:::\w+)+)`(?:: ((?:`\w+`(?:, |))+))?", text)
         for path, clauses in promises:
             parts = path.split("::")
             crate = crates.setdefault(parts[0], clauses_of_crate(parts[0]))
             name = parts[-1]
-            missing = [] if name in crate else [name]
-            for clause in re.findall(r"`(\w+)`", clauses):
-                if clause not in crate.get(name, set()) and clause not in crate.get("ghost", set()):
-                    missing.append(clause)
+            said = set(re.findall(r"`(\w+)`", clauses))
+            named.setdefault(path, set()).update(said)
+            known = crate.get(name, set()) | crate["ghost"]
+            missing = sorted(said - known) if name in crate else [name]
             self.note(f"docs/claim/PROMISES.md {path}", not missing, f"not in the code: {missing}")
         laws = laws_of_crates()
+        for law in sorted(laws & named.keys()):
+            crate, *_, name = law.split("::")
+            lacking = crates[crate][name] - named[law]
+            self.note(f"clauses of {law}", not lacking, f"not named: {sorted(lacking)}")
         missing = sorted(laws - {path for path, _ in promises})
         self.note(
             "laws in docs/claim/PROMISES.md",
