@@ -8,22 +8,6 @@ MOST_COLUMNS = 60
 LEFT, TOP, ROW, SIZE = 64, 112, 46, 11
 
 
-def left_out_words(shown, pulses):
-    if shown == pulses:
-        return ""
-    return (
-        f"{pulses - shown} of {pulses} pulses aren't drawn: nothing is sent in them and nothing found, or they "
-        "aren't asked for."
-    )
-
-
-def draw_columns(svg, x_of, width, height):
-    for k, (pulse, x) in enumerate(x_of.items()):
-        svg.rect(x, TOP - 20, width, height + 14, "#FFFFFF" if k % 2 else BAND)
-        svg.text(x + 5, TOP - 26, f"pulse {pulse}", 11.5, PULSE, bold=True, mark="pulse")
-        svg.line(x, TOP - 20, x, TOP + height - 6, BORDER, 1)
-
-
 def draw(rounds, pulses=None):
     """All pulses at which something is sent or found, or those of A to B."""
     network, shown = rounds.network, columns_of(rounds, pulses)
@@ -36,49 +20,58 @@ def draw(rounds, pulses=None):
     )
     words = [result for pulse in rounds.pulses for result in pulse.results.values()]
     column = max(88, max(text_width(result, SIZE) for result in words) + 22)
+    height, undrawn = network.nodes * ROW, rounds.last + 1 - len(shown)
     svg = Svg(
         max(LEFT + len(shown) * column + 24, 760),
-        TOP + network.nodes * ROW + 30,
+        TOP + height + 30,
         f"Rounds of {rounds.program.name} on {network.name}",
     )
     svg.heading(
         f"{network.name}: {rounds.program.name}, pulse by pulse to pulse {rounds.last}",
         "Left in a column is what the node has found after the pulse, where it is new; an arrow is a message, "
         "read in the next pulse.",
-        left_out_words(len(shown), rounds.last + 1),
+        (
+            f"{undrawn} of {rounds.last + 1} pulses aren't drawn: nothing is sent in them and nothing found, or they "
+            "aren't asked for."
+            if undrawn
+            else ""
+        ),
         f"It isn't right at the end: {rounds.wrong}." if rounds.wrong else "",
     )
-    x_of = {pulse.number: LEFT + k * column for k, pulse in enumerate(shown)}
-    draw_columns(svg, x_of, column, network.nodes * ROW)
+    for k, pulse in enumerate(shown):
+        x = LEFT + k * column
+        svg.rect(x, TOP - 20, column, height + 14, "#FFFFFF" if k % 2 else BAND)
+        svg.text(x + 5, TOP - 26, f"pulse {pulse.number}", 11.5, PULSE, bold=True, mark="pulse")
+        svg.line(x, TOP - 20, x, TOP + height - 6, BORDER, 1)
     for v in network.vertices:
         svg.line(LEFT - 8, row(v), LEFT + len(shown) * column, row(v), "#B0B0B0", 1)
         svg.text(LEFT - 16, row(v) + 5, v, 13, INK, "end", bold=True)
-    for pulse in shown:
-        with svg.group("messages", f"pulse {pulse.number}"):
-            for v, w, word, number in pulse.puts:
-                arrow(
-                    svg,
-                    x_of[pulse.number] + column * 0.62,
-                    row(v),
-                    x_of[pulse.number] + column - 3,
-                    row(w),
-                    f"{v} to {w}: {word} {number}",
-                )
-        for v in network.vertices:
-            if is_new(rounds, pulse, v):
-                x = x_of[pulse.number]
-                svg.rect(
-                    x + 4,
-                    row(v) - 9,
-                    text_width(pulse.results[v], SIZE) + 8,
-                    18,
-                    "#FFFFFF",
-                    "#8A8A8A",
-                    1,
-                    3,
-                )
-                svg.text(x + 8, row(v) + 4, pulse.results[v], SIZE, INK, mark="found")
+    for k, pulse in enumerate(shown):
+        draw_pulse(svg, rounds, pulse, LEFT + k * column, column)
     return svg.document()
+
+
+def draw_pulse(svg, rounds, pulse, x, column):
+    """The messages of a pulse, and what nodes have found after it."""
+    with svg.group("messages", f"pulse {pulse.number}"):
+        for v, w, word, number in pulse.puts:
+            x1, y1 = x + column * 0.62, row(v)
+            with svg.group("message", f"{v} to {w}: {word} {number}"):
+                svg.arrow(x1, y1, x + column - 3, row(w), WIRES["payload"], 1.4, 7)
+                svg.circle(x1, y1, 2, SOFT)
+    for v in rounds.network.vertices:
+        if is_new(rounds, pulse, v):
+            svg.rect(
+                x + 4,
+                row(v) - 9,
+                text_width(pulse.results[v], SIZE) + 8,
+                18,
+                "#FFFFFF",
+                "#8A8A8A",
+                1,
+                3,
+            )
+            svg.text(x + 8, row(v) + 4, pulse.results[v], SIZE, INK, mark="found")
 
 
 def row(v):
@@ -98,9 +91,3 @@ def columns_of(rounds, pulses):
         for pulse in rounds.pulses[first : last + 1]
         if pulse.puts or any(is_new(rounds, pulse, v) for v in rounds.network.vertices)
     ]
-
-
-def arrow(svg, x1, y1, x2, y2, title):
-    with svg.group("message", title):
-        svg.arrow(x1, y1, x2, y2, WIRES["payload"], 1.4, 7)
-        svg.circle(x1, y1, 2, SOFT)

@@ -105,19 +105,18 @@ class Lattice:
         for s in range(space.count):
             if low <= space.depth[s] <= high:
                 self.columns[space.depth[s] - low].append(s)
-        states = chain(*self.columns[:-1])
-        self.steps = [step for s in states for step in self.steps_of(s)]
+        # (state, number of the step, event, where it ends).
+        self.steps = [
+            (s, e, event, (s, e) if target is None else target)
+            for s in chain(*self.columns[:-1])
+            for e, (event, target) in enumerate(space.steps(s))
+        ]
         for s, _, _, end in self.steps:
             if isinstance(end, tuple):
                 self.columns[space.depth[s] + 1 - low].append(end)
         while not self.columns[-1]:
             self.columns.pop()
         self.place()
-
-    def steps_of(self, s):
-        """(state, number of the step, event, where it ends)."""
-        for e, (event, target) in enumerate(self.space.steps(s)):
-            yield s, e, event, (s, e) if target is None else target
 
     def place(self):
         """Rows by the mean of a mark's neighbours to the left, so that lines cross little."""
@@ -200,13 +199,12 @@ class Lattice:
         if (self.low, self.high) != (0, last := last_column(space)):
             said.append(f"Here are those after {self.low} to {self.high} of {last} events.")
         if any(self.low <= space.depth[s] < self.high for s, _ in self.bold):
-            said.append(f"Bold: {self.bold_words()}.")
+            said.append(
+                f"Bold: a shortest schedule that goes wrong: {fault_words(space)}."
+                if space.faults
+                else "Bold: the run in which all that is sent comes before a node makes its pulse."
+            )
         return wrapped(" ".join(said), width - 40)
-
-    def bold_words(self):
-        if self.space.faults:
-            return f"a shortest schedule that goes wrong: {fault_words(self.space)}"
-        return "the run in which all that is sent comes before a node makes its pulse"
 
     def number_size(self):
         """How large the pulses inside a mark are: all as large as the longest ones may be."""
