@@ -36,7 +36,6 @@ from lab.pictures import (
 from lab.pictures.places import unused_places
 from lab.pictures.program_rounds import ProgramRounds, is_own, least_wires, rounds_of
 from lab.pictures.transcripts import Run, ordered, window_of
-from lab.pictures.watch_page import steps_of_text
 from lab.schedules.rules import (
     OF_ANY_ROUNDS,
     OF_PROGRAMS as RULES_OF_PROGRAMS,
@@ -129,11 +128,10 @@ def draw_run(of, pulses, only, wrong, stopped):
 
 
 def draw_watch(of, pulses):
-    network, runs = of.network, []
-    for name, text in of.texts or [of.text("transcript")]:
-        steps = steps_of_text(name, network, text, pulses, of.program)
-        runs.append(watch_page.Run(name, network, steps, pulses))
-    return watch_page.draw(runs)
+    texts = of.texts or [of.text("transcript")]
+    return watch_page.draw(
+        [watch_page.run_of_text(*text, of.network, pulses, of.program) for text in texts]
+    )
 
 
 def draw_schedules(of, without, columns):

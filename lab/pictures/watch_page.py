@@ -10,6 +10,7 @@ from lab.definitions.nodes import Colouring, NetState, lacks_of, make, wire_word
 from lab.definitions.rounds import FIRST_MERGE
 from lab.pictures.pages import net_of, page
 from lab.pictures.transcripts import ordered, window_of
+from lab.schedules.ruled_node import payload_words
 from lab.transcripts.reading import words
 from lab.wrong import Wrong
 
@@ -61,10 +62,6 @@ def found(node):
         else node.last
     )
     return program.merged + 1 if node.pulse_number >= turn else 0
-
-
-def payload_words(payload):
-    return f"{payload[0].lower()} {payload[1]}"
 
 
 class Steps:
@@ -198,6 +195,11 @@ class Run:
                 yield self.stamps[1], len(self.moments)
             else:
                 yield min(max(*stamps, self.stamps[0]), self.stamps[1]), made.get(pulse, 0)
+
+
+def run_of_text(name, text, network, pulses=None, program=Colouring):
+    """The run of a transcript, as far as these pulses need it."""
+    return Run(name, network, steps_of_text(name, network, text, pulses, program), pulses)
 
 
 def wires_of(every, first):

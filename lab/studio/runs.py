@@ -5,7 +5,7 @@ import re
 from lab.definitions.nodes import Colouring
 from lab.definitions.programs import program_words
 from lab.pictures.program_rounds import is_own, least_wires, rounds_of
-from lab.pictures.watch_page import MOST_ENTRIES, Run, Steps, draw, look_of, steps_of_text
+from lab.pictures.watch_page import MOST_ENTRIES, Run, Steps, draw, look_of, run_of_text
 from lab.schedules.policies import POLICIES, Policy
 from lab.schedules.rules import OF_SCHEDULES
 from lab.schedules.simulate import Player, events_of, text_of_run
@@ -120,8 +120,7 @@ def run(asked, tell):
         if text.startswith("transcript 2 "):
             # Of a text in the order of a run only as much is read as is shown.
             del lines[MOST_ENTRIES + 3 :]
-        steps_shown = steps_of_text("the run", network, "".join(lines), None, program)
-        found = Run("the run", network, steps_shown)
+        found = run_of_text("the run", "".join(lines), network, program=program)
     same, results = compared(found, network, program)
     return shown(found) | {
         "text": text,
@@ -136,8 +135,7 @@ def run(asked, tell):
 def run_page(asked, _tell):
     """The same of a run, as the command `picture watch` draws it."""
     network, program = network_asked(asked, MOST_RUN), program_asked(asked)
-    steps = steps_of_text("the run", network, str(asked["transcript"]), None, program)
-    return draw([Run("the run", network, steps)])
+    return draw([run_of_text("the run", str(asked["transcript"]), network, program=program)])
 
 
 def singled_out(asked, network):
@@ -186,18 +184,14 @@ def judge(asked, _tell):
     }
 
 
-def follow(player, asked):
-    """Makes the steps that are listed."""
+def follow(player, asked, held):
+    """Makes the steps that are listed, and plays what is left to chance, with some links and nodes held up."""
     if "list" in asked:
         player.follow_list(str(asked["list"]))
     else:
         player.follow(str(asked.get("steps") or "").split("_"))
     if len(player.chosen) > MOST_STEPS:
         raise Wrong(f"at most {MOST_STEPS:,} steps are made by hand; No clock plays the rest")
-
-
-def play_on(player, asked, held):
-    """Plays what is left to chance, with some links and nodes held up."""
     if asked.get("by"):
         player.by_chance(min(int(asked["by"]), MOST_BY_CHANCE), str(asked.get("seed", "1")), *held)
     if asked.get("in_step"):
@@ -209,8 +203,7 @@ def steps(asked, _tell):
     `by` steps more are left to chance, or up to all nodes' next pulse `in step`."""
     network, program = network_asked(asked, MOST_RUN), program_asked(asked)
     player = Stepwise(network, program, rules_asked(asked, OF_SCHEDULES))
-    follow(player, asked)
-    play_on(player, asked, held_of(asked, network))
+    follow(player, asked, held_of(asked, network))
     wires = [[v, w, player.words_on(v, w)] for v in network.vertices for w in network.neighbours[v]]
     told = {
         "made": player.chosen,
