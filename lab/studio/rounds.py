@@ -95,29 +95,20 @@ def broken(asked, _tell):
     without = rules_asked(asked, OF_PROGRAMS.get(program.name, {}))
     if not without:
         raise Wrong("which rule is left out?")
-    found = ruled(program)(network, without)
-    if found.clash is not None:
-        return {
-            "here": True,
-            "words": found.words().split("\n"),
-            "found": None,
-            "picture": broken_picture.draw(network, without, program),
-        }
-    said = "the rounds of this network go right without it"
-    least, tried, what, most = smallest_wrong(without, program)
-    if least is None:
-        return {
-            "here": False,
-            "words": [f"{said}, and so do those of all {tried:,} {what} of up to {most} nodes"],
-            "found": None,
-            "picture": None,
-        }
-    return {
-        "here": False,
-        "words": [said],
-        "found": net_of(least.net),
-        "picture": broken_picture.draw(None, without, program),
-    }
+    here = ruled(program)(network, without)
+    told = {"here": here.clash is not None, "found": None, "picture": None}
+    if told["here"]:
+        words = here.words()
+        told["picture"] = broken_picture.draw(network, without, program)
+    else:
+        words = "the rounds of this network go right without it"
+        least, tried, what, most = smallest_wrong(without, program)
+        if least is None:
+            words += f", and so do those of all {tried:,} {what} of up to {most} nodes"
+        else:
+            told["found"] = net_of(least.net)
+            told["picture"] = broken_picture.draw(None, without, program)
+    return told | {"words": words.split("\n")}
 
 
 def picture(asked, _tell):

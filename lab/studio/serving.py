@@ -29,7 +29,7 @@ from lab.studio.building import Building
 from lab.wrong import Wrong
 
 HOST = "127.0.0.1"
-FOLDERS = os.path.join(os.path.dirname(os.path.abspath(__file__)), "page"), pages.FOLDER
+FOLDERS = os.path.join(TOP, "lab/studio/page"), pages.FOLDER
 FILES = {name: os.path.join(folder, name) for folder in FOLDERS for name in os.listdir(folder)}
 # The pictures of the lessons.
 PICTURES = os.path.join(TOP, "docs", "pictures")
@@ -111,11 +111,6 @@ class Answer:
             self.line(done=done, of=of)
 
 
-def length_of(text):
-    """The number of bytes that a header says, if it is one of less than ten digits."""
-    return int(text) if re.fullmatch("[0-9]{1,9}", text) else None
-
-
 def object_of(body):
     """The object in JSON that a body is, or None."""
     try:
@@ -154,9 +149,6 @@ class Handler(http.server.BaseHTTPRequestHandler):
             and origin in [None, *(f"http://{name}" for name in own)]
             and site in (None, "same-origin", "none")
         )
-
-    def has_token(self, given):
-        return hmac.compare_digest(given.encode(), self.server.token.encode())
 
     def headed(self, status, kind, length=None):
         self.send_response(status)
@@ -202,26 +194,24 @@ class Handler(http.server.BaseHTTPRequestHandler):
         _, way, name = (self.path + "//").split("/")[:3]
         if not self.is_from_page():
             return self.refuse(403, "This call isn't from the studio's own page.")
-        if not self.has_token(self.headers.get("X-Token", "")):
+        given = self.headers.get("X-Token", "")
+        if not hmac.compare_digest(given.encode(), self.server.token.encode()):
             return self.refuse(403, NO_TOKEN)
-        length = length_of(self.headers.get("Content-Length", ""))
-        if length is None or length > MOST_ASKED:
+        length = self.headers.get("Content-Length", "")
+        if not re.fullmatch("[0-9]{1,9}", length) or int(length) > MOST_ASKED:
             return self.refuse(413, f"A call has at most {MOST_ASKED:,} bytes.")
-        body = self.rfile.read(length)
+        body = self.rfile.read(int(length))
         signal.alarm(0)
         if way != "call" or name not in calls.CALLS:
             return self.refuse(404, "There is no such call.")
         asked = object_of(body)
         if asked is None:
             return self.refuse(400, "A call is an object in JSON.")
-        return self.answer_call(calls.CALLS[name], asked)
-
-    def answer_call(self, call, asked):
         self.headed(200, "application/x-ndjson")
         answer = Answer(self)
         with limited(self.connection, lambda why: answer.line(wrong=why)):
-            found = outcome(call, asked, answer.tell)
-        answer.line(**found)
+            found = outcome(calls.CALLS[name], asked, answer.tell)
+        return answer.line(**found)
 
 
 def outcome(call, asked, tell):
