@@ -145,7 +145,10 @@ def main(words: list[str]) -> int:
     given = line.parse_args(words)
     if why := refused_together(given):
         line.error(why)
-    found = found_of(given)
+    if given.networks:
+        found = networks_found(given)
+    else:
+        found = rounds_found(given) if asks_for_rounds(given) else schedules_found(given)
     write(given, json.dumps(found._asdict()) + "\n" if given.json else found.words)
     return int(found.broken)
 
@@ -190,12 +193,6 @@ class Found(NamedTuple):
     events: list[str] | None = None
     states: int | None = None
     steps: int | None = None
-
-
-def found_of(given: Namespace) -> Found:
-    if given.networks:
-        return networks_found(given)
-    return rounds_found(given) if asks_for_rounds(given) else schedules_found(given)
 
 
 # The rounds.
@@ -309,6 +306,10 @@ def whole_text(given: Namespace, name: str, space: Space) -> str:
     )
     pulses = sum(node.pulse for node in space.nodes(space.ends[0]).values())
     rest = space.depth[space.ends[0]] - pulses
+    apart = counted(space.farthest, "pulse")
+    distances = (
+        f"neighbours at most {apart} apart, at most {space.most_wires} wires of a link under way"
+    )
     found = [results_words(space.nodes(s)) for s in space.ends]
     ends = "one end" if len(found) == 1 else f"{len(found)} ends"
     return as_text(
@@ -316,16 +317,11 @@ def whole_text(given: Namespace, name: str, space: Space) -> str:
             f"{what}: {space.count:,} states, {len(space.target):,} steps{schedules}",
             f"each has {rest + pulses:,} events: {rest:,} takes and {pulses:,} pulses",
             "each pulse had the round's inbox, and something was possible until all was done",
-            REDUCED if space.reduce else distances_words(space),
+            REDUCED if space.reduce else distances,
             f"{ends}: {' or '.join(dict.fromkeys(found))}",
             *([f"all this of the draws of --lots {given.lots} alone"] if has_drawn(space) else []),
         ]
     ) + refused_words(given.without)
-
-
-def distances_words(space: Space) -> str:
-    apart = counted(space.farthest, "pulse")
-    return f"neighbours at most {apart} apart, at most {space.most_wires} wires of a link under way"
 
 
 def has_drawn(space: Space) -> bool:

@@ -4,6 +4,7 @@ each node hears, sends and finds in each pulse.
 In every order of events each node finds what it finds in the rounds, so a file that is wrong is wrong here already,
 and here it is easier to see."""
 from collections.abc import Iterator
+from itertools import combinations
 from random import Random
 
 from lab.definitions.nodes import Program, synchronous_pulses
@@ -60,7 +61,7 @@ def by_chance(count: int, seed: str, connected: bool) -> Iterator[Network]:
     for number in range(count):
         chance = Random(f"{seed} {number}")
         nodes = 1 + number * MOST_NODES // count
-        pairs = [(v, w) for v in range(1, nodes + 1) for w in range(v + 1, nodes + 1)]
+        pairs = list(combinations(range(1, nodes + 1), 2))
         edges = chance.sample(pairs, chance.randint(0, min(len(pairs), 2 * nodes)))
         if connected:
             edges += [(chance.randint(1, w - 1), w) for w in range(2, nodes + 1)]

@@ -89,13 +89,14 @@ class Policy:
     def choose(self, steps: Sequence[Step]) -> Step:
         """One of the steps, of which there is at least one."""
         if self.slow or self.lazy:
-            steps = [step for step in steps if not self.is_held_up(step)] or steps
+            steps = [
+                step
+                for step in steps
+                if step.node not in self.lazy and tuple(sorted(step.link)) not in self.slow
+            ] or steps
         step = self.chosen_of(steps)
         self.last = step.link, step.kind
         return step
-
-    def is_held_up(self, step: Step) -> bool:
-        return step.node in self.lazy or tuple(sorted(step.link)) in self.slow
 
     def chosen_of(self, steps: Sequence[Step]) -> Step:
         """One of these steps, by the policy alone."""

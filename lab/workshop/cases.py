@@ -3,6 +3,7 @@ import re
 from argparse import Namespace
 from dataclasses import dataclass, field, replace
 from functools import lru_cache
+from itertools import combinations
 from random import Random
 from typing import Any
 
@@ -57,17 +58,13 @@ known = lru_cache(network_at)
 def network_of(name: str, chance: Random) -> Network:
     """The network of a name: one by chance, or what all commands mean by it."""
     found = re.fullmatch(r"random([1-9][0-9]{0,2})", name)
-    return random_network(name, int(found[1]), chance) if found else known(name)
-
-
-def random_network(name: str, nodes: int, chance: Random) -> Network:
-    """About one or two edges a node."""
-    pairs = [(v, w) for v in range(1, nodes + 1) for w in range(v + 1, nodes + 1)]
-    return Network(
-        nodes,
-        chance.sample(pairs, min(len(pairs), nodes - 1 + chance.randrange(nodes + 2))),
-        name=name,
-    )
+    if not found:
+        return known(name)
+    nodes = int(found[1])
+    pairs = list(combinations(range(1, nodes + 1), 2))
+    # About one or two edges a node.
+    count = min(len(pairs), nodes - 1 + chance.randrange(nodes + 2))
+    return Network(nodes, chance.sample(pairs, count), name=name)
 
 
 def varied(network: Network, chance: Random, program: str) -> Network:
