@@ -18,6 +18,7 @@ Settings are variables, here with their defaults:
   TESTS_SEED         2026: the seed of these random texts
   TESTS_GRAPHS       33: how many random graphs programs.in_python plans
   TESTS_LARGE        4: how many large networks programs.own_networks numbers
+  TESTS_FILES        8: how many files of each form programs.written has read
   TESTS_RUNS         40: how many runs of threads programs.transcripts checks
   TESTS_SEQUELS      12: how many networks by chance programs.sequel_runs plays
 """
@@ -27,6 +28,7 @@ DEFAULTS = {
     "seed": "2026",
     "graphs": "33",
     "large": "4",
+    "files": "8",
     "runs": "40",
     "sequels": "12",
 }

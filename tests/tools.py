@@ -11,7 +11,7 @@ ENDING = "isn't installed"
 
 
 def is_installed(tool):
-    if tool in ("networkx", "matplotlib"):
+    if tool in ("networkx", "matplotlib", "igraph", "pandas"):
         return importlib.util.find_spec(tool) is not None
     if tool == "a browser":
         return browser.command() is not None

@@ -57,6 +57,7 @@ REFUSED = (
     ("edges", "a\n", "line 1: no two nodes"),
     ("edges", "", "it has no row"),
     ("edges", "1 : 2\n", "line 1: no name of a node: `:`"),
+    ("edges", '"a" "b"\n', 'line 1: no name of a node: `"a"`; a table is read --as pairs'),
     ("edges", "#c d\na b\n", "line 1: no name of a node: `#c`"),
     ("adjacency", "#x.py\n#a b\nb\n", "line 2: no name of a node: `#a`"),
     ("edges", "source target\na b\n", "line 1: it is a heading"),

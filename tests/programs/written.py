@@ -1,5 +1,5 @@
 """Files as spreadsheets and networkx write them, by a seed: each is read as the network that was meant, or refused.
-Files of other programs are in tests/by_hand/written_files.py."""
+Those of other programs: written_elsewhere.py."""
 
 import contextlib
 import csv
@@ -15,8 +15,9 @@ from dataclasses import dataclass
 from lab.networks import foreign, network
 from lab.networks.network_text import read_network
 from tests.cases import Case, in_process
+from tests.settings import setting
 
-FILES = 8
+FILES = int(setting("files"))
 REFUSED = {"refused", "refused with line"}
 # Names of nodes: {0} counts from 0, and {1} from 1.
 NAMES = (
@@ -170,9 +171,17 @@ def networkx_writers(nx) -> list[Writer]:
     ]
 
 
-class Written(Case):
+class Files(Case):
     needs_programs = False
 
+    def read_files(self, writers: list[Writer]):
+        for writer in writers:
+            files = writer.files(FILES)
+            said = {writer.verdict(self.folder, data, wanted) for data, wanted in files}
+            self.same(writer.form, said | REFUSED, {"read"} | REFUSED)
+
+
+class Written(Files):
     def test_spreadsheets(self):
         self.read_files(spreadsheet_writers())
 
@@ -181,9 +190,3 @@ class Written(Case):
         if library is None:
             self.skipTest("networkx isn't installed")
         self.read_files(networkx_writers(library))
-
-    def read_files(self, writers: list[Writer]):
-        for writer in writers:
-            files = writer.files(FILES)
-            said = {writer.verdict(self.folder, data, wanted) for data, wanted in files}
-            self.same(writer.form, said | REFUSED, {"read"} | REFUSED)

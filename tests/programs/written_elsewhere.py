@@ -1,32 +1,26 @@
-#!/usr/bin/env python3
-"""Writes a thousand files with networkx, igraph, pandas and R, and by hand as spreadsheets, Gephi and yEd do, and reads
-each by `forestlab network read`: it has to be read as the network that was meant, or refused. All else is printed. The
-last line is 'N passed, M failed'.
+"""Files as igraph, pandas, R and gv2gml write them, and by hand as Gephi and yEd do: each is read as the network that
+was meant, or refused.
 
-What isn't installed is named as not tried. Debian has all of it, for /usr/bin/python3:
-apt-get install python3-networkx python3-igraph python3-pandas r-cran-igraph graphviz"""
+Debian has all of it, for /usr/bin/python3:
+apt-get install python3-igraph python3-pandas r-base-core graphviz"""
 
-import argparse
-import collections
-import contextlib
 import csv
 import importlib
 import json
-import shutil
 import subprocess
-import sys
-import tempfile
 from xml.sax.saxutils import escape, quoteattr
 
 from tests.programs import written
 from tests.programs.written import Meant, Writer, table_of, through_file
+from tests.tools import need
 
-FILES = 30
 NUMBERED = {"has_names": False, "has_lone": False}
 LINES = {"words": ("--as", "edges"), "lacks": " ", "has_lone": False}
 
 
-def igraph_writers(igraph) -> list[Writer]:
+def igraph_writers() -> list[Writer]:
+    igraph = importlib.import_module("igraph")
+
     def by(form):
         def write(one: Meant) -> bytes:
             graph = igraph.Graph(len(one.nodes), one.numbers())
@@ -48,16 +42,18 @@ def piped(words, data: bytes) -> bytes:
     return subprocess.run(words, input=data, stdout=subprocess.PIPE, check=True).stdout
 
 
-def gv2gml_writers(program) -> list[Writer]:
+def gv2gml_writers() -> list[Writer]:
     def write(one: Meant) -> bytes:
         names = [json.dumps(name, ensure_ascii=False) for name in one.nodes]
         edges = [f"{names[a]} -- {names[b]}" for a, b in one.numbers()]
-        return piped([program], ("graph {" + ";\n".join(names + edges) + "}").encode())
+        return piped(["gv2gml"], ("graph {" + ";\n".join(names + edges) + "}").encode())
 
     return [Writer("GML", "net.gml", write, lacks="&")]
 
 
-def pandas_writers(pandas) -> list[Writer]:
+def pandas_writers() -> list[Writer]:
+    pandas = importlib.import_module("pandas")
+
     def row(form, *words, file="net.csv", titles=("source", "target"), **more):
         def write(one: Meant) -> bytes:
             table = pandas.DataFrame(one.edges, columns=titles).assign(km=0.5)
@@ -75,26 +71,17 @@ def pandas_writers(pandas) -> list[Writer]:
     ]
 
 
-def r_writers(program) -> list[Writer]:
+def r_writers() -> list[Writer]:
     start = 'e <- read.csv(file("stdin"), colClasses="character", na.strings=c());'
-    graph = "suppressMessages(library(igraph)); g <- graph_from_data_frame(e, FALSE);"
 
-    def row(code, file="net.csv", words=(), lacks=""):
+    def row(code):
         def write(one: Meant) -> bytes:
             ends = table_of(("source", "target"), one.edges)
-            return piped([program, "-e", start + code], ends)
+            return piped(["Rscript", "-e", start + code], ends)
 
-        return Writer(code.rpartition(";")[2], file, write, words, lacks, has_lone=False)
+        return Writer(code, "net.csv", write, has_lone=False)
 
-    return [
-        row("write.csv(e)"),
-        row("write.csv2(e, row.names=FALSE)"),
-        row("write.table(e)", words=("--as", "edges")),
-        row("write.table(e, row.names=FALSE, col.names=FALSE)", words=("--as", "edges")),
-        row(r'write.table(e, sep="\t", quote=FALSE)'),
-        row(graph + 'write_graph(g, "/dev/stdout", "graphml")', "net.graphml"),
-        row(graph + 'write_graph(g, "/dev/stdout", "gml")', "net.gml", lacks="&"),
-    ]
+    return [row("write.csv(e)"), row("write.csv2(e, row.names=FALSE)")]
 
 
 # By hand: Gephi and yEd.
@@ -161,11 +148,10 @@ def in_xml(text, node, edge):
     return write
 
 
-def writers_by_hand(_) -> list[Writer]:
+def writers_by_hand() -> list[Writer]:
     spaces = "http://www.gexf.net/1.2draft", "http://gexf.net/1.3"
     drafts = [in_xml(GEXF.replace("SPACE", space), GEXF_NODE, GEXF_EDGE) for space in spaces]
     return [
-        *written.spreadsheet_writers(),
         Writer("Gephi GEXF 1.2", "net.gexf", drafts[0]),
         Writer("Gephi GEXF 1.3", "net.gexf", drafts[1]),
         Writer("yEd", "net.graphml", in_xml(YED, YED_NODE, YED_EDGE)),
@@ -173,44 +159,20 @@ def writers_by_hand(_) -> list[Writer]:
     ]
 
 
-PROGRAMS = {
-    "networkx": written.networkx_writers,
+WRITERS = {
     "igraph": igraph_writers,
     "pandas": pandas_writers,
     "Rscript": r_writers,
     "gv2gml": gv2gml_writers,
-    "by hand": writers_by_hand,
 }
 
 
-def found(program: str):
-    """A module, or the path of a program; None if it isn't installed."""
-    with contextlib.suppress(ImportError):
-        return importlib.import_module(program)
-    return shutil.which(program)
+class WrittenElsewhere(written.Files):
+    def test_programs(self):
+        for program, writers in WRITERS.items():
+            with self.subTest(program):
+                need(self, program)
+                self.read_files(writers())
 
-
-def main() -> int:
-    words = argparse.ArgumentParser(
-        description=__doc__, formatter_class=argparse.RawDescriptionHelpFormatter
-    )
-    words.add_argument("programs", nargs="*", help=f"some of {', '.join(PROGRAMS)}; default: all")
-    counts = collections.Counter()
-    for program in words.parse_args().programs or PROGRAMS:
-        tool = found(program) or program == "by hand"
-        if not tool:
-            print(f"{program} isn't installed: not tried")
-        for writer in PROGRAMS[program](tool) if tool else ():
-            with tempfile.TemporaryDirectory() as folder:
-                for data, wanted in writer.files(FILES):
-                    said = writer.verdict(folder, data, wanted)
-                    is_wrong = said not in {"read", *written.REFUSED}
-                    counts["failed" if is_wrong else "passed"] += 1
-                    if is_wrong:
-                        print(program, writer.form, said, data.decode("utf-8", "replace"), sep="\n")
-    print(f"{counts['passed']} passed, {counts['failed']} failed")
-    return 1 if counts["failed"] else 0
-
-
-if __name__ == "__main__":
-    sys.exit(main())
+    def test_by_hand(self):
+        self.read_files(writers_by_hand())
