@@ -235,24 +235,12 @@ class Install(Case):
                 good = got[0] == 4 and re.fullmatch(said + "\n", got[2].decode())
                 self.note(f"{name}: ulimit {limit}", good, got)
 
-    def laid_out(self, folder):
-        """All may read each file of a folder, and run what is a program or a script, and Python has left nothing there
-        that it compiled."""
-        wrong = "-name __pycache__ -o -type d ! -perm 755 -o -type f ! -perm 644 ! -perm 755"
-        done = run(["bash", "-c", f"find . {wrong}"], cwd=folder)
-        self.same(f"modes in {folder}", done, (0, b"", b""))
-        done = run(["find", folder, "-type", "f", "-perm", "755"])
-        begin = {contents(path)[:2] for path in done[1].decode().splitlines()}
-        self.same(f"what is run in {folder}", begin, {b"#!", b"\x7fE"})
-
     def test_prefix(self):
         """What a package has: all where a system looks for it, whatever the umask is, called by links."""
         room = os.path.join(self.folder, "package")
         words = ["--prefix", "/usr", "--destdir", room]
         done = run([*self.script, *words], umask=0o077)
         self.note("install --prefix", done[:2] == (0, b""), done)
-        for folder in (self.target, room):
-            self.laid_out(folder)
         self.readme_of(self.target)
         there, share = os.path.join(room, "usr"), os.path.join(room, "usr", "share")
         pages = [f"{name}.1.gz" for name in NAMES]
@@ -274,6 +262,12 @@ class Install(Case):
         ):
             got = run([os.path.join(there, "bin", words[0]), *words[1:]], data, cwd=self.elsewhere)
             self.note(f"{words} by a link", got[::2] == (0, b""), got)
+        # All may read what is there, and run what is a program or a script; Python has left nothing that it compiled.
+        wrong = "-name __pycache__ -o -type d ! -perm 755 -o -type f ! -perm 644 ! -perm 755"
+        self.same("modes", run(["bash", "-c", f"find . {wrong}"], cwd=room), (0, b"", b""))
+        done = run(["find", room, "-type", "f", "-perm", "755"])
+        begin = {contents(path)[:2] for path in done[1].decode().splitlines()}
+        self.same("what may be run", begin, {b"#!", b"\x7fE"})
         need(self, "strip")
         for name in PROGRAMS:
             symbols = b".symtab" in contents(there, "lib", "forestplan", "lib", name)
