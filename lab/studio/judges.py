@@ -1,7 +1,7 @@
 """Who answers: the proved programs, or before they are built the definitions of lab/, which are tested and not proved;
-`OPENED["is_proved"]` says which it is. Rounds are always those of the definitions. Once the programs are built, those of
-the colouring have to be what `forestplay rounds` writes; no other answers are compared here. A program in a file is always
-judged by the definitions."""
+`OPENED["is_proved"]` says which it is. Rounds are always those of the definitions. Once the programs are built, those
+of the colouring have to be what `forestplay rounds` writes; no other answers are compared here. A program in a file is
+always judged by the definitions."""
 import re
 
 from lab.definitions.colours import plan_text
