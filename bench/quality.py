@@ -16,8 +16,7 @@ import sys
 import networkx
 
 from lab.definitions.colours import colours
-from lab.definitions.recolouring import order
-from lab.network import Network
+from lab.network import Network, order
 from lab.networks import kinds
 
 # After how many passes the channels are counted.

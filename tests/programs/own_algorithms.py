@@ -199,7 +199,8 @@ class OwnAlgorithms(Case):
         refused; and pictures say the end."""
         for asked, name, ends in (
             ("layers --root 3", "path3", "1 layer 2 by 0, 2 layer 1 by 1, 3 layer 0"),
-            ("recolouring --passes 2", "path2", "1 channel 1, 2 channel 2"),
+            # The first pass begins with channel 2, so the two swap; the second begins with channel 1: all stays.
+            ("recolouring --passes 2", "path2", "1 channel 2, 2 channel 1"),
             (SET, "path2", "1 set out, 2 set in"),
         ):
             words = ["--program", *asked.split()]
