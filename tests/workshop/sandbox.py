@@ -83,7 +83,6 @@ ATTACKS = {
     "meets": "connected(socket.AF_UNIX, {socket!r})",
     "meets_by_name": "connected(socket.AF_UNIX, chr(0) + {mark!r})",
     "segment": "call(SYSTEM.shmget({key}, 0, 0))",
-    "queue": "call(SYSTEM.msgget({key}, 0))",
     "key": "call(SYSTEM.syscall(248, b'user', b'x', b'x', 1, -1))",
     "lock": "fcntl.flock(open('/usr/bin/env'), fcntl.LOCK_EX)",
     "shared_lock": "fcntl.lockf(open('/usr/bin/env'), fcntl.LOCK_SH)",
@@ -178,9 +177,8 @@ class Sandboxed(Case):
         self.file(shared, "x")
         self.addCleanup(os.remove, shared)
         system, key = ctypes.CDLL(None), os.getpid()
-        segment, queue = system.shmget(key, 4096, 0o1666), system.msgget(key, 0o1666)
+        segment = system.shmget(key, 4096, 0o1666)
         self.addCleanup(system.shmctl, segment, 0, None)
-        self.addCleanup(system.msgctl, queue, 0, None)
         return {
             "subs": self.subs,
             "other": os.path.join(self.subs, "ben", NODE),
