@@ -140,7 +140,7 @@ def clauses_of_crate(crate):
 
 
 def laws_of_crates():
-    """Each public law, by its path: `crate::function`, or `crate::laws::function`. Its body is empty or calls one law."""
+    """Each public law, by its path: `crate::function`, or `crate::laws::function`. Its body is empty or calls laws."""
     found = set()
     for file in crate_files("*/src/l*.rt"):
         *_, crate, _, module = file.split(os.sep)
@@ -151,7 +151,7 @@ def laws_of_crates():
             found |= {
                 f"{crate}::laws::{name}" if is_inside else f"{crate}::{name}"
                 for name in re.findall(
-                    r"^pub fn (\w+)[^\n]*\n(?:    .*\n)+\{(?:\n    \w+\(\);\n)?\}$",
+                    r"^pub fn (\w+)[^\n]*\n(?:    .*\n)+\{(?:\n(?:    \w+\(\);\n)+)?\}$",
                     text_in(file),
                     re.M,
                 )
