@@ -19,20 +19,15 @@ BUILD = [sys.executable, "-S", os.path.join(TOP, "build"), "program"]
 WANTED = signal.SIGUSR1
 
 
-def is_installed():
-    """Whether this is an installed folder, in which the programs are built."""
-    return not os.path.exists(os.path.join(TOP, "forestplan"))
-
-
 def are_built():
-    """Whether both programs are built from the sources as they are now."""
-    return is_installed() or all(is_built(name) for name in PROGRAMS)
-
-
-def is_built(name):
-    return (
+    """Whether both programs are built from the sources as they are now, or this is an installed folder, which has
+    them."""
+    if not os.path.exists(os.path.join(TOP, "forestplan")):
+        return True
+    return all(
         built(name) is not None
         and not subprocess.run([*BUILD, "--ask", name], stdin=subprocess.DEVNULL).returncode
+        for name in PROGRAMS
     )
 
 

@@ -25,15 +25,14 @@ def judged(network, program, without, steps, dare):
     most = 0
     for step in filter(None, steps):
         player.follow([step])
-        most = max([most, *(pulses_apart(player.state, *pair) for pair in pairs)])
+        made = {v: node.pulse_number for v, node in player.state.nodes.items()}
+        most = max([most, *(abs(made[v] - made[w]) for v, w in pairs)])
     count = counted(len(player.chosen), "step")
     if pairs:
         return {"won": most >= least, "said": f"{most} of {least} pulses apart, in {count}"}
     if dare == "wrong":
-        return {
-            "won": bool(player.fault),
-            "said": f"{player.fault or 'nothing is wrong'}, in {count}",
-        }
+        said = player.fault or "nothing is wrong"
+        return {"won": bool(player.fault), "said": f"{said}, in {count}"}
     return results_judged(player, network, program)
 
 
@@ -49,10 +48,6 @@ def goal(network, dare):
         raise Wrong("no two nodes are joined")
     v, w = max(pairs, key=lambda pair: ways[pair[0]][pair[1]])
     return [(v, w)], ways[v][w]
-
-
-def pulses_apart(state, v, w):
-    return abs(state.nodes[v].pulse_number - state.nodes[w].pulse_number)
 
 
 def results_of(network, program):

@@ -56,8 +56,8 @@ def rounds_of(network, text):
 def verdict_on(network, text, plan):
     """What `check` says of a plan {vertex: channel}, as `proper 3` or `C4 vertices 1 2`."""
     if OPENED["is_proved"]:
-        lines = ["plan", *(f"{v} {channel}" for v, channel in plan.items())]
-        status, output, said = said_by("forestplan", ["check"], text, "\n".join(lines) + "\n")
+        lines = as_text(["plan", *(f"{v} {channel}" for v, channel in plan.items())])
+        status, output, said = said_by("forestplan", ["check"], text, lines)
         return output.strip() if status == 0 else said.removeprefix("forestplan: ")
     for v, channel in plan.items():
         if channel > network.channels:
@@ -93,7 +93,7 @@ def judged(network, network_text, text, program):
 
 def beginning_judged(network, network_text, entries, program):
     """What is said of the first entries of a run, each without its stamp: {ok, said, pulses, wires, by}."""
-    text = "\n".join([f"transcript 1 {network.nodes}", *entries]) + "\n"
+    text = as_text([f"transcript 1 {network.nodes}", *entries])
     if OPENED["is_proved"] and not is_own(program):
         status, output, said = said_by(
             "forestplay", ["replay", *program_words(program)], network_text, "\n", text

@@ -1,5 +1,4 @@
 """Judges the links of a class, `forestlab studio --links FILE`: one a line, each a dare and the steps that win it."""
-import os
 import re
 from urllib.parse import urlsplit
 
@@ -7,7 +6,7 @@ from lab.networks.network_text import read_network
 from lab.schedules.rules import OF_SCHEDULES
 from lab.studio.asked import network_asked, program_asked, rules_asked
 from lab.studio.dares import DARES, judged
-from lab.studio.networks import EXAMPLES
+from lab.studio.networks import example_text
 from lab.wrong import Wrong
 
 
@@ -44,11 +43,7 @@ def network_text(given):
     """The network of an address in the DIMACS format."""
     if "example" not in given:
         return text_of_code(given.get("net", ""))
-    name = given["example"] + ".col"
-    if name not in os.listdir(EXAMPLES):
-        raise Wrong(f"there is no example {given['example']}")
-    with open(os.path.join(EXAMPLES, name), encoding="utf-8") as file:
-        return file.read()
+    return example_text(given["example"])
 
 
 def text_of_code(code):

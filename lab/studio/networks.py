@@ -65,12 +65,15 @@ def said_of(rules):
     return {word: {"says": rule.says, "without": rule.without} for word, rule in rules.items()}
 
 
-def example(asked, _tell):
-    name = asked["name"]
+def example_text(name):
     if name + ".col" not in os.listdir(EXAMPLES):
         raise Wrong(f"there is no example {name}")
     with open(os.path.join(EXAMPLES, name + ".col"), encoding="utf-8") as file:
-        return shown(read_network(file.read(), name))
+        return file.read()
+
+
+def example(asked, _tell):
+    return shown(read_network(example_text(asked["name"]), asked["name"]))
 
 
 def file_read(asked, _tell):

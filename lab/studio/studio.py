@@ -1,5 +1,4 @@
 """The door: `forestlab studio [NETWORK] [options]`. Serves the studio's page to this machine alone, until Ctrl-C."""
-import argparse
 import gc
 import os
 import secrets
@@ -17,7 +16,7 @@ from lab.studio.building import are_built
 from lab.studio.links import judge
 from lab.studio.networks import shown
 from lab.studio.serving import Server
-from lab.words import Parser, text_at, text_name
+from lab.words import parser_of, text_at, text_name
 from lab.wrong import Wrong
 
 PORT, NEXT_PORTS = 8321, 20
@@ -55,13 +54,7 @@ Example:
 
 
 def command_line():
-    words = Parser(
-        prog="forestlab studio",
-        usage="forestlab studio [NETWORK] [options]",
-        description=HELP,
-        epilog=MORE_HELP,
-        formatter_class=argparse.RawDescriptionHelpFormatter,
-    )
+    words = parser_of("studio", "[NETWORK] [options]", HELP, MORE_HELP)
     words.add_argument("network", metavar="NETWORK", nargs="?", help="the network to begin with")
     words.add_argument(
         "--port",
@@ -80,7 +73,7 @@ def command_line():
         action="append",
         default=[],
         metavar="FILE.py",
-        help="a program of your own; may be " "given again",
+        help="a program of your own; may be given again",
     )
     return words
 

@@ -124,15 +124,13 @@ def rule_of_put(at: Standing, link: int, wire: list[str]) -> str:
     if kind == "ack":
         return "each payload is acknowledged once, with the payload's own pulse"
     if kind == "close":
-        return rule_of_close(at)
+        return (
+            "close is put once on each link"
+            if at.pulse == at.last
+            else f"close is the last wire of a link, put as the node makes its last pulse, {at.last}; it is at pulse "
+            f"{at.pulse}"
+        )
     return rule_of_safe(at, link, wire)
-
-
-def rule_of_close(at: Standing) -> str:
-    if at.pulse == at.last:
-        return "close is put once on each link"
-    when = f"put as the node makes its last pulse, {at.last}; it is at pulse {at.pulse}"
-    return f"close is the last wire of a link, {when}"
 
 
 def rule_of_safe(at: Standing, link: int, wire: list[str]) -> str:

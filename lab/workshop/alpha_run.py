@@ -7,6 +7,7 @@ from lab.networks.texts import plain_text
 from lab.schedules.policies import Policy, Step
 from lab.transcripts.fields import first_line
 from lab.transcripts.proved_judge import Verdict, verdict_of
+from lab.words import as_text
 from lab.workshop.findings import Fault
 from lab.workshop.nodes import PATIENCE, Nodes
 from lab.workshop.protocol import fields_of, forms_of, own_data, shown, wire_of
@@ -119,11 +120,8 @@ class AlphaRun:
         return sorted(self.entries, key=lambda entry: entry[:2])
 
     def text(self) -> str:
-        lines = [
-            first_line(self.network.nodes, self.rounds.program),
-            *(f"{stamp} {v} {words}" for stamp, v, words in self.in_order()),
-        ]
-        return "".join(line + "\n" for line in lines)
+        head = first_line(self.network.nodes, self.rounds.program)
+        return as_text([head, *(f"{stamp} {v} {words}" for stamp, v, words in self.in_order())])
 
     def verdict(self) -> Verdict:
         """What the judge says of it."""

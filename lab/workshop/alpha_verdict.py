@@ -7,6 +7,7 @@ from dataclasses import dataclass
 from lab.networks.texts import plain_text
 from lab.transcripts.proved_judge import Verdict, verdict_of
 from lab.transcripts.rules import Standing, rule_of, rules_of_dues
+from lab.words import as_text
 from lab.workshop.alpha_run import OWN_DATA, AlphaRun, Entry
 from lab.workshop.findings import Fault, Finding, first_of, kind_of, last_of, listed
 from lab.workshop.right_rounds import RightRounds, words_of
@@ -79,9 +80,8 @@ def at_node(rounds: RightRounds, before: list[Entry], v: int) -> At:
     it refuses each, and says what would be possible there, or that v lacks `ack 0 of 2; safe 0 of 2 and 3`.
     """
     network, ports = plain_text(rounds.network), rounds.ports[v]
-    text = "".join(
-        [f"transcript 1 {rounds.network.nodes}\n", *(f"{u} {words}\n" for _, u, words in before)]
-    )
+    made = [f"{u} {words}" for _, u, words in before]
+    text = as_text([f"transcript 1 {rounds.network.nodes}", *made])
 
     def refusal_of(words):
         return verdict_of(network, f"{text}{v} {words} {IMPOSSIBLE}\n", words_of(rounds.program))

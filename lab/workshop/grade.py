@@ -9,7 +9,7 @@ import sys
 import tempfile
 
 from lab.schedules.policies import POLICIES
-from lab.words import count, parser_of
+from lab.words import as_text, count, parser_of
 from lab.workshop.leftovers import shut
 from lab.workshop.options import add_limits, seconds
 from lab.workshop.parts import AGAIN, play_again, play_all, sandbox_of
@@ -118,7 +118,7 @@ def write_reports(submissions: dict[str, list[Part]], folder: str) -> None:
             with open(
                 os.path.join(folder, f"{student}.txt"), "w", encoding="utf-8", errors="replace"
             ) as file:
-                file.write("".join(line + "\n" for line in lines))
+                file.write(as_text(lines))
         except OSError as why:
             print(
                 f"grade: the report of {clean(student)} can't be written: {why.strerror}",
@@ -180,18 +180,14 @@ def main(words: list[str]) -> int:
     try:
         os.chmod(room, 0o711)
         if not given.before:
-            try_sandbox(given, room)
+            # Refuses a system on which no submission could be played.
+            empty = os.path.join(room, "empty")
+            os.mkdir(empty, 0o755)
+            sandbox_of(empty, given, room, USERS[0]).try_out()
         grade(submissions, given, room)
     finally:
         remove(room)
     return 1 if any(part.lacks_a_result() for own in submissions.values() for part in own) else 0
-
-
-def try_sandbox(given: argparse.Namespace, room: str) -> None:
-    """Refuses a system on which no submission could be played."""
-    empty = os.path.join(room, "empty")
-    os.mkdir(empty, 0o755)
-    sandbox_of(empty, given, room, USERS[0]).try_out()
 
 
 def grade(submissions: dict[str, list[Part]], given: argparse.Namespace, room: str) -> None:

@@ -43,7 +43,17 @@ class Part:
 
     @property
     def points(self) -> int:
-        return points(self.result) if self.result else 0
+        if not self.result:
+            return 0
+        cases, most = self.result["cases"], POINTS[self.assignment]
+        right = sum(case["verdict"] == "right" for case in cases)
+        if self.assignment == "rounds":
+            return most * right // len(cases)
+        if self.assignment == "alpha":
+            policies = {case["policy"] for case in cases}
+            wrong = {case["policy"] for case in cases if case["verdict"] != "right"}
+            return most * len(policies - wrong) // len(policies)
+        return most * (right == len(cases))
 
     def said(self) -> str:
         """The verdicts of wrong runs, or why there is no result."""
@@ -64,18 +74,6 @@ class Part:
             return self.lacks_a_result()
         is_late = any(case["verdict"] in ("silent", "late") for case in self.result["cases"])
         return is_late or any("it ended with signal" in line for line in self.found["report"])
-
-
-def points(result: dict) -> int:
-    right = [case["verdict"] == "right" for case in result["cases"]]
-    most = POINTS[result["assignment"]]
-    if result["assignment"] == "rounds":
-        return most * sum(right) // len(right)
-    if result["assignment"] == "alpha":
-        policies = {case["policy"] for case in result["cases"]}
-        wrong = {case["policy"] for case in result["cases"] if case["verdict"] != "right"}
-        return most * len(policies - wrong) // len(policies)
-    return most * all(right)
 
 
 def submissions_of(folder: str) -> dict[str, list[Part]]:

@@ -242,8 +242,8 @@ class Points(Case):
         ):
             wrong = [*rows[:-1], rows[-1] | {"verdict": "stuck"}]
             for cases, points in ((rows, all_right), (wrong, one_wrong)):
-                result = {"assignment": assignment, "cases": cases}
-                self.same(f"{assignment} {points}", submissions.points(result), points)
+                part = submissions.Part("", "", assignment, found={"result": {"cases": cases}})
+                self.same(f"{assignment} {points}", part.points, points)
 
     def test_the_parts_are_a_hundred(self):
         table = (
