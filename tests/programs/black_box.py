@@ -26,11 +26,6 @@ FOUR = "p edge 4 6|e 1 2|e 1 3|e 1 4|e 2 3|e 2 4|e 3 4|"
 GREATEST = 2**128 - 1
 
 
-def bars_of(v, first, last):
-    """Lines that bar the channels from the first to the last one."""
-    return "".join(f"b {v} {channel}|" for channel in range(first, last + 1))
-
-
 # Networks, their channels and some forests, worked by hand. With bars: on one edge the three-colours are 0 and 1, so
 # vertex 1 chooses first; in the greatest star the centre chooses last.
 NETWORKS = [
@@ -67,21 +62,13 @@ NETWORKS = [
         None,
     ),
     ("the triangle, with 1 barred at vertex 3", TRIANGLE + "b 3 1|", [1, 3, 2], None),
-    ("bars that come again", "p edge 2 0|b 1 1|b 1 2|b 2 2|b 1 1|b 2 2 x|", [3, 1], None),
     ("an edge, with the next channel barred at each end", EDGE + "b 1 1|b 2 2|", [2, 1], None),
     (
-        "as many bars of a vertex as the limit, each twice",
-        "p edge 1 0|" + 2 * bars_of(1, 1, 1024),
-        [1025],
+        "the greatest span, with 1 free",
+        STAR + "".join(f"b 1024 {channel}|" for channel in range(2, 1026)),
+        [1] * 1023 + [1026],
         None,
     ),
-    (
-        "all channels barred, at one of two vertices each",
-        "p edge 2 0|" + bars_of(1, 1, 1024) + bars_of(2, 1025, 2048),
-        [1025, 1],
-        None,
-    ),
-    ("the greatest span, with 1 free", STAR + bars_of(1024, 2, 1025), [1] * 1023 + [1026], None),
 ]
 # Words of forestplan, what is said of them, and the usage if it isn't that of the whole program.
 USAGE = "forestplan plan [OPTIONS]"

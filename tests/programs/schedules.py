@@ -25,7 +25,6 @@ SEED = 2026
 NETWORKS = {
     "two": "p edge 2 1|e 1 2|",
     "path": "p edge 3 2|e 1 2|e 2 3|",
-    "star": "p edge 3 2|e 1 2|e 1 3|",
     "triangle": "p edge 3 3|e 1 2|e 1 3|e 2 3|",
     "apart": "p edge 3 1|e 1 3|",
     "barred": "p edge 2 1|e 1 2|b 1 1|b 2 3|",
@@ -125,8 +124,6 @@ BROKEN = [
     ("two", "fifo", None),
     ("two", "acks,fifo", "NothingToPut"),
     ("two", "safes,acks", "NotReady"),
-    ("triangle", "safes", "NotReady"),
-    ("triangle", "early", None),
 ]
 
 

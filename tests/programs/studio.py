@@ -384,7 +384,6 @@ class Answers(Server):
         edge = "p edge 2 1\ne 1 2\n"
         for network, asked, found in (
             *((petersen, {"vertex": 8, "pulse": p}, c) for p, c in enumerate("82311", 2)),
-            *((petersen, {"vertex": 10, "pulse": p}, c) for p, c in enumerate(("10", *"0000"), 2)),
             (TRIANGLE, {"vertex": 2, "pulse": 26}, "3"),
             (TRIANGLE, {"vertex": 2, "pulse": 25}, "-"),
             (edge, {"vertex": 1, "pulse": 1, "program": "leader"}, "leader 2"),
@@ -405,7 +404,6 @@ class Answers(Server):
         """The picture of what nodes have found, by the program with its option."""
         edge, row = "p edge 2 1\ne 1 2\n", "p edge 3 2\ne 1 2\ne 2 3\n"
         for network, asked, wanted in (
-            (row, {"program": "matching"}, ["partner none", "partner 1", "partner 0"]),
             (edge, {"program": "recolouring passes 3"}, ["channel 1", "channel 2"]),
             (row, {"program": "layers root 3"}, ["layer 2 by 0", "layer 1 by 1", "layer 0"]),
             (edge, {}, ["channel 1", "channel 2"]),
