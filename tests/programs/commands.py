@@ -113,7 +113,6 @@ class Commands(Case):
             "the commands of forestlab", {script.name.split()[0] for script in SCRIPTS}, set(OF_LAB)
         )
         found = completion.helps(os.path.join(TOP, "bin"), "forestlab")
-        self.same("forestlab --help lists them", found[0][2], list(OF_LAB))
         below = [(" ".join(words), text) for words, text, _ in found if len(words) > 2]
         for name, text in below:
             self.note(f"{name} --help has an example", f"{name} " in text.partition("\nExample")[2])
@@ -165,19 +164,18 @@ class Commands(Case):
     def test_completion(self):
         """The words that complete a line are all commands of forestlab; and of an option those that a refusal lists."""
         script = self.file("completion", completion.completion(os.path.join(TOP, "bin")))
-        rows = [("forestlab", "", set(OF_LAB))]
+        rows = {"forestlab": set(OF_LAB)}
         for line in REFUSED:
             said = called("bash", "-c", f"bin/{line} nothing", cwd=TOP)[2]
             listed = said.decode().split("\n\nFor more")[0].rpartition(": ")[2]
             listed = re.sub(r".*some of |.*there are |.*choose from |, and a file.*", "", listed)
-            rows.append((line, "", set(re.findall(r"[\w-]+", listed))))
-        for line, begun, wanted in rows:
-            words = [*line.split(), begun]
+            rows[line] = set(re.findall(r"[\w-]+", listed))
+        for line, wanted in rows.items():
             shell = (
                 'source "$0"; COMP_WORDS=("$@") COMP_CWORD=$(($# - 1)); _forestlab; '
                 'printf "%s\\n" "${COMPREPLY[@]}"'
             )
-            done = called("bash", "-c", shell, script, *words)
+            done = called("bash", "-c", shell, script, *line.split(), "")
             self.same(line, ({*done[1].decode().split()}, done[2]), (wanted, b""))
 
     def test_completion_in_shells(self):

@@ -222,18 +222,16 @@ class Install(Case):
     def test_limit(self):
         """Where a file may not grow the output can't be written, and little stack is too little memory: a line, and no
         death. So are few files."""
-        for name, words in (("forestplan", "plain"), ("forestplay", "rounds")):
-            script = os.path.join(self.target, "bin", name)
-            for limit, said in (
-                ("-f 0", f"{name}: stream"),
-                ("-s 96", f"{name}: memory: stack size is limited to .*"),
-                ("-n 4", ".*: Too many open files"),
-            ):
-                line = f'ulimit {limit}; exec "$0" "$1"'
-                with open(os.path.join(self.folder, "plan"), "wb") as plan:
-                    got = run(["bash", "-c", line, script, words], b"p edge 1 0\n", stdout=plan)
-                good = got[0] == 4 and re.fullmatch(said + "\n", got[2].decode())
-                self.note(f"{name}: ulimit {limit}", good, got)
+        for limit, said in (
+            ("-f 0", "forestplan: stream"),
+            ("-s 96", "forestplan: memory: stack size is limited to .*"),
+            ("-n 4", ".*: Too many open files"),
+        ):
+            words = ["bash", "-c", f"ulimit {limit}; exec bin/forestplan plain"]
+            with open(os.path.join(self.folder, "plan"), "wb") as plan:
+                got = run(words, b"p edge 1 0\n", stdout=plan, cwd=self.target)
+            good = got[0] == 4 and re.fullmatch(said + "\n", got[2].decode())
+            self.note(f"ulimit {limit}", good, got)
 
     def test_prefix(self):
         """What a package has: all where a system looks for it, whatever the umask is, called by links."""
