@@ -149,16 +149,14 @@ class Browser:
         self.ask("Input.dispatchTouchEvent", type="touchStart", touchPoints=[{"x": x, "y": y}])
         self.ask("Input.dispatchTouchEvent", type="touchEnd", touchPoints=[])
 
-    def middle(self, selector):
-        """The middle of an element, which is scrolled into sight."""
-        return self.value(
+    def click_on(self, selector):
+        """Clicks the middle of an element, which is scrolled into sight."""
+        place = self.value(
             f"(() => {{ const e = document.querySelector({json.dumps(selector)}); "
             "e.scrollIntoView({block: 'nearest'}); const b = e.getBoundingClientRect(); "
             "return [b.x + b.width / 2, b.y + b.height / 2]; })()"
         )
-
-    def click_on(self, selector):
-        self.click(*self.middle(selector))
+        self.click(*place)
 
     def key(self, key, **more):
         for kind in ("keyDown", "keyUp"):

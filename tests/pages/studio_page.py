@@ -124,14 +124,13 @@ class Page(Case):
     """A studio and a browser for all tests of a class."""
 
     needs_programs = False
-    words = ()
 
     @classmethod
     def setUpClass(cls):
         program = browser.command()
         if program is None:
             return
-        cls.process, cls.address = begin(*cls.words)
+        cls.process, cls.address = begin()
         cls.addClassCleanup(cls.end_server)
         cls.page = browser.Browser(program)
         cls.addClassCleanup(cls.page.end)
