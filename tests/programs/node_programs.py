@@ -1,6 +1,6 @@
 """Black-box tests of `forestplay --program`, with `--root` and `--passes`, and of `forestplay run`: each answer is
-worked by hand, beside the definitions; each text of one program is refused by the others. sequel_runs.py has networks
-by chance."""
+worked by hand; each text of one program is refused by the others. sequel_runs.py has networks by chance, beside the
+definitions."""
 import re
 
 from lab.definitions.programs import program_at
