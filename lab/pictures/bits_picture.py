@@ -74,7 +74,20 @@ def draw_pair(svg, top, pulse, child, parent, most, cell):
         svg.note(LEFT - 8, y + 13, f"{words} {node}", 10.5, "end")
         for at in range(length):
             x = LEFT + (most - 1 - at) * cell
-            digit_box(svg, x, y, cell, number >> at & 1, at == place)
+            digit, is_ringed = number >> at & 1, at == place
+            svg.rect(
+                x + 1,
+                y,
+                cell - 2,
+                18,
+                INK if digit else PAPER,
+                RING if is_ringed else "#9A9A9A",
+                2.6 if is_ringed else 0.8,
+                2,
+                mark="ringed" if is_ringed else "digit",
+            )
+            if cell > 12:
+                svg.text(x + cell / 2, y + 13, digit, 11, PAPER if digit else INK, "middle")
     x = LEFT + most * cell + 16
     if is_last:
         for number, y in ((own, top + 9), (above, top + 35)):
@@ -93,19 +106,3 @@ def draw_pair(svg, top, pulse, child, parent, most, cell):
         mark="next",
     )
     svg.note(x, top + 39, f"{counted(length, 'digit')} → at most {2 * (length - 1) + 1}", 11)
-
-
-def digit_box(svg, x, y, cell, digit, is_ringed):
-    svg.rect(
-        x + 1,
-        y,
-        cell - 2,
-        18,
-        INK if digit else PAPER,
-        RING if is_ringed else "#9A9A9A",
-        2.6 if is_ringed else 0.8,
-        2,
-        mark="ringed" if is_ringed else "digit",
-    )
-    if cell > 12:
-        svg.text(x + cell / 2, y + 13, digit, 11, PAPER if digit else INK, "middle")

@@ -82,7 +82,8 @@ def page(template, main, data, **words):
     given = {name.upper(): escaped(text) for name, text in words.items()}
     return filled(
         text_of("frame.html").replace("@BODY@", text_of(template)),
-        DATA=compact(data),
+        # JSON that can stand in a script.
+        DATA=json.dumps(data, separators=(",", ":"), ensure_ascii=False).replace("<", "\\u003c"),
         SCRIPT=joined(main),
         STYLE=text_of("page.css").replace("\n", ""),
         **given,
@@ -92,8 +93,3 @@ def page(template, main, data, **words):
 def filled(template, **given):
     """A template with these texts, as they are, in the places of their names."""
     return re.sub(r"@([A-Z]+)@", lambda found: given[found.group(1)], template)
-
-
-def compact(value):
-    """JSON that can stand in a script."""
-    return json.dumps(value, separators=(",", ":"), ensure_ascii=False).replace("<", "\\u003c")
