@@ -185,10 +185,5 @@ def short_name(network, v):
     return name if len(name) <= LONGEST_NAME else name[: LONGEST_NAME - 1].rstrip() + "…"
 
 
-def label_of(network, v):
-    """A vertex's number, and its name if it has one."""
-    return f"{v} {short_name(network, v)}".rstrip()
-
-
 def dash_of(kind):
     return "4 2.5" if kind == "ack" else None

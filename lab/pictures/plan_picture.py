@@ -1,7 +1,7 @@
 """The plan on the map: who has which channel."""
 from lab.networks.plan_text import clashes
 from lab.pictures.map_picture import Vertex, begun, draw_map
-from lab.pictures.marks import SMALL, label_of
+from lab.pictures.marks import SMALL, short_name
 from lab.words import counted
 from lab.wrong import Wrong
 
@@ -15,7 +15,7 @@ class Planned(Vertex):
 
     def __init__(self, network, v, channel):
         super().__init__(network, v)
-        self.channel, self.words = channel, label_of(network, v)
+        self.channel, self.words = channel, f"{v} {short_name(network, v)}".rstrip()
         said = f", barred {', '.join(map(str, self.bars))}" if self.bars else ""
         self.title = f"vertex {self.words}: channel {channel}{said}"
         if network.nodes > LARGEST_NUMBERED:

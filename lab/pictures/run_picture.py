@@ -34,7 +34,11 @@ class Window:
             pulses,
         )
         self.top, self.row, self.over = top, row, min(30, 0.4 * row)
-        self.left = left_of(run.network)
+        # To the left of the nodes' lines are their numbers and names.
+        names = [
+            text_width(short_name(run.network, v), 10) for v in run.network.names if v in self.nodes
+        ]
+        self.left = LEFT + max(names, default=-6) + 6
         if not any(self.first in ticks for ticks in run.ticks.values()):
             raise Wrong(f"{run.name}: no node begins pulse {self.first}")
         self.ends = {
@@ -76,12 +80,6 @@ class Window:
             for wire in self.run.wires
             if wire.kind == kind and wire.take and wire.take >= self.start and wire.put <= self.stop
         ]
-
-
-def left_of(network):
-    """Where the lines of nodes begin: to the left are their numbers and names."""
-    names = [text_width(short_name(network, v), 10) for v in network.names if v in network.vertices]
-    return LEFT + max(names, default=-6) + 6
 
 
 # How high a node's row is above and below, of runs of up to so many nodes.

@@ -6,7 +6,7 @@ from itertools import accumulate, chain
 from statistics import mean
 
 from lab.pictures.palette import BAND, BORDER, INK, PAPER, PULSE, WIRES, WRONG
-from lab.pictures.schedules_space import fault_words, left_out_words, title_of
+from lab.pictures.schedules_space import fault_words, left_out_words
 from lab.pictures.svg import Svg, text_width, wrapped
 from lab.pictures.transcripts import window_of
 from lab.schedules.explore import events_words, rounded
@@ -178,7 +178,9 @@ class Lattice:
         return svg
 
     def fact(self):
-        space, title = self.space, title_of(self.network, self.space)
+        space, title = self.space, self.network.name
+        if space.without:
+            title += f" without {' and '.join(space.without)}"
         if space.faults:
             listed = space.with_puts(space.path_to_fault())
             verb = "is" if len(listed) == 1 else "are"

@@ -36,8 +36,3 @@ def left_out_words(without):
     said = [f"that {ALL[rule].says}" for rule in without]
     what = "is the rule" if len(said) == 1 else "are the rules"
     return f"Left out {what} {'; '.join(said)}."
-
-
-def title_of(network, space):
-    """The network, and the rules that it has to do without."""
-    return network.name + (f" without {' and '.join(space.without)}" if space.without else "")
