@@ -354,7 +354,9 @@ class FirstRun(Case):
             )
         # If the script alone is killed, the prover goes on, and the next call waits for it. Both name it.
         with tree.begun() as (killed, said):
-            self.note("at work once more", wait_until(tree.at_work, LIMIT), said())
+            # Before that a shim of `python3` may be at work, too.
+            at_work = wait_until(lambda: tree.at_work() and "== middle" in tree.log(), LIMIT)
+            self.note("at work once more", at_work, said())
             prover = tree.at_work()[0]
             parent = int(text_in(f"/proc/{prover}/stat").rpartition(")")[2].split()[1])
             os.kill(parent, signal.SIGKILL)
