@@ -11,22 +11,20 @@ import socket
 import subprocess
 import sys
 import threading
-from itertools import combinations
 
 from lab.schedules.policies import POLICIES
 from tests import TOP
 from tests.cases import Case, copied, example, examples, said_by, text_in, wait_until
 
 TRIANGLE = "p edge 3 3\ne 1 2\ne 1 3\ne 2 3\n"
-# A run of twelve nodes that are all neighbours takes seconds.
-SLOW = "p edge 12 66\n" + "".join(f"e {v} {w}\n" for v, w in combinations(range(1, 13), 2))
 BUILDER = """\
 import sys, time
 print(*sys.argv[1:], '3 of 9 crates proved', file=sys.stderr, flush=True)
 time.sleep(100)
 """
-HUNGRY = (
-    "def greet(node):\n    return bytearray(3 << 30)\n\n\ndef next(node, pulse, inbox):\n    return []\n\n\n"
+# A program of one's own, with what it does in place of a greeting.
+OWN = (
+    "import time\n\n\ndef greet(node):\n    {}\n\n\ndef next(node, pulse, inbox):\n    return []\n\n\n"
     "def result(node):\n    return ''\n"
 )
 
@@ -213,7 +211,8 @@ class Refusals(Server):
 class Memory(Server):
     def setUp(self):
         own = os.path.join(TOP, "examples", "algorithms", "independent_set.py")
-        self.words = ["--own", self.file("hungry.py", HUNGRY), "--own", own]
+        hungry = self.file("hungry.py", OWN.format("return bytearray(3 << 30)"))
+        self.words = ["--own", hungry, "--own", own]
         super().setUp()
 
     def test_memory(self):
@@ -443,24 +442,29 @@ class Answers(Server):
 
 
 class Ends(Server):
-    def test_ends(self):
-        """A call ends with its browser, and all with the server."""
+    def setUp(self):
+        # Three nodes of it take 45 seconds, in which nothing is written that could fail.
+        self.words = ["--own", self.file("sleeps.py", OWN.format("time.sleep(15)"))]
+        super().setUp()
 
-        def slow_run():
+    def test_ends(self):
+        """A call ends with its browser, though it has nothing to write, and all with the server."""
+
+        def slow_call():
             end = socket.create_connection(("127.0.0.1", self.port))
-            asked = json.dumps({"network": SLOW, "policy": "oldest"})
+            asked = json.dumps({"network": TRIANGLE, "program": "sleeps"})
             end.sendall(
-                f"POST /call/run HTTP/1.1\r\nHost: 127.0.0.1:{self.port}\r\nX-Token: {self.token}\r\n"
+                f"POST /call/rounds HTTP/1.1\r\nHost: 127.0.0.1:{self.port}\r\nX-Token: {self.token}\r\n"
                 f"Content-Length: {len(asked)}\r\n\r\n{asked}".encode()
             )
             wait_until(self.calls, 20)
             return end
 
-        end = slow_run()
+        end = slow_call()
         self.same("a call is under way", len(self.calls()), 1)
         end.close()
         self.note("it ends with its browser", wait_until(lambda: not self.calls(), 20))
-        end = slow_run()
+        end = slow_call()
         self.interrupt("its calls")
         end.close()
 
