@@ -27,11 +27,13 @@ def fields_of(line: bytes) -> list[bytes]:
 
 
 def name_in_texts(program: str) -> str:
-    """The name of a program as the first line of a transcript has it: one field, whatever its file is called."""
-    return "".join(
+    """The name of a program as the first line of a transcript has it: one field that is no number, whatever its file is
+    called."""
+    name = "".join(
         letter if letter.isascii() and (letter.isalnum() or letter in "-_") else "_"
         for letter in program
     )
+    return f"_{name}" if name.isdecimal() else name
 
 
 def first_line(nodes: int, program: str = COLOURING) -> str:

@@ -105,7 +105,7 @@ def head_of(lines: list[bytes], program: str | None) -> Head:
     named = ""
     if fields[:2] == [b"transcript", b"3"] and fields[2:]:
         named = fields[2].decode("latin-1")
-    is_name = name_in_texts(named) == named and not named.isdecimal() and named != ""
+    is_name = name_in_texts(named) == named and named != ""
     if is_name and program is not None and named != name_in_texts(program):
         raise Wrong(
             line, "WrongProgram", f"a transcript of {named}, not of {program}: --program {named}"

@@ -7,6 +7,7 @@ from lab.definitions.programs import program_at
 from tests.cases import Case, called, text
 from tests.commands import EDGE, commands_of
 from tests.settings import PLAY
+from tests.workshop.transcripts import OF_FILES
 
 ROW, ALONE, NONE = "p edge 3 2|e 1 2|e 2 3|", "p edge 1 0|", "p edge 0 0|"
 # Node 1 has the identifier 9 and no neighbour, and nobody the identifier 1; a path of five with the identifier 1 at
@@ -115,8 +116,8 @@ REFUSED = [
     # Two vertices of identifier 1 stay two of one identifier, whichever is the root.
     ("rounds", "layers --root 2", "p edge 3 0|i 1 1|i 2 1|", "N2 vertices 1 2"),
     ("events", "layers --root 3", EDGE + "put 9 0|", "NoRoot vertex 3"),
-    # A name has no underscore; hostile.py has other first lines.
-    ("replay", "leader", EDGE + "transcript 3 independent_set 2|", "X1 line 3"),
+    # No proved program has such a name; hostile.py has other first lines.
+    *(("replay", "leader", f"{EDGE}transcript 3 {name} 2|", "X1 line 3") for name in OF_FILES),
     # A transcript of a run with another root, and of one with another number of passes.
     (
         "replay",

@@ -374,11 +374,13 @@ class OwnAlgorithms(Case):
         self.refusal(
             "without `right`", self.told(FLOOD, network="path6"), 1, "of more the rounds are, if"
         )
-        status, run, fault = self.told(TOO_SHORT, command="simulate", network="path6")
-        self.note("simulate", status == 1 and run.startswith("transcript 3 flood 6\n"), run[:40])
+        # A name of digits alone would be a number of nodes.
+        own = ["--program", self.file("12.py", TOO_SHORT)]
+        status, run, fault = said_by("simulate", "path6", *own)
+        self.note("simulate", status == 1 and run.startswith("transcript 3 _12 6\n"), run[:40])
         self.note("simulate says why", fault.endswith(" isn't right: no leader\n"), fault)
-        words = ["transcript", "check", "path6", "-", "--program", self.file("flood.py", TOO_SHORT)]
-        status, text, _ = said_by(*words, "--json", data=run.encode())
+        words = ["transcript", "check", "path6", "-", *own, "--json"]
+        status, text, _ = said_by(*words, data=run.encode())
         good = status == 1 and '"right": false' in text and "NotRight" in text
         self.note("transcript check --json", good, text)
 

@@ -133,6 +133,10 @@ ROWS = (
 )
 
 
+# A file of the user's may be called so, and no proved program is: `replay` says X1 (programs.node_programs).
+OF_FILES = ("my_own", "independent_set", "Leader", "-set")
+
+
 class Transcripts(Case):
     needs_programs = False
 
@@ -180,10 +184,13 @@ class Transcripts(Case):
                 "leader",
                 "line 1: WrongProgram: a transcript of layers, not of leader: --program layers",
             ),
-            (
-                "my_own",
-                "layers",
-                "line 1: WrongProgram: a transcript of my_own, not of layers: --program my_own",
+            *(
+                (
+                    name,
+                    "layers",
+                    f"line 1: WrongProgram: a transcript of {name}, not of layers: --program {name}",
+                )
+                for name in OF_FILES
             ),
             (
                 "lay\x1bers",
