@@ -24,7 +24,7 @@ pub trait Wiring {
 impl Wiring for Brand {
     ghost use Rattle.std.specs.Prelude.{[], false};
 
-    ghost net = { record { ids = []; ports = []; bars = [] } };
+    ghost net = { record { ids = []; ports = []; bars = []; again = 0 } };
 
     ghost tables = { [] };
 

@@ -9,7 +9,7 @@ use Rattle.sync_rounds.specs.Spread.{spread}
 use Rattle.progress_laws.specs.Endings.{IsWholeState}
 
 abbrev pub edge : Net
-edge = record { ids = 1 ∷ 2 ∷ []; ports = (2 ∷ []) ∷ (1 ∷ []) ∷ []; bars = [] ∷ [] ∷ [] }
+edge = record { ids = 1 ∷ 2 ∷ []; ports = (2 ∷ []) ∷ (1 ∷ []) ∷ []; bars = [] ∷ [] ∷ []; again = 0 }
 
 -- each node puts a wire, and takes one
 abbrev pub exchange : List Event

@@ -10,7 +10,7 @@ use Rattle.followed.specs.Followed.{Sequel}
 abbrev pub pauses : {B : Type 0} → Sequel Known ℕ Best B
 pauses = record {
   until = λ x. 2;
-  last = λ sizes. 4;
+  last = λ sizes again. 4;
   begin = λ own. 0;
   next = λ s x q inbox. Ok (q, nothing s.degree);
 }

@@ -21,7 +21,7 @@ use Rattle.checks.specs.Pausing.{paused_from, pauses}
 abbrev pauses_cut : {B : Type 0} → IsCut (spread 3) (pauses {B = B})
 pauses_cut = record {
   cut = λ sizes. 2;
-  within = λ sizes. omega arith;
+  within = λ sizes again. omega arith;
   begins = λ own. refl;
   keeps = λ s x q inbox. refl;
 }

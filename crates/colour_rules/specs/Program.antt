@@ -188,4 +188,4 @@ next node p inbox =
 
 -- the rounds of the colouring as a node program
 abbrev pub colouring : Program Node Payload Refused
-colouring = record { last = last; ports = ports; made = made; greet = greet; next = next }
+colouring = record { last = λ sizes again. last sizes; ports = ports; made = made; greet = greet; next = next }

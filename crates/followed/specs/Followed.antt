@@ -30,8 +30,8 @@ pub record HasFreeBoxes {M : Type 0} (ports degree : ℕ) (inbox : Mail M) (out 
 pub record Sequel (S X A B : Type 0) : Type 0 where
   -- the last pulse of the first program that is made, as a node knows it
   pub until : X → ℕ
-  -- the last pulse of both
-  pub last : Sizes → ℕ
+  -- the last pulse of both, by the sizes and by how many times more the sequel repeats itself
+  pub last : Sizes → ℕ → ℕ
   -- what a node has beside at first: it depends on its vertex's own data alone
   pub begin : Own → X
   -- what a node has beside next and what it sends, or a refusal
@@ -86,7 +86,7 @@ followed first sequel = record {
 -- The cut is the last pulse of the first program that is made: every node knows it from the beginning, and keeps it.
 pub record IsCut {S X A B : Type 0} (first : Program S A Refused) (sequel : Sequel S X A B) : Type 0 where
   pub cut : Sizes → ℕ
-  pub within : (sizes : Sizes) → cut sizes ≤ first.last sizes
+  pub within : (sizes : Sizes) (again : ℕ) → cut sizes ≤ first.last sizes again
   pub begins : (own : Own) → sequel.until (sequel.begin own) ≡ cut own.sizes
   pub keeps : (s : S) (x : X) (q : ℕ) (inbox : List (Option (Said A B)))
       → IfOk (sequel.next s x q inbox) (λ next. sequel.until next.0 ≡ sequel.until x)

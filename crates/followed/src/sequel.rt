@@ -40,7 +40,7 @@ pub trait Sequel<P: NodeProgram>: Sized + Drop + Send {
 
     /// The pulse after which a node is done.
     fn last_pulse(net: &Network) -> u32
-        ensures last { result ≡ sequel.last (sizes_of net.now) };
+        ensures last { result ≡ sequel.last (sizes_of net.now) net.now.again };
 
     /// What the node of a vertex has beside the first program, until that is over.
     ///

@@ -27,3 +27,4 @@ pub mod PortsBack
 pub mod MostForests
 pub mod Faults
 pub mod EdgeCount
+pub mod Repeated

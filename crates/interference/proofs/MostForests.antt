@@ -20,13 +20,13 @@ greatest_from-more f v (suc n) =
     let more = greatest_from-more f (v + 1) n in
     ap (greatest_from f v) one ∙ omega arith
 
-module _ (ids starts ports bar_starts bars : List ℕ) (p : IsPacked ids starts ports bar_starts bars) (i : ℕ) (inside : i < length ids) where
-  is_vertex : IsVertex (net_from ids starts ports bar_starts bars) (i + 1)
+module _ (ids starts ports bar_starts bars : List ℕ) (p : IsPacked ids starts ports bar_starts bars 0) (i : ℕ) (inside : i < length ids) where
+  is_vertex : IsVertex (net_from ids starts ports bar_starts bars 0) (i + 1)
   is_vertex = (omega arith, omega arith)
 
   -- the part of the list that the code cuts out
   row_here : take (slice_index starts (i + 1) - slice_index starts i) (drop (slice_index starts i) ports)
-      ≡ neighbours (net_from ids starts ports bar_starts bars) (i + 1)
+      ≡ neighbours (net_from ids starts ports bar_starts bars 0) (i + 1)
   row_here =
       let back : i ≡ i + 1 - 1 = omega arith in
       let next : i + 1 ≡ suc i = omega arith in
@@ -39,20 +39,20 @@ module _ (ids starts ports bar_starts bars : List ℕ) (p : IsPacked ids starts 
 
   pub row_vertices : All (λ w. (1 ≤ w) × (w ≤ length ids)) (take (slice_index starts (i + 1) - slice_index starts i) (drop (slice_index starts i) ports))
   row_vertices =
-      All-same (λ w. (1 ≤ w) × (w ≤ length ids)) _ (neighbours (net_from ids starts ports bar_starts bars) (i + 1)) row_here
-      (All-from_get_or (λ w. (1 ≤ w) × (w ≤ length ids)) (neighbours (net_from ids starts ports bar_starts bars) (i + 1)) 0
+      All-same (λ w. (1 ≤ w) × (w ≤ length ids)) _ (neighbours (net_from ids starts ports bar_starts bars 0) (i + 1)) row_here
+      (All-from_get_or (λ w. (1 ≤ w) × (w ≤ length ids)) (neighbours (net_from ids starts ports bar_starts bars 0) (i + 1)) 0
       (λ port below. p.network.vertices (i + 1) port is_vertex below))
 
   pub count_here : count_by (λ w. nat_lt (slice_index ids i) (slice_index ids (w - 1))) (take (slice_index starts (i + 1) - slice_index starts i)
       (drop (slice_index starts i) ports))
-      ≡ higher_count (net_from ids starts ports bar_starts bars) (i + 1)
+      ≡ higher_count (net_from ids starts ports bar_starts bars 0) (i + 1)
   count_here =
       let back : i ≡ i + 1 - 1 = omega arith in
       ap (count_by (λ w. nat_lt (slice_index ids i) (slice_index ids (w - 1)))) row_here
-      ∙ ap (λ x. count_by (λ w. nat_lt (slice_index ids x) (slice_index ids (w - 1))) (neighbours (net_from ids starts ports bar_starts bars) (i + 1))) back
+      ∙ ap (λ x. count_by (λ w. nat_lt (slice_index ids x) (slice_index ids (w - 1))) (neighbours (net_from ids starts ports bar_starts bars 0) (i + 1))) back
 
-  pub forests-more : (let f = higher_count (net_from ids starts ports bar_starts bars) in greatest_from f 1 (i + 1) ≡ max (greatest_from f 1 i) (f (i + 1)))
+  pub forests-more : (let f = higher_count (net_from ids starts ports bar_starts bars 0) in greatest_from f 1 (i + 1) ≡ max (greatest_from f 1 i) (f (i + 1)))
   forests-more =
-      let f = higher_count (net_from ids starts ports bar_starts bars) in
+      let f = higher_count (net_from ids starts ports bar_starts bars 0) in
       let next : 1 + i ≡ i + 1 = omega arith in
       greatest_from-more f 1 i ∙ ap (λ x. max (greatest_from f 1 i) (f x)) next

@@ -45,6 +45,7 @@ network_of ids edges bars = record {
   ids = ids;
   ports = map (joined_to (length ids) edges) (range_with_len 1 (length ids));
   bars = map (barred_at bars) (range_with_len 1 (length ids));
+  again = 0;
 }
 
 -- a vertex has more neighbours than a node may have

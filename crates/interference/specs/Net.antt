@@ -10,6 +10,12 @@ pub record Net : Type 0 where
   pub ids : List ℕ
   pub ports : List (List ℕ)
   pub bars : List (List ℕ)
+  -- how many times more a program that repeats itself does so: only how long a run is depends on it
+  pub again : ℕ
+
+-- the same network, with this number
+abbrev pub repeated : ℕ → Net → Net
+repeated again net = record net { again = again }
 
 -- how many nodes there are
 abbrev pub count_of : Net → ℕ

@@ -9,7 +9,7 @@ use crate::limits::MAX_DEGREE;
 // The greatest number of neighbours of higher identifier of any vertex.
 pub(crate) fn forest_count(ids: &[u128], starts: &[u32], ports: &[u32]) -> u32
     requires { ArePorts ids.now starts.now ports.now }
-    ensures { result ≡ forest_count_of (net_from ids.now starts.now ports.now [] []) }
+    ensures { result ≡ forest_count_of (net_from ids.now starts.now ports.now [] [] 0) }
 {
     let mut most = 0;
     for i in 0..ids.len() {

@@ -128,6 +128,7 @@ fn packed(
         bars,
         greatest_degree,
         forest_count,
+        again: 0,
     })
 }
 

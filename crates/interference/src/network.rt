@@ -3,7 +3,7 @@
 ghost use Rattle.std.specs.Prelude.{◌≡◌, ◌↔◌, ◌<◌, ◌≤◌, ◌+◌, ◌-◌, IfOk, IsTrue, length};
 ghost use Rattle.interference.specs.Net.{Net, IsBarred, IsNetwork, IsVertex, bars_of, count_of, degree_of, id_of};
 ghost use Rattle.interference.specs.Net.{neighbours, back_port_of, neighbour_of, forest_count_of, greatest_bars_of};
-ghost use Rattle.interference.specs.Net.{greatest_degree_of};
+ghost use Rattle.interference.specs.Net.{greatest_degree_of, repeated};
 
 use crate::bars::PackedBars;
 use crate::fault::Memory;
@@ -24,6 +24,8 @@ pub struct Network {
     pub(crate) bars: PackedBars,
     pub(crate) greatest_degree: u32,
     pub(crate) forest_count: u32,
+    // How many times more a program that repeats itself does so.
+    pub(crate) again: u8,
 }
 
 impl Model for Network {
@@ -33,10 +35,10 @@ impl Model for Network {
     ghost Value = { Net };
 
     ghost view = { λ a. net_from a.ids.items a.starts.items a.ports.items
-        a.bars.starts.items a.bars.colours.items };
+        a.bars.starts.items a.bars.colours.items a.again };
 
     ghost invariant = { λ a. IsStored a.ids.items a.starts.items a.ports.items a.backs.items
-        a.bars.starts.items a.bars.colours.items a.greatest_degree a.forest_count a.bars.greatest };
+        a.bars.starts.items a.bars.colours.items a.again a.greatest_degree a.forest_count a.bars.greatest };
 }
 
 impl Network {
@@ -69,6 +71,20 @@ impl Network {
         ensures { result ≡ greatest_bars_of self.now }
     {
         self.bars.greatest
+    }
+
+    /// How many times more a program that repeats itself does so: 0 for a network as it is made.
+    pub fn again(&self) -> u8
+        ensures { result ≡ self.now.again }
+    {
+        self.again
+    }
+
+    /// The same network, for programs that repeat themselves `again` times more.
+    pub fn repeating(self, again: u8) -> Network
+        ensures { result ≡ repeated again self }
+    {
+        Network { again, ..self }
     }
 
     /// The identifier of vertex `v`.
@@ -159,6 +175,7 @@ impl Network {
             bars,
             greatest_degree: self.greatest_degree,
             forest_count: self.forest_count,
+            again: self.again,
         })
     }
 }

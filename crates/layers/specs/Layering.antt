@@ -72,7 +72,7 @@ next_from s p (Err refused) = Err refused
 -- the program: its last pulse is one less than the number of nodes, as every distance is at most
 abbrev pub layering : Program Layered Hops Refused
 layering = record {
-  last = λ sizes. sizes.nodes - 1;
+  last = λ sizes again. sizes.nodes - 1;
   ports = λ s. s.degree;
   made = layered_first;
   greet = with_sent 0;

@@ -40,7 +40,7 @@ next_from s p (Err refused) = Err refused
 -- the program: its last pulse is the number of nodes
 abbrev pub election : Program Elector Candidate Refused
 election = record {
-  last = λ sizes. sizes.nodes;
+  last = λ sizes again. sizes.nodes;
   ports = λ s. s.degree;
   made = elector_first;
   greet = λ s. (s, sends 0 s);

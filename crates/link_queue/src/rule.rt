@@ -36,7 +36,7 @@ pub trait Naming {
 impl Naming for Brand {
     ghost use Rattle.std.specs.Prelude.{[]};
 
-    ghost name = { record { network = record { ids = []; ports = []; bars = [] }; vertex = 0; port = 0 } };
+    ghost name = { record { network = record { ids = []; ports = []; bars = []; again = 0 }; vertex = 0; port = 0 } };
 }
 
 // Naming a new link: its one view gets the name; the second pass that the splitting makes is not used.

@@ -81,7 +81,7 @@ turned node partner q inbox =
 abbrev pub turns : Sequel Node (Option ℕ) Payload Proposal
 turns = record {
   until = λ partner. FIRST_MERGE - 1;
-  last = λ sizes. FIRST_MERGE + 6 * sizes.forests;
+  last = λ sizes again. FIRST_MERGE + 6 * sizes.forests;
   begin = λ own. None;
   next = λ node partner q inbox. Ok (turned node partner q inbox);
 }

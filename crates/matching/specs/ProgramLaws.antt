@@ -78,7 +78,7 @@ tells-none f (Up g) below =
 abbrev pub turns_cut : IsCut colouring turns
 turns_cut = record {
   cut = λ sizes. FIRST_MERGE - 1;
-  within = λ sizes. omega arith;
+  within = λ sizes again. omega arith;
   begins = λ own. refl;
   keeps = λ node partner q inbox. refl;
 }

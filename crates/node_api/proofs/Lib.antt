@@ -7,6 +7,7 @@ pub mod SlotPut
 pub mod Filled
 pub mod Keeping
 pub mod Runs
+pub mod Repeated
 pub mod Reading
 pub mod Inboxes
 pub mod Outboxes

@@ -38,8 +38,8 @@ own_of net v = record { id = id_of net v; degree = degree_of net v; bars = bars_
 -- A program with states S, payloads M and refusals E. At a pulse above the last one `next` keeps the ports, and no law
 -- says more of it.
 pub record Program (S M E : Type 0) : Type 0 where
-  -- the last pulse: it depends on the sizes of the network alone
-  pub last : Sizes → ℕ
+  -- the last pulse: it depends on the sizes of the network, and on how many times more the program repeats itself
+  pub last : Sizes → ℕ → ℕ
   -- how many ports a node has
   pub ports : S → ℕ
   -- a node before `init`: it depends on its vertex's own data alone
@@ -51,7 +51,7 @@ pub record Program (S M E : Type 0) : Type 0 where
 
 -- the last pulse on a network
 abbrev pub last_pulse_on : {S M E : Type 0} → Program S M E → Net → ℕ
-last_pulse_on program net = program.last (sizes_of net)
+last_pulse_on program net = program.last (sizes_of net) net.again
 
 -- A node in this state, which has made pulse p, does nothing at any pulse before `until` while nothing comes.
 abbrev pub RestsUntil : {S M E : Type 0} → Program S M E → S → ℕ → ℕ → Type 0

@@ -132,7 +132,7 @@ anew_next node s q inbox = class_next node (ready node s q) (q / (s.greatest + 1
 abbrev pub recolours : ℕ → Sequel Node Recoloured Payload Anew
 recolours again = record {
   until = λ s. s.until;
-  last = λ sizes. last sizes + (again + 1) * sweeps sizes * (span sizes + 1);
+  last = λ sizes more. last sizes + (again + 1) * sweeps sizes * (span sizes + 1);
   begin = λ own. record {
     until = last own.sizes;
     greatest = span own.sizes;

@@ -32,7 +32,7 @@ ready-as f false s t e = refl
 abbrev pub recolours_cut : (again : ℕ) → IsCut colouring (recolours again)
 recolours_cut again = record {
   cut = last;
-  within = λ sizes. omega arith;
+  within = λ sizes more. omega arith;
   begins = λ own. refl;
   keeps = λ node s q inbox. ready-as (λ t. t.until) (q % (s.greatest + 1) == 0) s (entering node s q) refl;
 }

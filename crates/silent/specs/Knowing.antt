@@ -32,7 +32,7 @@ known_next s p inbox = Ok (with_sent p (known_after s p inbox))
 -- the program: its last pulse is the number of nodes
 abbrev pub silent : Program Known Word Refused
 silent = record {
-  last = λ sizes. sizes.nodes;
+  last = λ sizes again. sizes.nodes;
   ports = λ s. s.degree;
   made = known_first;
   greet = with_sent 0;

@@ -14,7 +14,7 @@ higher_count-requires-clause-few c = row_few c.args.ids.now c.args.starts.now c.
 
 pub loop-i-preserved : goal.loop-i-preserved
 loop-i-preserved c =
-    let f = higher_count (net_from c.args.ids.now c.args.starts.now c.args.ports.now [] []) in
+    let f = higher_count (net_from c.args.ids.now c.args.starts.now c.args.ports.now [] [] 0) in
     let own : c.higher_count.result ≡ f (c.loop-i.i + 1) =
     c.higher_count.ensures ∙ count_here c.args.ids.now c.args.starts.now c.args.ports.now c.requires.0 c.requires.1 c.requires.2 c.loop-i.i (omega arith) in
     let more : greatest_from f 1 (c.loop-i.i + 1) ≡ max (greatest_from f 1 c.loop-i.i) (f (c.loop-i.i + 1)) =
