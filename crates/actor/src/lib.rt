@@ -8,7 +8,7 @@
 //!
 //! A `Node` keeps as facts of its type that it fits the lists of its own ends: `NodeKept` of `alpha_laws`, over the
 //! lists that its ends put and took. So each turn of it, in whatever thread, keeps these facts, and asks
-//! nothing of its caller. `pool` lets workers make turns of all nodes of a run.
+//! nothing of its caller. `node_runs` lets workers make turns of all nodes of a run.
 //!
 //! ```text
 //! let mut node = Node::<J, Colouring>::start(alloc, &network, v, puts, takes, false)?;

@@ -136,6 +136,6 @@ pub record IsOutcome {S M E : Type 0} (program : Program S M E) (net : Net) (cap
   pub merged : IsTrue transcript → (rows : List (StampedRow M)) → IsMerge (count_of net) (entries_in outcome) rows
       → (to : IsReplayTo program net rows (node_in program net outcome) (λ v i. link_of (link_in outcome v i)))
       × IsStampedReplay program net rows to.last
-  -- With a transcript or without, what the threads did was one run of the event machine: some list of events leads to
-  -- these nodes and links.
+  -- With a transcript or without, some list of events of the event machine leads to these nodes and links. It isn't
+  -- said which, nor that the threads made its events in this order.
   pub is_run : ∥ IsRunTo program net (node_in program net outcome) (λ v i. link_of (link_in outcome v i)) ∥₁

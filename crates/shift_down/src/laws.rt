@@ -7,7 +7,7 @@ ghost use Rattle.colour_base.specs.Forest.{IsProper, IsWithin};
 ghost use Rattle.shift_down.specs.Steps.{drop, shift, three_from};
 ghost use Rattle.std.specs.Prelude.{◌≢◌, ◌<◌, ◌≤◌, Option, ℕ};
 
-/// A shift keeps a proper colouring proper, and brings no colour above 2 that was not there.
+/// A shift keeps a proper colouring proper; and if no colour was above n, which is 2 or more, none is afterwards.
 pub fn shift_keeps_proper()
     ensures proper { (parents : ℕ → Option ℕ) (c : ℕ → ℕ) →
         IsProper parents c → IsProper parents (shift parents c) }

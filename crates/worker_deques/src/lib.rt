@@ -7,7 +7,8 @@
 //!
 //! In reading order: `worker_state` is what a worker has. `deques` makes and fills the deques, `worker_states` makes
 //! what workers begin with; `gathering` empties what is handed back, and `order` and `place` put the tasks in order.
-//! `promise` is for threads that hand states back. `pool` starts the workers; its tasks are the nodes of `actor`.
+//! `promise` is for threads that hand states back. `pool` starts the workers; `node_runs` hands it the nodes of `actor`
+//! as their tasks.
 //!
 //! ```text
 //! let (owns, stealers) = make_deques::<T>(alloc, count, workers)?;
