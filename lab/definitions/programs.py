@@ -1,5 +1,6 @@
 """The programs that nodes can run, by their names, and programs of one's own, from a file."""
 from argparse import ArgumentParser, Namespace
+from functools import partial
 import os
 import sys
 
@@ -11,6 +12,7 @@ from lab.definitions.nodes import Colouring, Program
 from lab.definitions.own_program import own_program
 from lab.definitions.recolouring import Recolouring
 from lab.network import Network
+from lab.words import count
 from lab.wrong import Wrong
 
 # Those that `forestplay` runs.
@@ -21,7 +23,7 @@ PROGRAMS: dict[str, Program] = {
 # The options that a program has, each of which sets what its class has by this name.
 OPTIONS: dict[str, Program] = {"root": Layers, "passes": Recolouring}
 # How often recolouring may choose anew.
-PASSES = (1, 2, 3, 4, 5, 6, 7, 8)
+MAX_PASSES = 64
 # Those whose nodes don't look at their bars; a file may.
 WITHOUT_BARS = (Leader, Layers, Matching)
 HELP = f"what the nodes run: {', '.join(PROGRAMS)}, or a file of your own, as NAME.py; default: colouring"
@@ -86,10 +88,9 @@ def add_program(words: ArgumentParser) -> None:
     )
     words.add_argument(
         "--passes",
-        type=int,
-        choices=PASSES,
+        type=partial(count, most=MAX_PASSES),
         metavar="N",
-        help="how often recolouring chooses anew, 1 to 8; default: once",
+        help=f"how often recolouring chooses anew, 1 to {MAX_PASSES}; default: once",
     )
     words.add_argument(
         "--lots", default="1", metavar="WORD", help="the seed of a file's `me.random`; default: 1"

@@ -14,7 +14,7 @@ class Recolouring(Sequel):
     name = "recolouring"
     kinds = ("Anew",)
     cut_of = staticmethod(last_pulse)
-    # How many passes there are, 1 to 8.
+    # How many passes there are, 1 to 64.
     passes: int = 1
 
     span: int

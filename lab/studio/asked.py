@@ -3,7 +3,7 @@ import re
 from typing import Any
 
 from lab.definitions.nodes import Colouring
-from lab.definitions.programs import PASSES, PROGRAMS, program_at
+from lab.definitions.programs import MAX_PASSES, PROGRAMS, program_at
 from lab.networks.network_text import read_network
 from lab.wrong import Wrong
 
@@ -43,8 +43,8 @@ def program_asked(asked):
     )
     name, option, value = said.groups() if said else ("?", None, None)
     options = {option: int(value)} if option else {}
-    if options.get("passes") not in (None, *PASSES):
-        raise Wrong(f"there are {PASSES[0]} to {PASSES[-1]} passes")
+    if not 1 <= options.get("passes", 1) <= MAX_PASSES:
+        raise Wrong(f"there are 1 to {MAX_PASSES} passes")
     if name not in (*PROGRAMS, *OPENED["own"]):
         name = "?"
     return program_at(OPENED["own"].get(name, name), **options)

@@ -5,7 +5,7 @@ import re
 from argparse import ArgumentParser
 from math import isqrt, prod
 
-from lab.definitions.programs import PASSES, PROGRAMS
+from lab.definitions.programs import MAX_PASSES, PROGRAMS
 from lab.networks.kinds import KINDS
 from lab.networks.network_text import read_network, stem
 from lab.networks.options import add_form, add_stated, stated_by
@@ -49,7 +49,7 @@ def hello(_asked, _tell):
             name: {"sizes": kind.sizes, "chance": kind.is_by_chance} for name, kind in KINDS.items()
         },
         "programs": [*PROGRAMS, *OPENED["own"]],
-        "passes": list(map(str, PASSES)),
+        "passes": MAX_PASSES,
         "policies": POLICIES,
         "rules": {
             "orders": said_of(OF_SCHEDULES),

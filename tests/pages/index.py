@@ -72,7 +72,7 @@ SAID_OF_LIMITS = {
     "docs/learn/TUTORIAL.md": ("every network of up to {MAX_NODES:,} nodes",),
     "docs/work/LOOKUP.md": ("{MAX_DEGREE:,} + {MAX_BARS:,}, below `COLOURS`, {MAX_CHANNEL:,}",),
     "lab/networks/network_text.py": assigned(*OF_NETWORKS, "MAX_DEGREE"),
-    "lab/definitions/programs.py": ("PASSES = {ALL_PASSES} ",),
+    "lab/definitions/programs.py": assigned("MAX_PASSES"),
     "lab/networks/codes.py": ("it names one more than {MAX_EDGES:,} different edges",),
     "lab/python/forestplan/__init__.py": (
         "`workers`, 1 to {MAX_WORKERS},",
@@ -215,7 +215,6 @@ class Index(Case):
         }
         above = {name.replace("MAX", "ABOVE"): number + 1 for name, number in limits.items()}
         limits = above | limits
-        limits["ALL_PASSES"] = tuple(range(1, limits["ABOVE_PASSES"]))
         for path, rows in SAID_OF_LIMITS.items():
             for row in rows:
                 self.note(

@@ -733,7 +733,7 @@ class Drawn(Page):
             ),
             (two + "&tab=adversary&without=toString", "without=toString"),
             (two + "&tab=pictures&kind=toString", "kind=toString"),
-            (two + "&tab=pictures&kind=results&program=recolouring&passes=9", "passes=9"),
+            (two + "&tab=pictures&kind=results&program=recolouring&passes=65", "passes=65"),
             ("example=disk100&tab=run", "at most 40"),
             ("example=disk100&tab=adversary", "at most 40"),
             (two + "&tab=rounds&at=2&node=1&broken=digit,root", ""),

@@ -103,7 +103,7 @@ OPTIONS = {
     "turns": ("N", 0, 10**12),
     "edition": ("N", 1, 2),
     "root": ("V", 1, 20_000),
-    "passes": ("N", 1, 8),
+    "passes": ("N", 1, 64),
 }
 
 

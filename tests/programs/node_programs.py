@@ -53,8 +53,9 @@ ENDS = [
     ("recolouring", EDGE, 20, "channel 2|channel 1"),
     ("recolouring --passes 2", EDGE, 22, "channel 2|channel 1"),
     ("recolouring --passes 3", EDGE, 24, "channel 1|channel 2"),
-    # The fourth pass is as the first: 2 1. So are the seventh, from 1 2, and the eighth is as the second.
-    ("recolouring --passes 8", EDGE, 34, "channel 2|channel 1"),
+    # The fourth pass is as the first, from 1 2 again; so each third pass leads to 1 2, and each after it to 2 1.
+    ("recolouring --passes 63", EDGE, 144, "channel 1|channel 2"),
+    ("recolouring --passes 64", EDGE, 146, "channel 2|channel 1"),
     # Node 1 of a row is left over, and its neighbour isn't.
     ("matching", ROW, 19, "partner none|partner 1 to 3|partner 0 to 2"),
     ("independent-set", ROW, 24, "in|out|in"),

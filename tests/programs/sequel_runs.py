@@ -34,6 +34,8 @@ PLAYED = (
     "recolouring",
     "recolouring --passes 2",
     "recolouring --passes 3",
+    "recolouring --passes 9",
+    "recolouring --passes 64",
 )
 
 

@@ -159,7 +159,7 @@ class Refusals(Server):
             ("broken", {"without": "x"}, "no such rule"),
             ("picture", {"kind": "x"}, "there is no picture x"),
             ("picture", {"kind": "results", "program": "matching passes 2"}, "not for matching"),
-            ("picture", {"kind": "results", "program": "recolouring passes 9"}, "1 to 8 passes"),
+            ("picture", {"kind": "results", "program": "recolouring passes 65"}, "1 to 64 passes"),
             ("steps", {"without": "x"}, "no such rule"),
             *(("steps", {"steps": step}, "isn't possible") for step in ("1", "1-9", "x", "1-2-1")),
             ("steps", {"list": "c a list\nput 1 0\nput 1 0"}, "line 3: `put 1 0` isn't"),

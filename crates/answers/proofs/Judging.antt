@@ -1,5 +1,5 @@
 -- From what is known of a network text and of the plan text behind it to what `check` may answer.
-use Rattle.std.proofs.Common.{◌≡◌, ◌∙◌, inl, inr, ℕ, None, Ok, List, subst, sym}
+use Rattle.std.proofs.Common.{◌≡◌, ◌∙◌, inl, inr, ℕ, Ok, List, subst, sym}
 use Rattle.dimacs_col.specs.Lines.{Line, lines_of}
 use Rattle.interference.specs.Net.{IsNetwork, Net}
 use Rattle.channel_plan.specs.Checked.{IsFaultOfPlan, IsProper, greatest_channel}
@@ -12,6 +12,7 @@ use Rattle.answers.specs.Answers.{IsFaultOfText, ReadsAs}
 use Rattle.answers.specs.Verdicts.{IsCheckAnswer, IsFaultOfCheck, verdict_text}
 use Rattle.answers.specs.declared.fault.PlanFault.{PlanFault}
 use Rattle.answers.specs.declared.fault.PlanFault.TheVariants as plan
+use Rattle.answers.specs.declared.setting.Setting.TheVariants.{AsRead}
 
 -- the two texts that an input is cut into
 pub record AreParts (input front behind : List ℕ) : Type 0 where
@@ -19,7 +20,7 @@ pub record AreParts (input front behind : List ℕ) : Type 0 where
   pub plan : reading_of (lines_of behind) ≡ reading_of (plan_lines (lines_of input))
 
 -- ---- the network text
-pub fault-text : (input network : List ℕ) (fault : PlanFault) → AreNetworkLines (lines_of input) (lines_of network) → IsFaultOfText None network fault →
+pub fault-text : (input network : List ℕ) (fault : PlanFault) → AreNetworkLines (lines_of input) (lines_of network) → IsFaultOfText AsRead network fault →
     IsFaultOfCheck input fault
 fault-text input network (plan.Col fault) are is = fault-of plan_word (lines_of input) (lines_of network) fault are is
 fault-text input network (plan.Net fault) are (graph, reads, is) = (graph, graph-of plan_word (lines_of input) (lines_of network) graph are reads, is)

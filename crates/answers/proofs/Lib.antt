@@ -2,6 +2,7 @@ mod AtVertices
 pub mod Numbering
 mod GivenIds
 pub mod Rooted
+pub mod Settings
 pub mod Plain
 pub mod Following
 pub mod ProperPlans

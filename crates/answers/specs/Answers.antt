@@ -1,16 +1,16 @@
 -- The answers to the bytes of a text.
-use Rattle.std.specs.Prelude.{◌≡◌, ℕ, List, Option, map, unwrap_or}
+use Rattle.std.specs.Prelude.{◌≡◌, ℕ, List, map, unwrap_or}
 use Rattle.std.specs.List.{range_with_len}
 use Rattle.dimacs_col.specs.Lines.{Line, lines_of}
 use Rattle.dimacs_col.specs.Reading.{Graph, IsFault, IsGraph, id_in}
 use Rattle.interference.specs.Net.{Net, IsNetwork}
 use Rattle.interference.specs.Making.{IsFaultOf, network_of}
 use Rattle.answers.specs.Plans.{IsChannelPlan}
-use Rattle.answers.specs.Roots.{LacksRoot, OfRooted}
+use Rattle.answers.specs.Settings.{LacksRoot, OfSet}
 use Rattle.answers.specs.Texts.{colours_text, forests_text}
 use Rattle.answers.specs.declared.fault.PlanFault.{PlanFault}
 use Rattle.answers.specs.declared.fault.PlanFault.TheVariants as plan
-use Rattle.answers.specs.declared.root.Root.{Root}
+use Rattle.answers.specs.declared.setting.Setting.{Setting}
 
 -- the identifier of each vertex: the one that it is given, or its own number
 abbrev pub identifiers_with : List (ℕ × ℕ) → ℕ → List ℕ
@@ -28,18 +28,18 @@ LinesReadAs lines holds = (graph : Graph) × IsGraph lines graph × holds (netwo
 abbrev pub ReadsAs : List ℕ → (Net → Type 0) → Type 0
 ReadsAs text holds = LinesReadAs (lines_of text) holds
 
--- the fault of a text: that of its reading; or that the root which is given, if there is one, is no vertex; or that of
--- the network which was read, with this root
-abbrev pub IsFaultOfText : Option Root → List ℕ → PlanFault → Type 0
-IsFaultOfText root text (plan.Col fault) = IsFault (lines_of text) fault
-IsFaultOfText root text (plan.NoRoot v) = ReadsAs text (LacksRoot root v)
-IsFaultOfText root text (plan.Net fault) = ReadsAs text (OfRooted root (λ net. IsFaultOf net fault))
-IsFaultOfText root text (plan.Pool fault) = ⊥
-IsFaultOfText root text (plan.Check fault) = ⊥
-IsFaultOfText root text (plan.Event fault) = ⊥
-IsFaultOfText root text (plan.Replay fault) = ⊥
-IsFaultOfText root text plan.Stopped = ⊥
-IsFaultOfText root text plan.Memory = Unit {0}
+-- the fault of a text: that of its reading; or that the root which is set, if one is, is no vertex; or that of the
+-- network which was read, as it is set
+abbrev pub IsFaultOfText : Setting → List ℕ → PlanFault → Type 0
+IsFaultOfText setting text (plan.Col fault) = IsFault (lines_of text) fault
+IsFaultOfText setting text (plan.NoRoot v) = ReadsAs text (LacksRoot setting v)
+IsFaultOfText setting text (plan.Net fault) = ReadsAs text (OfSet setting (λ net. IsFaultOf net fault))
+IsFaultOfText setting text (plan.Pool fault) = ⊥
+IsFaultOfText setting text (plan.Check fault) = ⊥
+IsFaultOfText setting text (plan.Event fault) = ⊥
+IsFaultOfText setting text (plan.Replay fault) = ⊥
+IsFaultOfText setting text plan.Stopped = ⊥
+IsFaultOfText setting text plan.Memory = Unit {0}
 
 -- the answer is the forests text of the network that the input describes
 abbrev pub IsForestsAnswer : List ℕ → List ℕ → Type 0

@@ -1,5 +1,5 @@
 -- The answer to a network and the events behind it.
-use Rattle.std.specs.Prelude.{◌≡◌, ◌⊎◌, ℕ, List, Ok, Option}
+use Rattle.std.specs.Prelude.{◌≡◌, ◌⊎◌, ℕ, List, Ok}
 use Rattle.dimacs_col.specs.Lines.{Line, lines_of}
 use Rattle.dimacs_col.specs.Reading.{IsFault}
 use Rattle.interference.specs.Net.{Net, IsNetwork, IsVertex}
@@ -17,10 +17,10 @@ use Rattle.event_texts.specs.declared.fault.EventFault.{EventFault}
 use Rattle.program_texts.specs.Texts.{ProgramTexts}
 use Rattle.wire_texts.specs.PayloadTexts.{PayloadTexts}
 use Rattle.answers.specs.Answers.{LinesReadAs}
-use Rattle.answers.specs.Roots.{LacksRoot, OfRooted}
+use Rattle.answers.specs.Settings.{LacksRoot, OfSet}
 use Rattle.answers.specs.declared.fault.PlanFault.{PlanFault}
 use Rattle.answers.specs.declared.fault.PlanFault.TheVariants as plan
-use Rattle.answers.specs.declared.root.Root.{Root}
+use Rattle.answers.specs.declared.setting.Setting.{Setting}
 
 -- each node is in the state of the synchronous run at its pulse, whatever the order of the events: so a node at the
 -- last pulse is in its last state
@@ -35,10 +35,10 @@ module _ {S M E : Type 0} (program : Program S M E) (texts : ProgramTexts S) (pa
       × (run program net (events_in script) ≡ Ok state) × (text ≡ state_text program texts payloads net state)
       × AreInStep program net state
 
-  -- the answer is the text of the state that the events reach, on the network that stands before them, with the root
-  -- that is given, if there is one, and the last states of the synchronous run are what the program is for
-  abbrev pub IsEventsAnswer : Option Root → List ℕ → List ℕ → Type 0
-  IsEventsAnswer root input answer = LinesReadAs (network_lines (lines_of input)) (OfRooted root
+  -- the answer is the text of the state that the events reach, on the network that stands before them, as it is set,
+  -- and the last states of the synchronous run are what the program is for
+  abbrev pub IsEventsAnswer : Setting → List ℕ → List ℕ → Type 0
+  IsEventsAnswer setting input answer = LinesReadAs (network_lines (lines_of input)) (OfSet setting
       (λ net. IsNetwork net × IsStateReached net (lines_of input) answer × texts.Solves net (last_state program net)))
 
 module _ {S M E : Type 0} (program : Program S M E) where
@@ -48,15 +48,15 @@ module _ {S M E : Type 0} (program : Program S M E) where
       ⊎ ((script : Script) × (script_of lines ≡ Ok script) × IsFaultOfRun program net script fault)
 
   -- the fault of an input of `events`: of the network text before the events, or of the root, or else of the events
-  abbrev pub IsFaultOfEvents : Option Root → List ℕ → PlanFault → Type 0
-  IsFaultOfEvents root input (plan.Col fault) = IsFault (network_lines (lines_of input)) fault
-  IsFaultOfEvents root input (plan.NoRoot v) = LinesReadAs (network_lines (lines_of input)) (LacksRoot root v)
-  IsFaultOfEvents root input (plan.Net fault) =
-      LinesReadAs (network_lines (lines_of input)) (OfRooted root (λ net. IsFaultOf net fault))
-  IsFaultOfEvents root input (plan.Pool fault) = ⊥
-  IsFaultOfEvents root input (plan.Check fault) = ⊥
-  IsFaultOfEvents root input (plan.Event fault) = LinesReadAs (network_lines (lines_of input))
-      (OfRooted root (λ net. IsNetwork net × IsFaultOfEventLines net (lines_of input) fault))
-  IsFaultOfEvents root input (plan.Replay fault) = ⊥
-  IsFaultOfEvents root input plan.Stopped = ⊥
-  IsFaultOfEvents root input plan.Memory = Unit {0}
+  abbrev pub IsFaultOfEvents : Setting → List ℕ → PlanFault → Type 0
+  IsFaultOfEvents setting input (plan.Col fault) = IsFault (network_lines (lines_of input)) fault
+  IsFaultOfEvents setting input (plan.NoRoot v) = LinesReadAs (network_lines (lines_of input)) (LacksRoot setting v)
+  IsFaultOfEvents setting input (plan.Net fault) =
+      LinesReadAs (network_lines (lines_of input)) (OfSet setting (λ net. IsFaultOf net fault))
+  IsFaultOfEvents setting input (plan.Pool fault) = ⊥
+  IsFaultOfEvents setting input (plan.Check fault) = ⊥
+  IsFaultOfEvents setting input (plan.Event fault) = LinesReadAs (network_lines (lines_of input))
+      (OfSet setting (λ net. IsNetwork net × IsFaultOfEventLines net (lines_of input) fault))
+  IsFaultOfEvents setting input (plan.Replay fault) = ⊥
+  IsFaultOfEvents setting input plan.Stopped = ⊥
+  IsFaultOfEvents setting input plan.Memory = Unit {0}

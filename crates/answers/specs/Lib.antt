@@ -1,6 +1,7 @@
 pub mod Texts
 pub mod Plans
 pub mod Roots
+pub mod Settings
 pub mod Faults
 pub mod Answers
 pub mod Verdicts

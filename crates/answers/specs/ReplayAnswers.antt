@@ -32,12 +32,12 @@ use Rattle.program_texts.specs.Texts.{ProgramTexts}
 use Rattle.wire_texts.specs.PayloadTexts.{PayloadTexts}
 use Rattle.answers.specs.Answers.{LinesReadAs}
 use Rattle.answers.specs.EventAnswers.{AreInStep}
-use Rattle.answers.specs.Roots.{LacksRoot, OfRooted}
+use Rattle.answers.specs.Settings.{LacksRoot, OfSet}
 use Rattle.answers.specs.declared.fault.PlanFault.{PlanFault}
 use Rattle.answers.specs.declared.fault.PlanFault.TheVariants as plan
 use Rattle.answers.specs.declared.replaying.ReplayFault.{ReplayFault}
 use Rattle.answers.specs.declared.replaying.ReplayFault.TheVariants as fault
-use Rattle.answers.specs.declared.root.Root.{Root}
+use Rattle.answers.specs.declared.setting.Setting.{Setting}
 
 -- the transcript that follows a network, or the number of its first wrong line
 abbrev pub transcript_in : {M : Type 0} → PayloadTexts M → List Line → Result (AnyTranscript M) ℕ
@@ -58,13 +58,12 @@ IsReplayed program payloads net lines state =
 abbrev pub IsOfProgram : List ℕ → List Line → Type 0
 IsOfProgram name lines = (named : List ℕ) → program_in lines ≡ Some named → named ≡ name
 
--- the answer is the text of the state that the transcript leads to, on the network that stands before it, with the root
--- that is given, if there is one, and the last states of the synchronous run are what the program is for; the
--- transcript names no other program
-abbrev pub IsReplayAnswer : {S M E : Type 0} → Program S M E → ProgramTexts S → PayloadTexts M → Option Root → List ℕ
+-- the answer is the text of the state that the transcript leads to, on the network that stands before it, as it is set,
+-- and the last states of the synchronous run are what the program is for; the transcript names no other program
+abbrev pub IsReplayAnswer : {S M E : Type 0} → Program S M E → ProgramTexts S → PayloadTexts M → Setting → List ℕ
     → List ℕ → Type 0
-IsReplayAnswer program texts payloads root input answer =
-    LinesReadAs (network_lines (lines_of input)) (OfRooted root (λ net. IsNetwork net
+IsReplayAnswer program texts payloads setting input answer =
+    LinesReadAs (network_lines (lines_of input)) (OfSet setting (λ net. IsNetwork net
     × ((state : State _ _) × IsReplayed program payloads net (lines_of input) state
     × (answer ≡ state_text program texts payloads net state) × AreInStep program net state)
     × texts.Solves net (last_state program net) × IsOfProgram texts.name (lines_of input)))
@@ -249,15 +248,16 @@ module _ {S M E : Type 0} (program : Program S M E) (payloads : PayloadTexts M) 
 
   -- the fault of an input of `replay`, for a program with texts: of the network text before the transcript, or of the
   -- root, or else of the transcript
-  abbrev pub IsFaultOfReplay : ProgramTexts S → Option Root → List ℕ → PlanFault → Type 0
-  IsFaultOfReplay texts root input (plan.Col fault) = IsFault (network_lines (lines_of input)) fault
-  IsFaultOfReplay texts root input (plan.NoRoot v) = LinesReadAs (network_lines (lines_of input)) (LacksRoot root v)
-  IsFaultOfReplay texts root input (plan.Net fault) =
-      LinesReadAs (network_lines (lines_of input)) (OfRooted root (λ net. IsFaultOf net fault))
-  IsFaultOfReplay texts root input (plan.Pool fault) = ⊥
-  IsFaultOfReplay texts root input (plan.Check fault) = ⊥
-  IsFaultOfReplay texts root input (plan.Event fault) = ⊥
-  IsFaultOfReplay texts root input (plan.Replay fault) = LinesReadAs (network_lines (lines_of input))
-      (OfRooted root (λ net. IsNetwork net × IsFaultOfNamed texts.name net (lines_of input) fault))
-  IsFaultOfReplay texts root input plan.Stopped = ⊥
-  IsFaultOfReplay texts root input plan.Memory = Unit {0}
+  abbrev pub IsFaultOfReplay : ProgramTexts S → Setting → List ℕ → PlanFault → Type 0
+  IsFaultOfReplay texts setting input (plan.Col fault) = IsFault (network_lines (lines_of input)) fault
+  IsFaultOfReplay texts setting input (plan.NoRoot v) =
+      LinesReadAs (network_lines (lines_of input)) (LacksRoot setting v)
+  IsFaultOfReplay texts setting input (plan.Net fault) =
+      LinesReadAs (network_lines (lines_of input)) (OfSet setting (λ net. IsFaultOf net fault))
+  IsFaultOfReplay texts setting input (plan.Pool fault) = ⊥
+  IsFaultOfReplay texts setting input (plan.Check fault) = ⊥
+  IsFaultOfReplay texts setting input (plan.Event fault) = ⊥
+  IsFaultOfReplay texts setting input (plan.Replay fault) = LinesReadAs (network_lines (lines_of input))
+      (OfSet setting (λ net. IsNetwork net × IsFaultOfNamed texts.name net (lines_of input) fault))
+  IsFaultOfReplay texts setting input plan.Stopped = ⊥
+  IsFaultOfReplay texts setting input plan.Memory = Unit {0}

@@ -1,5 +1,5 @@
 -- The answer that shows the rounds of a network.
-use Rattle.std.specs.Prelude.{◌≡◌, ℕ, List, Option}
+use Rattle.std.specs.Prelude.{◌≡◌, ℕ, List}
 use Rattle.interference.specs.Net.{IsNetwork}
 use Rattle.node_api.specs.Program.{Program}
 use Rattle.node_api.specs.Run.{last_state}
@@ -7,13 +7,13 @@ use Rattle.program_texts.specs.Texts.{ProgramTexts}
 use Rattle.round_texts.specs.RoundsText.{rounds_text}
 use Rattle.wire_texts.specs.PayloadTexts.{PayloadTexts}
 use Rattle.answers.specs.Answers.{ReadsAs}
-use Rattle.answers.specs.Roots.{OfRooted}
-use Rattle.answers.specs.declared.root.Root.{Root}
+use Rattle.answers.specs.Settings.{OfSet}
+use Rattle.answers.specs.declared.setting.Setting.{Setting}
 
--- the answer is the text of the synchronous run of a program on the network that the input describes, with the root
--- that is given, if there is one, and the last states of this run are what the program is for
-abbrev pub IsRoundsAnswer : {S M E : Type 0} → Program S M E → ProgramTexts S → PayloadTexts M → Option Root → List ℕ
+-- the answer is the text of the synchronous run of a program on the network that the input describes, as it is set, and
+-- the last states of this run are what the program is for
+abbrev pub IsRoundsAnswer : {S M E : Type 0} → Program S M E → ProgramTexts S → PayloadTexts M → Setting → List ℕ
     → List ℕ → Type 0
-IsRoundsAnswer program texts payloads root input answer =
-    ReadsAs input (OfRooted root (λ net. IsNetwork net × (answer ≡ rounds_text program texts payloads net)
+IsRoundsAnswer program texts payloads setting input answer =
+    ReadsAs input (OfSet setting (λ net. IsNetwork net × (answer ≡ rounds_text program texts payloads net)
     × texts.Solves net (last_state program net)))

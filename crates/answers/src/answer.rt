@@ -1,6 +1,6 @@
 //! The answer of each command to the bytes of a text.
 
-ghost use Rattle.std.specs.Prelude.{◌≡◌, None, IfOk, IfErr};
+ghost use Rattle.std.specs.Prelude.{◌≡◌, IfOk, IfErr};
 ghost use Rattle.std.specs.List.{range_with_len};
 ghost use Rattle.graph_limits.specs.Pairs.{AreVertices};
 ghost use Rattle.dimacs_col.specs.Reading.{graph_of};
@@ -8,13 +8,13 @@ ghost use Rattle.interference.specs.Making.{BarsFit, EdgesFit, IsFaultOf};
 ghost use Rattle.interference.specs.Net.{IsNetwork};
 ghost use Rattle.answers.specs.Answers.{IsFaultOfText, IsForestsAnswer, IsPlainAnswer, ReadsAs};
 ghost use Rattle.answers.specs.Answers.{identifiers_with, network_with};
-ghost use Rattle.answers.specs.Roots.{IsRootAmong, OfRooted};
+ghost use Rattle.answers.specs.Settings.{IsRootAmong, OfSet};
 
 use crate::colours_text::text_of_plan;
 use crate::fault::PlanFault;
 use crate::forests_text::text_of_forests;
-use crate::root::Root;
-use crate::rooting::{missing_root, with_root};
+use crate::setting::Setting;
+use crate::setting_up::{missing_root, repeated_as, set_ids};
 use colour_laws::laws::colours_are_proper;
 use dimacs_col::{ColFile, read};
 use interference::{NetFault, Network};
@@ -45,51 +45,48 @@ fn identifiers(alloc: Global, nodes: u32, given: &[(u32, u128)]) -> Result<Vec<u
     Ok(ids)
 }
 
-// The network of a graph, with the root that is given, if there is one.
-fn network_of_graph(alloc: Global, graph: &ColFile, root: Option<Root>) -> Result<Network, NetFault>
+// The network of a graph, as `setting` says.
+fn network_of_graph(alloc: Global, graph: &ColFile, setting: Setting) -> Result<Network, NetFault>
     requires edges { EdgesFit graph.now.nodes graph.now.edges.items }
     requires vertices { AreVertices graph.now.nodes graph.now.ids.items }
     requires bars { BarsFit graph.now.nodes graph.now.bars.items }
-    requires root { IsRootAmong root graph.now.nodes }
+    requires root { IsRootAmong setting graph.now.nodes }
     ensures ok { IfOk result (λ net.
-        OfRooted root (λ made. IsNetwork made × (net ≡ made)) (network_with (graph_of graph.now))) }
+        OfSet setting (λ made. IsNetwork made × (net ≡ made)) (network_with (graph_of graph.now))) }
     ensures network { IfOk result IsNetwork }
     ensures fault { IfErr result (λ fault.
-        OfRooted root (λ made. IsFaultOf made fault) (network_with (graph_of graph.now))) }
+        OfSet setting (λ made. IsFaultOf made fault) (network_with (graph_of graph.now))) }
 {
     let Ok(ids) = identifiers(alloc, graph.nodes, graph.ids.as_slice()) else {
         return Err(NetFault::Memory);
     };
-    let Ok(ids) = with_root(alloc, ids, root) else {
+    let Ok(ids) = set_ids(alloc, ids, setting) else {
         return Err(NetFault::Memory);
     };
-    Ok(Network::new(
+    let network = Network::new(
         alloc,
         graph.nodes,
         ids.as_slice(),
         graph.edges.as_slice(),
         graph.bars.as_slice(),
-    )?)
+    )?;
+    Ok(repeated_as(network, setting))
 }
 
-/// The network that a DIMACS text describes, with the root that is given, if there is one.
+/// The network that a DIMACS text describes, as `setting` says.
 ///
 /// # Errors
 /// `Col` with the fault of the reading; else `NoRoot` if the root is no vertex; else `Net` with the fault of the
 /// network. Reading and network may instead fail for lack of memory: `ColFault::Memory` or `NetFault::Memory`.
-pub fn network_of_text(
-    alloc: Global,
-    input: &[u8],
-    root: Option<Root>,
-) -> Result<Network, PlanFault>
-    ensures ok { IfOk result (λ net. ReadsAs input.now (OfRooted root (λ read. IsNetwork read × (net ≡ read)))) }
+pub fn network_of_text(alloc: Global, input: &[u8], setting: Setting) -> Result<Network, PlanFault>
+    ensures ok { IfOk result (λ net. ReadsAs input.now (OfSet setting (λ read. IsNetwork read × (net ≡ read)))) }
     ensures network { IfOk result IsNetwork }
-    ensures fault { IfErr result (IsFaultOfText root input.now) }
+    ensures fault { IfErr result (IsFaultOfText setting input.now) }
 {
     let graph = read(alloc, input)?;
-    match missing_root(root, graph.nodes) {
+    match missing_root(setting, graph.nodes) {
         Some(v) => Err(PlanFault::NoRoot(v)),
-        None => Ok(network_of_graph(alloc, &graph, root)?),
+        None => Ok(network_of_graph(alloc, &graph, setting)?),
     }
 }
 
@@ -100,9 +97,9 @@ pub fn network_of_text(
 /// memory: `ColFault::Memory`, `NetFault::Memory` or `Memory`.
 pub fn forest_bytes(alloc: Global, input: &[u8]) -> Result<Vec<u8>, PlanFault>
     ensures ok { IfOk result (λ text. IsForestsAnswer input.now text.items) }
-    ensures fault { IfErr result (IsFaultOfText None input.now) }
+    ensures fault { IfErr result (IsFaultOfText Setting.AsRead input.now) }
 {
-    let network = network_of_text(alloc, input, None)?;
+    let network = network_of_text(alloc, input, Setting::AsRead)?;
     Ok(text_of_forests(alloc, &network)?)
 }
 
@@ -113,9 +110,9 @@ pub fn forest_bytes(alloc: Global, input: &[u8]) -> Result<Vec<u8>, PlanFault>
 /// As of `forest_bytes`.
 pub fn plain_bytes(alloc: Global, input: &[u8]) -> Result<Vec<u8>, PlanFault>
     ensures ok { IfOk result (λ text. IsPlainAnswer input.now text.items) }
-    ensures fault { IfErr result (IsFaultOfText None input.now) }
+    ensures fault { IfErr result (IsFaultOfText Setting.AsRead input.now) }
 {
     colours_are_proper();
-    let network = network_of_text(alloc, input, None)?;
+    let network = network_of_text(alloc, input, Setting::AsRead)?;
     Ok(text_of_plan(alloc, &network)?)
 }

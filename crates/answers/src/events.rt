@@ -6,7 +6,7 @@ ghost use Rattle.answers.specs.EventAnswers.{IsEventsAnswer, IsFaultOfEvents};
 
 use crate::answer::network_of_text;
 use crate::fault::PlanFault;
-use crate::root::Root;
+use crate::setting::Setting;
 use event_machine::laws::every_run_simulates;
 use event_texts::{network_text, play, read_events, text_of_state};
 use node_api::Refused;
@@ -15,7 +15,7 @@ use std::alloc::Global;
 
 /// The state of the nodes of a program after a list of events: the input is a DIMACS text, and then a
 /// line for each event, `pulse V`, `put V PORT` or `take V PORT`. The events begin at the first line whose
-/// first field is one of these words. If a root is given, the network is that with this root.
+/// first field is one of these words. The network is as `setting` says.
 ///
 /// # Errors
 /// As of `network_of_text` for the lines before the events; else `Event` with the first line that is no event; else
@@ -24,15 +24,15 @@ use std::alloc::Global;
 pub fn events_bytes<P: ProgramText>(
     alloc: Global,
     input: &[u8],
-    root: Option<Root>,
+    setting: Setting,
 ) -> Result<Vec<u8>, PlanFault>
     ensures ok { IfOk result (λ text.
-        IsEventsAnswer P.program P.texts (payload_texts P.Payload.PayloadText.own) root input.now text.items) }
-    ensures fault { IfErr result (IsFaultOfEvents P.program root input.now) }
+        IsEventsAnswer P.program P.texts (payload_texts P.Payload.PayloadText.own) setting input.now text.items) }
+    ensures fault { IfErr result (IsFaultOfEvents P.program setting input.now) }
 {
     every_run_simulates::<P, P::Payload, Refused>();
     P::rounds_solve();
-    let network = network_of_text(alloc, network_text(input), root)?;
+    let network = network_of_text(alloc, network_text(input), setting)?;
     let script = read_events(alloc, input)?;
     let state = play::<P>(alloc, &network, script.as_slice())?;
     Ok(text_of_state(alloc, &state)?)

@@ -16,7 +16,7 @@ ghost use Rattle.answers.specs.ReplayAnswers.{first_line_in, index_of, last_of, 
 
 use crate::answer::network_of_text;
 use crate::fault::PlanFault;
-use crate::root::Root;
+use crate::setting::Setting;
 use dimacs_col::text_start;
 use entries::{Row, StampedRow};
 use event_machine::laws::every_run_simulates;
@@ -318,7 +318,7 @@ fn check_program(alloc: Global, input: &[u8], name: &str) -> Result<(), ReplayFa
 /// input is a DIMACS text, and then a transcript, which begins at the first line whose first field is
 /// `transcript`. If it is of edition 3, its first line has to name the program. The entries are played in the order of
 /// their lines. Those of editions 2 and 3 have to have the stamps of their nodes' counters, in their order, and to lead
-/// to a whole state. If a root is given, the network is that with this root.
+/// to a whole state. The network is as `setting` says.
 ///
 /// # Errors
 /// As of `network_of_text` for the lines before the transcript; else `Replay` with the first line if that names another
@@ -329,16 +329,16 @@ fn check_program(alloc: Global, input: &[u8], name: &str) -> Result<(), ReplayFa
 pub fn replay_bytes<P: ProgramText>(
     alloc: Global,
     input: &[u8],
-    root: Option<Root>,
+    setting: Setting,
 ) -> Result<Vec<u8>, PlanFault>
-    ensures ok { IfOk result (λ text. IsReplayAnswer P.program P.texts (payload_texts P.Payload.PayloadText.own) root
+    ensures ok { IfOk result (λ text. IsReplayAnswer P.program P.texts (payload_texts P.Payload.PayloadText.own) setting
         input.now text.items) }
     ensures fault { IfErr result
-        (IsFaultOfReplay P.program (payload_texts P.Payload.PayloadText.own) P.texts root input.now) }
+        (IsFaultOfReplay P.program (payload_texts P.Payload.PayloadText.own) P.texts setting input.now) }
 {
     every_run_simulates::<P, P::Payload, Refused>();
     P::rounds_solve();
-    let network = network_of_text(alloc, network_text(input), root)?;
+    let network = network_of_text(alloc, network_text(input), setting)?;
     check_program(alloc, input, P::name())?;
     let state = replayed::<P>(alloc, &network, input)?;
     Ok(text_of_state(alloc, &state)?)

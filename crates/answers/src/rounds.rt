@@ -7,26 +7,26 @@ ghost use Rattle.answers.specs.RoundAnswers.{IsRoundsAnswer};
 
 use crate::answer::network_of_text;
 use crate::fault::PlanFault;
-use crate::root::Root;
+use crate::setting::Setting;
 use program_texts::ProgramText;
 use round_texts::rounds_text;
 use std::alloc::Global;
 
 /// The synchronous run of a program on the network that a DIMACS text describes: of each pulse what the program says of
-/// the nodes, and what they send. If a root is given, the network is that with this root.
+/// the nodes, and what they send. The network is as `setting` says.
 ///
 /// # Errors
 /// As of `network_of_text`, or `Memory`.
 pub fn rounds_bytes<P: ProgramText>(
     alloc: Global,
     input: &[u8],
-    root: Option<Root>,
+    setting: Setting,
 ) -> Result<Vec<u8>, PlanFault>
     ensures ok { IfOk result (λ text.
-        IsRoundsAnswer P.program P.texts (payload_texts P.Payload.PayloadText.own) root input.now text.items) }
-    ensures fault { IfErr result (IsFaultOfText root input.now) }
+        IsRoundsAnswer P.program P.texts (payload_texts P.Payload.PayloadText.own) setting input.now text.items) }
+    ensures fault { IfErr result (IsFaultOfText setting input.now) }
 {
     P::rounds_solve();
-    let network = network_of_text(alloc, input, root)?;
+    let network = network_of_text(alloc, input, setting)?;
     Ok(rounds_text::<P>(alloc, &network)?)
 }

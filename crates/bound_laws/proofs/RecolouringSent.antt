@@ -29,45 +29,45 @@ stays-ready node s k q h =
     ap (λ (b : Bool). if b then entering node s (k * (s.greatest + 1) + suc q) else s)
     (ap (λ (n : ℕ). n == 0) class ∙ ne_eqb (suc q) 0 (λ e. omega (arith, e)))
 
-module _ (again : ℕ) (net : Net) (ok : IsNetwork net) where
+module _ (net : Net) (ok : IsNetwork net) where
   abbrev pulse_of : ℕ → ℕ → ℕ
   pulse_of k q = k * (span_of net + 1) + q
 
   abbrev before_sweep : ℕ → ℕ → ℕ → Recoloured
-  before_sweep k q v = (at again net ok (cut net ok + pulse_of k q) v).0.beside
+  before_sweep k q v = (at net ok (cut net ok + pulse_of k q) v).0.beside
 
   -- a node at pulse q of sweep k, when it has entered the sweep
   abbrev in_sweep : ℕ → ℕ → ℕ → Recoloured
   in_sweep k q v = ready (coloured net ok v) (before_sweep k q v) (pulse_of k q)
 
   abbrev heard : ℕ → ℕ → ℕ → FinSet nat_cmp
-  heard k q v = with_anew (in_sweep k q v).chosen (inbox_from net (at again net ok (cut net ok + pulse_of k q)) v)
+  heard k q v = with_anew (in_sweep k q v).chosen (inbox_from net (at net ok (cut net ok + pulse_of k q)) v)
 
   knows : (k q v : ℕ) → (in_sweep k q v).greatest ≡ span_of net
   knows k q v =
       ready-as (λ t. t.greatest) (pulse_of k q % ((before_sweep k q v).greatest + 1) == 0) (before_sweep k q v)
       (entering (coloured net ok v) (before_sweep k q v) (pulse_of k q)) refl
-      ∙ has_greatest again net ok (cut net ok + pulse_of k q) v
+      ∙ has_greatest net ok (cut net ok + pulse_of k q) v
 
   knows-bars : (k q v : ℕ) → (in_sweep k q v).barring ≡ has_bars (sizes_of net)
   knows-bars k q v =
       ready-as (λ t. t.barring) (pulse_of k q % ((before_sweep k q v).greatest + 1) == 0) (before_sweep k q v)
       (entering (coloured net ok v) (before_sweep k q v) (pulse_of k q)) refl
-      ∙ has_barring again net ok (cut net ok + pulse_of k q) v
+      ∙ has_barring net ok (cut net ok + pulse_of k q) v
 
   -- it comes with one colour into all pulses of a sweep
   one-colour : (k q v : ℕ) → IsVertex net v → q ≤ span_of net → (in_sweep k q v).before ≡ (in_sweep k 0 v).before
   one-colour k zero v is_vertex h = refl
   one-colour k (suc q) v is_vertex h =
       let s : Recoloured = before_sweep k (suc q) v in
-      let greatest : s.greatest ≡ span_of net = has_greatest again net ok (cut net ok + pulse_of k (suc q)) v in
+      let greatest : s.greatest ≡ span_of net = has_greatest net ok (cut net ok + pulse_of k (suc q)) v in
       let same : ready (coloured net ok v) s (pulse_of k (suc q)) ≡ s =
       subst (λ (n : ℕ). ready (coloured net ok v) s (k * (n + 1) + suc q) ≡ s) greatest
       (stays-ready (coloured net ok v) s k q (omega (arith, greatest, h))) in
       let e : cut net ok + pulse_of k (suc q) ≡ suc (cut net ok + pulse_of k q) = omega arith in
       ap (λ (t : Recoloured). t.before) same
-      ∙ (ap (λ (n : ℕ). (at again net ok n v).0.beside.before) e
-      ∙ (ap (λ (node : Both Node Recoloured × List (Option Wire)). node.0.beside.before) (at-sweep again net ok k q v is_vertex (omega (arith, h)))
+      ∙ (ap (λ (n : ℕ). (at net ok n v).0.beside.before) e
+      ∙ (ap (λ (node : Both Node Recoloured × List (Option Wire)). node.0.beside.before) (at-sweep net ok k q v is_vertex (omega (arith, h)))
       ∙ one-colour k q v is_vertex (omega (arith, h))))
 
   -- the pulse of a node in a sweep
@@ -84,21 +84,21 @@ module _ (again : ℕ) (net : Net) (ok : IsNetwork net) where
       ne_eqb (place s.barring k s.greatest s.before) q (λ e. other (sym e ∙ there))
 
   slot-none : (k q v w : ℕ) → IsVertex net v → q ≤ span_of net → q ≢ place_of k v
-      → sends (recolouring again) net v w (suc (cut net ok) + k * (span_of net + 1) + q) ≡ None
+      → sends recolouring net v w (suc (cut net ok) + k * (span_of net + 1) + q) ≡ None
   slot-none k q v w is_vertex h other =
       let s : Recoloured = in_sweep k q v in
       let turn : Bool = is_turn s k q in
-      ap (λ (n : ℕ). at_port (at again net ok n v).1 (port_to net v w))
+      ap (λ (n : ℕ). at_port (at net ok n v).1 (port_to net v w))
       (let e : suc (cut net ok) + k * (span_of net + 1) + q ≡ suc (cut net ok + pulse_of k q) = omega arith in e)
-      ∙ (ap (λ (node : Both Node Recoloured × List (Option Wire)). at_port node.1 (port_to net v w)) (at-sweep again net ok k q v is_vertex h)
+      ∙ (ap (λ (node : Both Node Recoloured × List (Option Wire)). at_port node.1 (port_to net v w)) (at-sweep net ok k q v is_vertex h)
       ∙ told-none (coloured net ok v) (turn && nat_lt q s.greatest) (colour_after s k (heard k q v) turn) (port_to net v w)
       (and_left turn (nat_lt q s.greatest) (not-turn k q v is_vertex h other)))
 
-  in_sweeps : (k v w : ℕ) → IsVertex net v → sent_below (sends (recolouring again) net v w) (suc (cut net ok) + k * (span_of net + 1))
-      ≤ sent_below (sends (recolouring again) net v w) (suc (cut net ok)) + k
+  in_sweeps : (k v w : ℕ) → IsVertex net v → sent_below (sends recolouring net v w) (suc (cut net ok) + k * (span_of net + 1))
+      ≤ sent_below (sends recolouring net v w) (suc (cut net ok)) + k
   in_sweeps zero v w is_vertex = let e : suc (cut net ok) + zero * (span_of net + 1) ≡ suc (cut net ok) = omega arith in rw e (omega arith)
   in_sweeps (suc k) v w is_vertex =
-      let g : ℕ → Option Wire = sends (recolouring again) net v w in
+      let g : ℕ → Option Wire = sends recolouring net v w in
       let size : ℕ = span_of net + 1 in
       let from : ℕ = suc (cut net ok) + k * size in
       let e : suc (cut net ok) + suc k * size ≡ from + size = omega arith in
@@ -107,19 +107,19 @@ module _ (again : ℕ) (net : Net) (ok : IsNetwork net) where
       subst (λ (n : ℕ). sent_below g n ≤ sent_below g (suc (cut net ok)) + suc k) (sym e) (omega (arith, one, in_sweeps k v w is_vertex))
 
   pub recolouring-over : (v w : ℕ) → IsEdge net v w
-      → over (recolouring again) net ok v w + over (recolouring again) net ok w v ≤ 13 + 2 * forest_count_of net + 2 * ((again + 1) * sweeps (sizes_of net))
+      → over recolouring net ok v w + over recolouring net ok w v ≤ 13 + 2 * forest_count_of net + 2 * ((net.again + 1) * sweeps (sizes_of net))
   recolouring-over v w edge =
       let back : IsEdge net w v = (neighbour-is_vertex net ok v w edge.0 edge.1, both-ways net ok v w edge.0 edge.1) in
-      let end : ℕ = suc (cut net ok) + (again + 1) * sweeps (sizes_of net) * (span_of net + 1) in
-      let low : last_pulse_on (recolouring again) net ≤ end = omega arith in
-      let early : sent_below (sends (recolouring again) net v w) (suc (cut net ok)) + sent_below (sends (recolouring again) net w v) (suc (cut net ok))
+      let end : ℕ = suc (cut net ok) + (net.again + 1) * sweeps (sizes_of net) * (span_of net + 1) in
+      let low : last_pulse_on recolouring net ≤ end = omega arith in
+      let early : sent_below (sends recolouring net v w) (suc (cut net ok)) + sent_below (sends recolouring net w v) (suc (cut net ok))
       ≤ 13 + 2 * forest_count_of net =
-      both-before (recolours again) (recolours_cut again) net ok (forest_count_of net) v w (omega arith) (omega arith) edge in
+      both-before recolours recolours_cut net ok (forest_count_of net) v w (omega arith) (omega arith) edge in
       omega (
         arith,
         early,
-        no-less (sends (recolouring again) net v w) (last_pulse_on (recolouring again) net) end low,
-        no-less (sends (recolouring again) net w v) (last_pulse_on (recolouring again) net) end low,
-        in_sweeps ((again + 1) * sweeps (sizes_of net)) v w edge.0,
-        in_sweeps ((again + 1) * sweeps (sizes_of net)) w v back.0,
+        no-less (sends recolouring net v w) (last_pulse_on recolouring net) end low,
+        no-less (sends recolouring net w v) (last_pulse_on recolouring net) end low,
+        in_sweeps ((net.again + 1) * sweeps (sizes_of net)) v w edge.0,
+        in_sweeps ((net.again + 1) * sweeps (sizes_of net)) w v back.0,
       )

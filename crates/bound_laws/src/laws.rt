@@ -80,16 +80,15 @@ pub fn independent_set_is_bounded()
     rounds_end_with_a_maximal_independent_set();
 }
 
-/// With a pass and any number again, the recolouring takes at most 12 + (3·Δ + s)·(Δ + B + 1) pulses, and sends at most
-/// 13 + 2·U + 2·s payloads over an edge: those of the colouring, and one of each end in each of the s sweeps, which are
-/// again + 1, and twice as many if a node has bars.
+/// With a pass and as many again as the network says, the recolouring takes at most 12 + (3·Δ + s)·(Δ + B + 1) pulses,
+/// and sends at most 13 + 2·U + 2·s payloads over an edge: those of the colouring, and one of each end in each of the s
+/// sweeps, which are again + 1, and twice as many if a node has bars.
 pub fn recolouring_is_bounded()
-    ensures pulses { (again : ℕ) (net : Net) → IsNetwork net → last_pulse_on (recolouring again) net
-        ≤ 12 + (3 * greatest_degree_of net + (again + 1) * sweeps (sizes_of net))
+    ensures pulses { (net : Net) → IsNetwork net → last_pulse_on recolouring net
+        ≤ 12 + (3 * greatest_degree_of net + (net.again + 1) * sweeps (sizes_of net))
         * (greatest_degree_of net + greatest_bars_of net + 1) }
-    ensures payloads { (again : ℕ) (net : Net) → IsNetwork net
-        → SendsAtMost (recolouring again) net
-        (13 + 2 * forest_count_of net + 2 * ((again + 1) * sweeps (sizes_of net))) }
+    ensures payloads { (net : Net) → IsNetwork net → SendsAtMost recolouring net
+        (13 + 2 * forest_count_of net + 2 * ((net.again + 1) * sweeps (sizes_of net))) }
 {
     forest_count_is_the_greatest();
 }

@@ -1,5 +1,5 @@
 -- The transcript of a whole run is the answer to an input.
-use Rattle.std.proofs.Common.{◌≡◌, ◌-◌, ◌∙◌, [], ℕ, suc, All, Bool, List, Option, ap, arith, length, map, refl, slice_index_or, subst, sym, true}
+use Rattle.std.proofs.Common.{◌≡◌, ◌-◌, ◌∙◌, [], ℕ, suc, All, Bool, List, ap, arith, length, map, refl, slice_index_or, subst, sym, true}
 use Rattle.std.proofs.lemmas.List.{length-map}
 use Rattle.std.proofs.lemmas.List.FromFn.{length-range_with_len}
 use Rattle.std.proofs.lemmas.List.Elements.{All-from_get_or}
@@ -14,9 +14,9 @@ use Rattle.stamps.specs.Stamps.{Rises}
 use Rattle.dimacs_col.specs.Lines.{lines_of}
 use Rattle.wire_texts.specs.PayloadTexts.{PayloadTexts}
 use Rattle.answers.specs.Answers.{ReadsAs}
-use Rattle.answers.specs.Roots.{OfRooted}
-use Rattle.answers.specs.declared.root.Root.{Root}
-use Rattle.answers.proofs.Rooted.{lines-more}
+use Rattle.answers.specs.Settings.{OfSet}
+use Rattle.answers.specs.declared.setting.Setting.{Setting}
+use Rattle.answers.proofs.Settings.{lines-more}
 use Rattle.byte_functions.specs.Transcripts.{IsMergedText, IsMergedTranscriptOf, IsTextIn, IsTranscriptIn, IsTranscriptOf, entries_text}
 
 -- there are as many nodes as vertices
@@ -37,24 +37,24 @@ module _ {S M E : Type 0} (program : Program S M E) (net : Net) (capacity : ℕ)
       subst (λ k. Rises (slice_index_or (map (λ node. node.entries) outcome.nodes) k [])) back
       (is.rises refl (suc i) (omega arith, omega (arith, lt, few, same))))
 
-module _ {S M E : Type 0} (program : Program S M E) (payloads : PayloadTexts M) (words : List ℕ) (root : Option Root) (input text : List ℕ)
+module _ {S M E : Type 0} (program : Program S M E) (payloads : PayloadTexts M) (words : List ℕ) (setting : Setting) (input text : List ℕ)
     (net : Net) (capacity : ℕ) (outcome : Outcome S M)
-    (reads : ReadsAs input (OfRooted root (λ read. IsNetwork read × (net ≡ read)))) (is : IsOutcome program net capacity true outcome)
+    (reads : ReadsAs input (OfSet setting (λ read. IsNetwork read × (net ≡ read)))) (is : IsOutcome program net capacity true outcome)
     (whole : is_whole outcome ≡ true) where
   -- what holds of the network that was read
-  read-as : (Q : Net → Type 0) → Q net → ReadsAs input (OfRooted root (λ read. IsNetwork read × Q read))
+  read-as : (Q : Net → Type 0) → Q net → ReadsAs input (OfSet setting (λ read. IsNetwork read × Q read))
   read-as Q is_so =
-      lines-more root (lines_of input) (λ read. IsNetwork read × (net ≡ read)) (λ read. IsNetwork read × Q read)
+      lines-more setting (lines_of input) (λ read. IsNetwork read × (net ≡ read)) (λ read. IsNetwork read × Q read)
       (λ read both. (both.0, subst Q both.1 is_so)) reads
 
-  recorded : text ≡ entries_text payloads (count_of net) outcome.nodes → IsTranscriptIn program payloads words edition.One root input text
+  recorded : text ≡ entries_text payloads (count_of net) outcome.nodes → IsTranscriptIn program payloads words edition.One setting input text
   recorded told =
       let of_net : IsTranscriptOf program payloads net text =
       record { capacity = capacity; outcome = outcome; is_outcome = is; whole = whole; is_text = told } in
       read-as (λ n. IsTranscriptOf program payloads n text) of_net
 
   merged : IsMergedText payloads words (count_of net) outcome.nodes text → WholeOutcomesReplay program net
-      → IsTranscriptIn program payloads words edition.Two root input text
+      → IsTranscriptIn program payloads words edition.Two setting input text
   merged (rows, merge, told) law =
       let all = subst (λ n. IsMerge n (entries_in outcome) rows) (nodes-count program net capacity true outcome is) merge in
       let played = law capacity outcome is whole rows all in
@@ -73,6 +73,6 @@ module _ {S M E : Type 0} (program : Program S M E) (payloads : PayloadTexts M) 
 
   -- the text in an edition is the answer
   pub answered : (edition : Edition) → WholeOutcomesReplay program net → IsTextIn payloads words edition (count_of net) outcome.nodes text
-      → IsTranscriptIn program payloads words edition root input text
+      → IsTranscriptIn program payloads words edition setting input text
   answered edition.One law told = recorded told
   answered edition.Two law told = merged told law

@@ -1,6 +1,6 @@
 -- The plan and the faults of a run of workers.
 use Rattle.std.proofs.Common.{◌≡◌, ◌≢◌, Bool, ℕ, suc, ◌-◌, ◌<◌, ◌≤◌, List, map, length, get_or, refl, sym, ap, ◌∙◌, arith, ⊎_elim, inl, inr}
-use Rattle.std.specs.Prelude.{◌⊎◌, Option}
+use Rattle.std.specs.Prelude.{◌⊎◌}
 use Rattle.std.proofs.lemmas.Bool.{cases_lt}
 use Rattle.std.proofs.lemmas.List.{get_or-map, length-map, same_lists}
 use Rattle.std.proofs.lemmas.List.FromFn.{get_or-map-range_with_len, length-map-range_with_len, length-range_with_len}
@@ -20,9 +20,9 @@ use Rattle.colour_rules.specs.Program.{colouring}
 use Rattle.colour_laws.specs.Colours.{colours}
 use Rattle.dimacs_col.specs.Lines.{lines_of}
 use Rattle.answers.specs.Answers.{IsPlainAnswer, ReadsAs}
-use Rattle.answers.specs.Roots.{OfRooted}
-use Rattle.answers.specs.declared.root.Root.{Root}
-use Rattle.answers.proofs.Rooted.{lines-more}
+use Rattle.answers.specs.Settings.{OfSet}
+use Rattle.answers.specs.declared.setting.Setting.{Setting}
+use Rattle.answers.proofs.Settings.{lines-more}
 use Rattle.answers.proofs.Plain.{plain}
 use Rattle.byte_functions.specs.Colours.{merged_of}
 use Rattle.byte_functions.specs.Workers.{IsFaultOfPool, IsFaultOfRun, IsFaultOfWorkers}
@@ -65,21 +65,21 @@ without_transcript o transcript is =
     record { some_worker = is.some_worker; workers = is.workers; some_capacity = is.some_capacity; capacity = is.capacity }
 
 -- a network was read, and the fault of its run is that of the input
-only-network : (root : Option Root) (input : List ℕ) (net : Net) → ReadsAs input (OfRooted root (λ read. IsNetwork read × (net ≡ read)))
-    → ReadsAs input (OfRooted root IsNetwork)
-only-network root input net = lines-more root (lines_of input) (λ read. IsNetwork read × (net ≡ read)) (λ read. IsNetwork read) (λ read both. both.0)
+only-network : (setting : Setting) (input : List ℕ) (net : Net) → ReadsAs input (OfSet setting (λ read. IsNetwork read × (net ≡ read)))
+    → ReadsAs input (OfSet setting IsNetwork)
+only-network setting input net = lines-more setting (lines_of input) (λ read. IsNetwork read × (net ≡ read)) (λ read. IsNetwork read) (λ read both. both.0)
 
-pub workers-fault : (root : Option Root) (input : List ℕ) (net : Net) (o : Options) (fault : PlanFault)
-    → ReadsAs input (OfRooted root (λ read. IsNetwork read × (net ≡ read))) → IsFaultOfRun o fault → IsFaultOfWorkers root o input fault
-workers-fault root input net o (plan.Pool fault) read is = (only-network root input net read, is)
-workers-fault root input net o plan.Stopped read is = (only-network root input net read, is)
-workers-fault root input net o (plan.Col fault) read is = absurd is
-workers-fault root input net o (plan.NoRoot v) read is = absurd is
-workers-fault root input net o (plan.Net fault) read is = absurd is
-workers-fault root input net o (plan.Check fault) read is = absurd is
-workers-fault root input net o (plan.Event fault) read is = absurd is
-workers-fault root input net o (plan.Replay fault) read is = absurd is
-workers-fault root input net o plan.Memory read is = absurd is
+pub workers-fault : (setting : Setting) (input : List ℕ) (net : Net) (o : Options) (fault : PlanFault)
+    → ReadsAs input (OfSet setting (λ read. IsNetwork read × (net ≡ read))) → IsFaultOfRun o fault → IsFaultOfWorkers setting o input fault
+workers-fault setting input net o (plan.Pool fault) read is = (only-network setting input net read, is)
+workers-fault setting input net o plan.Stopped read is = (only-network setting input net read, is)
+workers-fault setting input net o (plan.Col fault) read is = absurd is
+workers-fault setting input net o (plan.NoRoot v) read is = absurd is
+workers-fault setting input net o (plan.Net fault) read is = absurd is
+workers-fault setting input net o (plan.Check fault) read is = absurd is
+workers-fault setting input net o (plan.Event fault) read is = absurd is
+workers-fault setting input net o (plan.Replay fault) read is = absurd is
+workers-fault setting input net o plan.Memory read is = absurd is
 
 -- ---- the plan
 abbrev Left : Type 0

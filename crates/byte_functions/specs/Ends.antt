@@ -1,8 +1,8 @@
 -- The text of the last states of a program's nodes.
-use Rattle.std.specs.Prelude.{◌≡◌, ℕ, List, Option, ◌++◌, codes, flat_map}
+use Rattle.std.specs.Prelude.{◌≡◌, ℕ, List, ◌++◌, codes, flat_map}
 use Rattle.answers.specs.Answers.{ReadsAs}
-use Rattle.answers.specs.Roots.{OfRooted}
-use Rattle.answers.specs.declared.root.Root.{Root}
+use Rattle.answers.specs.Settings.{OfSet}
+use Rattle.answers.specs.declared.setting.Setting.{Setting}
 use Rattle.alpha_core.specs.View.{Node}
 use Rattle.gather_laws.specs.Outcome.{Gathered}
 use Rattle.program_texts.specs.Texts.{ProgramTexts}
@@ -29,9 +29,9 @@ abbrev pub ends_text : {S M E : Type 0} → Program S M E → ProgramTexts S →
 ends_text program texts net =
     flat_map (λ v. end_line texts net v (last_pulse_on program net) (last_state program net v)) (vertices net)
 
--- the answer is the text of the last states of the synchronous run on the network that the input describes, with the
--- root that is given, if there is one, and these states are what the program is for
-abbrev pub IsEndsAnswer : {S M E : Type 0} → Program S M E → ProgramTexts S → Option Root → List ℕ → List ℕ → Type 0
-IsEndsAnswer program texts root input answer =
-    ReadsAs input (OfRooted root (λ net. IsNetwork net × (answer ≡ ends_text program texts net)
+-- the answer is the text of the last states of the synchronous run on the network that the input describes, as it is
+-- set, and these states are what the program is for
+abbrev pub IsEndsAnswer : {S M E : Type 0} → Program S M E → ProgramTexts S → Setting → List ℕ → List ℕ → Type 0
+IsEndsAnswer program texts setting input answer =
+    ReadsAs input (OfSet setting (λ net. IsNetwork net × (answer ≡ ends_text program texts net)
     × texts.Solves net (last_state program net)))

@@ -1,5 +1,5 @@
 -- The text of what the nodes of a run of workers did.
-use Rattle.std.specs.Prelude.{◌≡◌, ℕ, true, List, None, Option, codes, flat_map, if◌then◌else◌, length, map}
+use Rattle.std.specs.Prelude.{◌≡◌, ℕ, true, List, codes, flat_map, if◌then◌else◌, length, map}
 use Rattle.interference.specs.Net.{Net, IsNetwork, count_of}
 use Rattle.gather_laws.specs.Outcome.{Gathered, Outcome, IsOutcome, entries_in, is_whole}
 use Rattle.event_machine.specs.State.{State}
@@ -9,8 +9,9 @@ use Rattle.program_texts.specs.Texts.{ProgramTexts}
 use Rattle.transcripts.specs.TranscriptText.{named_edition, stamped_row_text, text_of, transcript_of}
 use Rattle.wire_texts.specs.PayloadTexts.{PayloadTexts}
 use Rattle.answers.specs.Answers.{ReadsAs}
-use Rattle.answers.specs.Roots.{OfRooted}
-use Rattle.answers.specs.declared.root.Root.{Root}
+use Rattle.answers.specs.Settings.{OfSet}
+use Rattle.answers.specs.declared.setting.Setting.{Setting}
+use Rattle.answers.specs.declared.setting.Setting.TheVariants.{AsRead}
 use Rattle.net_core.specs.Whole.{IsWholeReplay}
 use Rattle.run_options.specs.declared.Edition.{Edition}
 use Rattle.run_options.specs.declared.Edition.TheVariants as edition
@@ -67,18 +68,19 @@ module _ {S M E : Type 0} (program : Program S M E) (payloads : PayloadTexts M) 
     pub is_replay : IsWholeReplay program net rows last
     pub is_text : text ≡ text_of words (stamped_row_text payloads) (count_of net) rows
 
-  -- the answer is the transcript of a whole run on the network that the input describes, with the root that is given,
-  -- if there is one: without stamps or with them
-  abbrev pub IsTranscriptIn : List ℕ → Edition → Option Root → List ℕ → List ℕ → Type 0
-  IsTranscriptIn words edition.One root input answer =
-      ReadsAs input (OfRooted root (λ net. IsNetwork net × IsTranscriptOf net answer))
-  IsTranscriptIn words edition.Two root input answer =
-      ReadsAs input (OfRooted root (λ net. IsNetwork net × IsMergedTranscriptOf words net answer))
+  -- the answer is the transcript of a whole run on the network that the input describes, as it is set: without stamps
+  -- or with them
+  abbrev pub IsTranscriptIn : List ℕ → Edition → Setting → List ℕ → List ℕ → Type 0
+  IsTranscriptIn words edition.One setting input answer =
+      ReadsAs input (OfSet setting (λ net. IsNetwork net × IsTranscriptOf net answer))
+  IsTranscriptIn words edition.Two setting input answer =
+      ReadsAs input (OfSet setting (λ net. IsNetwork net × IsMergedTranscriptOf words net answer))
 
-  -- the same, in edition 1 or 2, with no root given
+  -- the same, in edition 1 or 2, of the network as it is read
   abbrev pub IsTranscriptAnswer : Edition → List ℕ → List ℕ → Type 0
-  IsTranscriptAnswer edition input answer = IsTranscriptIn (codes "2") edition None input answer
+  IsTranscriptAnswer edition input answer = IsTranscriptIn (codes "2") edition AsRead input answer
 
   -- the same of a program with texts: its transcript with stamps names it, unless it has edition 2
-  abbrev pub IsProgramTranscript : ProgramTexts S → Edition → Option Root → List ℕ → List ℕ → Type 0
-  IsProgramTranscript texts edition root input answer = IsTranscriptIn (stamped_edition texts) edition root input answer
+  abbrev pub IsProgramTranscript : ProgramTexts S → Edition → Setting → List ℕ → List ℕ → Type 0
+  IsProgramTranscript texts edition setting input answer =
+      IsTranscriptIn (stamped_edition texts) edition setting input answer

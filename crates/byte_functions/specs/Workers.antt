@@ -1,5 +1,5 @@
 -- The faults of runs of worker threads.
-use Rattle.std.specs.Prelude.{ℕ, Bool, List, Option, Result, Ok, Err, if◌then◌else◌}
+use Rattle.std.specs.Prelude.{ℕ, Bool, List, Result, Ok, Err, if◌then◌else◌}
 use Rattle.dimacs_col.specs.Lines.{lines_of}
 use Rattle.dimacs_col.specs.Reading.{IsFault}
 use Rattle.interference.specs.Net.{Net, IsNetwork}
@@ -11,8 +11,8 @@ use Rattle.run_faults.specs.declared.fault.PoolFault.{PoolFault}
 use Rattle.run_faults.specs.declared.fault.PoolFault.TheVariants as pool
 use Rattle.node_api.specs.Program.{Program}
 use Rattle.answers.specs.Answers.{ReadsAs}
-use Rattle.answers.specs.Roots.{LacksRoot, OfRooted}
-use Rattle.answers.specs.declared.root.Root.{Root}
+use Rattle.answers.specs.Settings.{LacksRoot, OfSet}
+use Rattle.answers.specs.declared.setting.Setting.{Setting}
 use Rattle.answers.specs.declared.fault.PlanFault.{PlanFault}
 use Rattle.answers.specs.declared.fault.PlanFault.TheVariants as plan
 
@@ -53,14 +53,14 @@ IsFaultOfRun options plan.Memory = ⊥
 
 -- The fault of an input of `plan`, of `transcript` and of `run`: of the network text, or of the root, or else of the
 -- run.
-abbrev pub IsFaultOfWorkers : Option Root → Options → List ℕ → PlanFault → Type 0
-IsFaultOfWorkers root options input (plan.Col fault) = IsFault (lines_of input) fault
-IsFaultOfWorkers root options input (plan.NoRoot v) = ReadsAs input (LacksRoot root v)
-IsFaultOfWorkers root options input (plan.Net fault) = ReadsAs input (OfRooted root (λ net. IsFaultOf net fault))
-IsFaultOfWorkers root options input (plan.Pool fault) =
-    ReadsAs input (OfRooted root IsNetwork) × IsFaultOfPool options fault
-IsFaultOfWorkers root options input (plan.Check fault) = ⊥
-IsFaultOfWorkers root options input (plan.Event fault) = ⊥
-IsFaultOfWorkers root options input (plan.Replay fault) = ⊥
-IsFaultOfWorkers root options input plan.Stopped = ReadsAs input (OfRooted root IsNetwork) × AreInRange options
-IsFaultOfWorkers root options input plan.Memory = Unit {0}
+abbrev pub IsFaultOfWorkers : Setting → Options → List ℕ → PlanFault → Type 0
+IsFaultOfWorkers setting options input (plan.Col fault) = IsFault (lines_of input) fault
+IsFaultOfWorkers setting options input (plan.NoRoot v) = ReadsAs input (LacksRoot setting v)
+IsFaultOfWorkers setting options input (plan.Net fault) = ReadsAs input (OfSet setting (λ net. IsFaultOf net fault))
+IsFaultOfWorkers setting options input (plan.Pool fault) =
+    ReadsAs input (OfSet setting IsNetwork) × IsFaultOfPool options fault
+IsFaultOfWorkers setting options input (plan.Check fault) = ⊥
+IsFaultOfWorkers setting options input (plan.Event fault) = ⊥
+IsFaultOfWorkers setting options input (plan.Replay fault) = ⊥
+IsFaultOfWorkers setting options input plan.Stopped = ReadsAs input (OfSet setting IsNetwork) × AreInRange options
+IsFaultOfWorkers setting options input plan.Memory = Unit {0}

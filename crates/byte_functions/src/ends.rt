@@ -9,7 +9,7 @@ ghost use Rattle.byte_functions.specs.Workers.{IsFaultOfWorkers};
 
 use crate::workers::whole_run;
 use actor::Gate;
-use answers::{PlanFault, Root, network_of_text};
+use answers::{PlanFault, Setting, network_of_text};
 use gather_laws::laws::whole_outcomes_have_ended;
 use interference::{Memory, Network};
 use node_api::Refused;
@@ -58,8 +58,8 @@ fn text_of_ends<P: ProgramText>(
 
 /// The last state of each node of a program on the network that a DIMACS text describes, as text: a line for each
 /// vertex, with its last pulse and its result. The nodes run asynchronously, on worker threads with links between them,
-/// and end as in the synchronous run, whatever the threads do. The run has no transcript, whatever the options say. If
-/// a root is given, the network is that with this root.
+/// and end as in the synchronous run, whatever the threads do. The run has no transcript, whatever the options say. The
+/// network is as `setting` says.
 ///
 /// It is not promised that the call returns, nor that any number of looks is enough.
 ///
@@ -69,17 +69,17 @@ pub fn run_bytes<P: ProgramText, G: Gate + Sync, R: Threads + Wait + Sync>(
     rt: &R,
     alloc: Global,
     input: &[u8],
-    root: Option<Root>,
+    setting: Setting,
     options: Options,
     gate: &G,
 ) -> Result<Vec<u8>, PlanFault>
-    ensures ok { IfOk result (λ text. IsEndsAnswer P.program P.texts root input.now text.items) }
+    ensures ok { IfOk result (λ text. IsEndsAnswer P.program P.texts setting input.now text.items) }
     ensures in_range { IfOk result (λ _. AreInRange options) }
-    ensures fault { IfErr result (IsFaultOfWorkers root options input.now) }
+    ensures fault { IfErr result (IsFaultOfWorkers setting options input.now) }
 {
     whole_outcomes_have_ended::<P, P::Payload, Refused>();
     P::rounds_solve();
-    let network = network_of_text(alloc, input, root)?;
+    let network = network_of_text(alloc, input, setting)?;
     let outcome = whole_run::<P, G, R>(rt, alloc, &network, options, false, gate)?;
     Ok(text_of_ends(alloc, &network, outcome.actors())?)
 }

@@ -1,6 +1,6 @@
 //! The transcript of a run of worker threads.
 
-ghost use Rattle.std.specs.Prelude.{◌≡◌, All, IfOk, IfErr, None, length, map};
+ghost use Rattle.std.specs.Prelude.{◌≡◌, All, IfOk, IfErr, length, map};
 ghost use Rattle.colour_rules.specs.Program.{colouring};
 ghost use Rattle.run_options.specs.Ranges.{AreInRange};
 ghost use Rattle.outcomes.specs.Gathers.{gathered_of};
@@ -14,7 +14,7 @@ ghost use Rattle.byte_functions.specs.Workers.{IsFaultOfWorkers};
 use crate::merged::merged_text;
 use crate::workers::whole_run;
 use actor::Gate;
-use answers::{PlanFault, Root, network_of_text};
+use answers::{PlanFault, Setting, network_of_text};
 use colour_program::Colouring;
 use gather_laws::laws::whole_outcomes_replay;
 use interference::Memory;
@@ -69,8 +69,8 @@ fn text_in<P: ProgramText>(
 /// until its last pulse. In edition 1 it has the entries of each node in its own order, vertex by vertex; in edition 2
 /// all entries in the order of their stamps and then of their vertices, which is a run that `replay_bytes` accepts. If
 /// the program is named, the latter has edition 3, with the name in its first line. The run is as in `plan_bytes`, but
-/// has a transcript, whatever the options say. If a root is given, the network is that with this root. With more than
-/// one worker two calls may give different transcripts.
+/// has a transcript, whatever the options say. The network is as `setting` says. With more than one worker two calls
+/// may give different transcripts.
 ///
 /// It is not promised that the call returns, nor that any number of looks is enough.
 ///
@@ -80,18 +80,18 @@ pub fn run_transcript_bytes<P: ProgramText, G: Gate + Sync, R: Threads + Wait + 
     rt: &R,
     alloc: Global,
     input: &[u8],
-    root: Option<Root>,
+    setting: Setting,
     options: Options,
     edition: Edition,
     gate: &G,
 ) -> Result<Vec<u8>, PlanFault>
     ensures ok { IfOk result (λ text. IsProgramTranscript P.program (payload_texts P.Payload.PayloadText.own) P.texts
-        edition root input.now text.items) }
+        edition setting input.now text.items) }
     ensures in_range { IfOk result (λ _. AreInRange options) }
-    ensures fault { IfErr result (IsFaultOfWorkers root options input.now) }
+    ensures fault { IfErr result (IsFaultOfWorkers setting options input.now) }
 {
     whole_outcomes_replay::<P, P::Payload, Refused>();
-    let network = network_of_text(alloc, input, root)?;
+    let network = network_of_text(alloc, input, setting)?;
     let outcome = whole_run::<P, G, R>(rt, alloc, &network, options, true, gate)?;
     let count = network.nodes();
     // The text takes the room of what it doesn't speak of any more.
@@ -113,7 +113,15 @@ pub fn transcript_bytes<G: Gate + Sync, R: Threads + Wait + Sync>(
 ) -> Result<Vec<u8>, PlanFault>
     ensures ok { IfOk result (λ text. IsTranscriptAnswer colouring colouring_payloads edition input.now text.items) }
     ensures in_range { IfOk result (λ _. AreInRange options) }
-    ensures fault { IfErr result (IsFaultOfWorkers None options input.now) }
+    ensures fault { IfErr result (IsFaultOfWorkers Setting.AsRead options input.now) }
 {
-    run_transcript_bytes::<Colouring, G, R>(rt, alloc, input, None, options, edition, gate)
+    run_transcript_bytes::<Colouring, G, R>(
+        rt,
+        alloc,
+        input,
+        Setting::AsRead,
+        options,
+        edition,
+        gate,
+    )
 }

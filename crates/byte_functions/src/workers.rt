@@ -1,6 +1,6 @@
 //! Runs of worker threads, and the channel plan that they find.
 
-ghost use Rattle.std.specs.Prelude.{◌≡◌, None, true, IfOk, IfErr};
+ghost use Rattle.std.specs.Prelude.{◌≡◌, true, IfOk, IfErr};
 ghost use Rattle.run_options.specs.Ranges.{AreInRange};
 ghost use Rattle.gather_laws.specs.Outcome.{IsOutcome, is_whole};
 ghost use Rattle.answers.specs.Answers.{IsPlainAnswer};
@@ -8,7 +8,7 @@ ghost use Rattle.byte_functions.specs.Workers.{IsFaultOfRun, IsFaultOfWorkers, M
 
 use crate::plan_text::text_of_nodes;
 use actor::Gate;
-use answers::{PlanFault, network_of_text};
+use answers::{PlanFault, Setting, network_of_text};
 use async_colour_laws::laws::halted_nodes_are_coloured;
 use colour_laws::laws::colours_are_proper;
 use colour_program::Colouring;
@@ -90,12 +90,12 @@ pub fn plan_bytes<G: Gate + Sync, R: Threads + Wait + Sync>(
 ) -> Result<Vec<u8>, PlanFault>
     ensures ok { IfOk result (λ text. IsPlainAnswer input.now text.items) }
     ensures in_range { IfOk result (λ _. AreInRange options) }
-    ensures fault { IfErr result (IsFaultOfWorkers None options input.now) }
+    ensures fault { IfErr result (IsFaultOfWorkers Setting.AsRead options input.now) }
 {
     colours_are_proper();
     whole_outcomes_are_complete::<Colouring, Payload, Refused>();
     halted_nodes_are_coloured();
-    let network = network_of_text(alloc, input, None)?;
+    let network = network_of_text(alloc, input, Setting::AsRead)?;
     let outcome = whole_run::<Colouring, G, R>(rt, alloc, &network, options, false, gate)?;
     Ok(text_of_nodes(alloc, outcome.actors())?)
 }

@@ -1,6 +1,6 @@
 -- The options that say what the nodes of a command run, and the one that asks for a transcript, in clap's own words,
 -- and what they read from the rows of a command.
-use Rattle.std.specs.Prelude.{◌≡◌, ◌==◌, ◌^◌, ℕ, List, [], ◌∷◌, Option, Some, None, if◌then◌else◌, codes}
+use Rattle.std.specs.Prelude.{◌≡◌, ◌-◌, ◌^◌, ◌&&◌, ℕ, List, [], ◌∷◌, Option, Some, None, if◌then◌else◌, codes, nat_le}
 use Rattle.std.specs.Prelude.{option_and_then, option_map}
 use Rattle.std.specs.Str.{bytes_eq}
 use Rattle.clap.specs.Words.{App, Row, Rule, Text, first_of, new_rule, with_rule}
@@ -11,8 +11,6 @@ use Rattle.command_line.specs.RunOptions.{number_of}
 use Rattle.command_line.specs.declared.programs.NodeProgramName.{NodeProgramName}
 use Rattle.command_line.specs.declared.programs.NodeProgramName.TheVariants.{Colouring, IndependentSet, Layers, Leader}
 use Rattle.command_line.specs.declared.programs.NodeProgramName.TheVariants.{Matching, Recolouring}
-use Rattle.command_line.specs.declared.programs.Passes.{Passes}
-use Rattle.command_line.specs.declared.programs.Passes.TheVariants as passes
 use Rattle.command_line.specs.declared.programs.Shown.{Shown}
 use Rattle.command_line.specs.declared.programs.Shown.TheVariants as shown
 use Rattle.command_line.specs.declared.programs.TheConstants.{MAX_PASSES}
@@ -72,7 +70,7 @@ program_with word =
     else if bytes_eq word (codes "layers") then Some (Layers None)
     else if bytes_eq word (codes "matching") then Some Matching
     else if bytes_eq word (codes "independent-set") then Some IndependentSet
-    else if bytes_eq word (codes "recolouring") then Some (Recolouring passes.One)
+    else if bytes_eq word (codes "recolouring") then Some (Recolouring 0)
     else None
 
 -- the root that a command is given, if it is given one
@@ -97,23 +95,14 @@ rooted_of rows = option_and_then (rooted_program_with (root_of rows)) (first_of 
 abbrev pub passes_of : List Row → Option ℕ
 passes_of rows = number_of (2 ^ 32) (codes "passes") rows
 
--- as many passes
-abbrev pub passes_with : ℕ → Option Passes
-passes_with number =
-    if number == 1 then Some passes.One
-    else if number == 2 then Some passes.Two
-    else if number == 3 then Some passes.Three
-    else if number == 4 then Some passes.Four
-    else if number == 5 then Some passes.Five
-    else if number == 6 then Some passes.Six
-    else if number == 7 then Some passes.Seven
-    else if number == 8 then Some passes.Eight
-    else None
+-- how many passes more than one these are, if the option takes as many
+abbrev pub again_for : ℕ → Option ℕ
+again_for passes = if nat_le 1 passes && nat_le passes MAX_PASSES then Some (passes - 1) else None
 
 -- a program with the passes that are given, if they are; only the recolouring takes them
 abbrev pub passed_program : Option ℕ → NodeProgramName → Option NodeProgramName
 passed_program None program = Some program
-passed_program (Some number) (Recolouring before) = option_map Recolouring (passes_with number)
+passed_program (Some number) (Recolouring before) = option_map Recolouring (again_for number)
 passed_program (Some number) _ = None
 
 -- the program that a word names, with the root and the passes that are given

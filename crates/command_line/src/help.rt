@@ -241,7 +241,7 @@ pub const PROGRAM: &'static str = "The nodes' program: see `forestplay --help`";
 
 pub const ROOT: &'static str = "The node that is the root of layers";
 
-pub const PASSES: &'static str = "How often recolouring chooses anew, 1 to 8; else once";
+pub const PASSES: &'static str = "How often recolouring chooses anew, 1 to 64; else once";
 
 pub const SHOW_TRANSCRIPT: &'static str = "Print the transcript, not the last states";
 
@@ -307,7 +307,7 @@ With --program NAME the nodes of any command run another program:
   recolouring      finds the channels of colouring; then they choose anew, the
                    greatest first, and mostly fewer are left, and never more,
                    also if channels are barred; with --passes N they do so N
-                   times, 1 to 8, in other orders, without --passes once",
+                   times, 1 to 64, in other orders, without --passes once",
     format: "The graph is read as forestplan reads it, with the same faults, reported as
 `forestplay: F6 line 2`: see `forestplan --help`. If --root V is given and the graph
 has fewer nodes, it is reported as `forestplay: NoRoot vertex V`.

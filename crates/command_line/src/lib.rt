@@ -34,5 +34,5 @@ mod request;
 pub use declined::Declined;
 pub use executable::Executable;
 pub use play_request::{Play, PlayRequest, parse_play};
-pub use programs::{MAX_PASSES, NodeProgramName, Passes, Shown};
+pub use programs::{MAX_PASSES, NodeProgramName, Shown};
 pub use request::{Request, parse};

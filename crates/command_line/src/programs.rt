@@ -1,9 +1,9 @@
 //! The programs of nodes that a command can run, in `clap`'s builders and as what its words name.
 
-ghost use Rattle.std.specs.Prelude.{◌≡◌, ◌≤◌, [], IfOk, IsSome, codes, false, is_some, option_map, unwrap_or};
+ghost use Rattle.std.specs.Prelude.{◌≡◌, [], IfOk, codes, false, is_some, option_map, unwrap_or};
 ghost use Rattle.clap.specs.Words.{app_of, first_of, found_of, rows_of, rule_of};
 ghost use Rattle.command_line.specs.Line.{IsLocal};
-ghost use Rattle.command_line.specs.NodePrograms.{passed_program, passes_of, passes_rule, passes_with, program_of};
+ghost use Rattle.command_line.specs.NodePrograms.{again_for, passed_program, passes_of, passes_rule, program_of};
 ghost use Rattle.command_line.specs.NodePrograms.{program_rule, program_with, root_of, root_rule, rooted_of};
 ghost use Rattle.command_line.specs.NodePrograms.{rooted_program, shown_of, transcript_rule, with_passes, with_program};
 ghost use Rattle.command_line.specs.NodePrograms.{with_root, with_transcript};
@@ -16,22 +16,9 @@ use graph_limits::MAX_NODES;
 use std::alloc::{AllocError, Global};
 
 /// The most passes of the recolouring.
-pub const MAX_PASSES: u32 = 8;
+pub const MAX_PASSES: u32 = 64;
 
-const _: () = prove!(MAX_PASSES == 8);
-
-/// How often the classes of a plan choose anew: once, twice, and so on.
-#[derive(Clone, Copy, Debug, PartialEq, Eq)]
-pub enum Passes {
-    One,
-    Two,
-    Three,
-    Four,
-    Five,
-    Six,
-    Seven,
-    Eight,
-}
+const _: () = prove!(MAX_PASSES == 64);
 
 /// The name of a program of nodes.
 #[derive(Clone, Copy, Debug, PartialEq, Eq)]
@@ -46,8 +33,8 @@ pub enum NodeProgramName {
     Matching,
     /// Each node finds whether it is in a maximal independent set.
     IndependentSet,
-    /// Each node finds its channel, and then chooses anew, in as many passes.
-    Recolouring(Passes),
+    /// Each node finds its channel, and then chooses anew, in a pass and as many more.
+    Recolouring(u8),
 }
 
 /// What a run of nodes prints.
@@ -171,7 +158,7 @@ fn program_with(word: &str) -> Option<NodeProgramName>
         "layers" => Some(NodeProgramName::Layers(None)),
         "matching" => Some(NodeProgramName::Matching),
         "independent-set" => Some(NodeProgramName::IndependentSet),
-        "recolouring" => Some(NodeProgramName::Recolouring(Passes::One)),
+        "recolouring" => Some(NodeProgramName::Recolouring(0)),
         _ => None,
     }
 }
@@ -212,21 +199,14 @@ fn passes_of(matches: &ArgMatches<'_>) -> Option<u32>
     small_number(matches, "passes")
 }
 
-// As many passes. Each number that the option takes is one of passes.
-fn passes_with(number: u32) -> Option<Passes>
-    ensures passes { result ≡ passes_with number }
-    ensures taken { 1 ≤ number → number ≤ MAX_PASSES → IsSome result }
+// How many passes more than one these are, if they are 1 to 64.
+fn again_for(passes: u32) -> Option<u8>
+    ensures { result ≡ again_for passes }
 {
-    match number {
-        1 => Some(Passes::One),
-        2 => Some(Passes::Two),
-        3 => Some(Passes::Three),
-        4 => Some(Passes::Four),
-        5 => Some(Passes::Five),
-        6 => Some(Passes::Six),
-        7 => Some(Passes::Seven),
-        8 => Some(Passes::Eight),
-        _ => None,
+    if 1 <= passes && passes <= MAX_PASSES {
+        Some((passes - 1) as u8)
+    } else {
+        None
     }
 }
 
@@ -237,7 +217,7 @@ fn passed_program(passes: Option<u32>, program: NodeProgramName) -> Option<NodeP
     match (passes, program) {
         (None, program) => Some(program),
         (Some(number), NodeProgramName::Recolouring(_)) => {
-            Some(NodeProgramName::Recolouring(passes_with(number)?))
+            Some(NodeProgramName::Recolouring(again_for(number)?))
         }
         (Some(_), _) => None,
     }

@@ -1,13 +1,13 @@
 -- The lines of nodes that have ended are those of the last states of the synchronous run.
-use Rattle.std.proofs.Common.{◌≡◌, ◌∙◌, ℕ, suc, ◌+◌, ◌<◌, List, Option, ap, arith, flat_map, get_or, length, map, sym}
+use Rattle.std.proofs.Common.{◌≡◌, ◌∙◌, ℕ, suc, ◌+◌, ◌<◌, List, ap, arith, flat_map, get_or, length, map, sym}
 use Rattle.std.proofs.lemmas.List.{same_lists}
 use Rattle.std.proofs.lemmas.List.Folds.{flat_map-map}
 use Rattle.std.proofs.lemmas.List.FromFn.{get_or-map-range_with_len, length-map-range_with_len}
 use Rattle.dimacs_col.specs.Lines.{lines_of}
 use Rattle.answers.specs.Answers.{ReadsAs}
-use Rattle.answers.specs.Roots.{OfRooted}
-use Rattle.answers.specs.declared.root.Root.{Root}
-use Rattle.answers.proofs.Rooted.{lines-more}
+use Rattle.answers.specs.Settings.{OfSet}
+use Rattle.answers.specs.declared.setting.Setting.{Setting}
+use Rattle.answers.proofs.Settings.{lines-more}
 use Rattle.program_texts.specs.Texts.{ProgramTexts}
 use Rattle.interference.specs.Net.{Net, IsNetwork, IsVertex, count_of, vertices}
 use Rattle.node_api.specs.Program.{Program, last_pulse_on}
@@ -41,10 +41,10 @@ module _ {S M E : Type 0} (program : Program S M E) (texts : ProgramTexts S) (ne
       (length-map-range_with_len left 1 n ∙ sym (length-map-range_with_len line_of 1 n)) line_at in
       sym (flat_map-map (λ line. line) left (vertices net)) ∙ ap (flat_map (λ line. line)) lines ∙ flat_map-map (λ line. line) line_of (vertices net)
 
-  pub ends-answer : (root : Option Root) (input text : List ℕ) → ReadsAs input (OfRooted root (λ read. IsNetwork read × (net ≡ read)))
+  pub ends-answer : (setting : Setting) (input text : List ℕ) → ReadsAs input (OfSet setting (λ read. IsNetwork read × (net ≡ read)))
       → text ≡ flat_map left (vertices net)
-      → ((net : Net) → IsNetwork net → texts.Solves net (last_state program net)) → IsEndsAnswer program texts root input text
-  ends-answer root input text reads told solves =
-      lines-more root (lines_of input) (λ read. IsNetwork read × (net ≡ read))
+      → ((net : Net) → IsNetwork net → texts.Solves net (last_state program net)) → IsEndsAnswer program texts setting input text
+  ends-answer setting input text reads told solves =
+      lines-more setting (lines_of input) (λ read. IsNetwork read × (net ≡ read))
       (λ read. IsNetwork read × (text ≡ ends_text program texts read) × texts.Solves read (last_state program read))
       (λ read both. (both.0, told ∙ ends-are ∙ ap (ends_text program texts) both.1, solves read both.0)) reads

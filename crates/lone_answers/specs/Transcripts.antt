@@ -1,5 +1,5 @@
 -- The transcript of a run on one thread.
-use Rattle.std.specs.Prelude.{◌≡◌, ℕ, List, Option}
+use Rattle.std.specs.Prelude.{◌≡◌, ℕ, List}
 use Rattle.interference.specs.Net.{Net, IsNetwork, count_of}
 use Rattle.node_api.specs.Program.{Program}
 use Rattle.entries.specs.declared.rows.StampedRow.{StampedRow}
@@ -9,8 +9,8 @@ use Rattle.program_texts.specs.Texts.{ProgramTexts}
 use Rattle.transcripts.specs.TranscriptText.{stamped_row_text, text_of}
 use Rattle.wire_texts.specs.PayloadTexts.{PayloadTexts}
 use Rattle.answers.specs.Answers.{ReadsAs}
-use Rattle.answers.specs.Roots.{OfRooted}
-use Rattle.answers.specs.declared.root.Root.{Root}
+use Rattle.answers.specs.Settings.{OfSet}
+use Rattle.answers.specs.declared.setting.Setting.{Setting}
 use Rattle.byte_functions.specs.Transcripts.{stamped_edition}
 
 -- The text has these words of its edition, and rows that are a whole replay: the event machine plays them in their
@@ -23,10 +23,10 @@ pub record IsRecordText {S M E : Type 0} (program : Program S M E) (payloads : P
   pub is_replay : IsWholeReplay program net rows last
   pub is_text : text ≡ text_of words (stamped_row_text payloads) (count_of net) rows
 
--- the answer is the transcript of a whole run on the network that the input describes, with the root that is given, if
--- there is one; with stamps, and with the program's name if it is named
-abbrev pub IsLoneTranscript : {S M E : Type 0} → Program S M E → ProgramTexts S → PayloadTexts M → Option Root → List ℕ
+-- the answer is the transcript of a whole run on the network that the input describes, as it is set; with stamps, and
+-- with the program's name if it is named
+abbrev pub IsLoneTranscript : {S M E : Type 0} → Program S M E → ProgramTexts S → PayloadTexts M → Setting → List ℕ
     → List ℕ → Type 0
-IsLoneTranscript program texts payloads root input answer =
+IsLoneTranscript program texts payloads setting input answer =
     ReadsAs input
-    (OfRooted root (λ net. IsNetwork net × IsRecordText program payloads (stamped_edition texts) net answer))
+    (OfSet setting (λ net. IsNetwork net × IsRecordText program payloads (stamped_edition texts) net answer))

@@ -6,7 +6,7 @@ ghost use Rattle.node_api.specs.Run.{last_states};
 ghost use Rattle.answers.specs.Answers.{IsFaultOfText};
 ghost use Rattle.byte_functions.specs.Ends.{IsEndsAnswer, end_line, ends_text};
 
-use answers::{PlanFault, Root, network_of_text};
+use answers::{PlanFault, Setting, network_of_text};
 use interference::{Memory, Network};
 use number_rows::push_numbered;
 use program_texts::ProgramText;
@@ -50,20 +50,20 @@ fn text_of_states<P: ProgramText>(
 
 /// The last state of each node of a program on the network that a DIMACS text describes, as text: a line for each
 /// vertex, with its last pulse and its result, as `run_bytes` of `byte_functions` gives it. The nodes run in rounds, on
-/// this thread. If a root is given, the network is that with this root. The call returns.
+/// this thread. The network is as `setting` says. The call returns.
 ///
 /// # Errors
 /// As of `network_of_text`, or `Memory`.
 pub fn ends_bytes<P: ProgramText>(
     alloc: Global,
     input: &[u8],
-    root: Option<Root>,
+    setting: Setting,
 ) -> Result<Vec<u8>, PlanFault>
-    ensures ok { IfOk result (λ text. IsEndsAnswer P.program P.texts root input.now text.items) }
-    ensures fault { IfErr result (IsFaultOfText root input.now) }
+    ensures ok { IfOk result (λ text. IsEndsAnswer P.program P.texts setting input.now text.items) }
+    ensures fault { IfErr result (IsFaultOfText setting input.now) }
 {
     P::rounds_solve();
-    let network = network_of_text(alloc, input, root)?;
+    let network = network_of_text(alloc, input, setting)?;
     let nodes = run_rounds::<P>(alloc, &network)?;
     Ok(text_of_states(alloc, &network, nodes.as_slice())?)
 }

@@ -4,7 +4,7 @@
 //!
 //! ```
 //! let text = b"p edge 2 1\ne 1 2\n";
-//! let ends = ends_bytes::<Leader>(alloc, text, None)?;
+//! let ends = ends_bytes::<Leader>(alloc, text, Setting::AsRead)?;
 //! // "node 1 pulse 2 leader 2", "node 2 pulse 2 leader 2 elected", a line each; and so says `alone_bytes`
 //! ```
 //!

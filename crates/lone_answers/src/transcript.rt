@@ -7,7 +7,7 @@ ghost use Rattle.answers.specs.Answers.{IsFaultOfText};
 ghost use Rattle.byte_functions.specs.Transcripts.{stamped_edition};
 ghost use Rattle.lone_answers.specs.Transcripts.{IsLoneTranscript};
 
-use answers::{PlanFault, Root, network_of_text};
+use answers::{PlanFault, Setting, network_of_text};
 use entries::StampedRow;
 use interference::Memory;
 use lone_runs::record_alone;
@@ -45,21 +45,21 @@ fn text_of_rows<P: ProgramText>(
 
 /// The transcript of a run of a program, on this thread, on the network that a DIMACS text describes: what each node
 /// put, took and did until its last pulse, in the order of the stamps and then of the vertices. It has edition 2, or 3
-/// if the program is named, and `replay_bytes` of `answers` accepts it. If a root is given, the network is that with
-/// this root. The call returns, and two calls give the same transcript.
+/// if the program is named, and `replay_bytes` of `answers` accepts it. The network is as `setting` says.
+/// The call returns, and two calls give the same transcript.
 ///
 /// # Errors
 /// As of `alone_bytes`.
 pub fn alone_transcript_bytes<P: ProgramText>(
     alloc: Global,
     input: &[u8],
-    root: Option<Root>,
+    setting: Setting,
 ) -> Result<Vec<u8>, PlanFault>
     ensures ok { IfOk result (λ text. IsLoneTranscript P.program P.texts (payload_texts P.Payload.PayloadText.own)
-        root input.now text.items) }
-    ensures fault { IfErr result (IsFaultOfText root input.now) }
+        setting input.now text.items) }
+    ensures fault { IfErr result (IsFaultOfText setting input.now) }
 {
-    let network = network_of_text(alloc, input, root)?;
+    let network = network_of_text(alloc, input, setting)?;
     let rows = record_alone::<P>(alloc, &network)?;
     Ok(text_of_rows::<P>(alloc, network.nodes(), rows.as_slice())?)
 }

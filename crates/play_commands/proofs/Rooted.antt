@@ -1,5 +1,5 @@
 -- What nodes with a given root answer, if their last states are for more than the program's texts say.
-use Rattle.std.proofs.Common.{ℕ, List, Some, Result, Ok, Err}
+use Rattle.std.proofs.Common.{ℕ, List, Result, Ok, Err}
 use Rattle.interference.specs.Net.{Net, IsNetwork, IsVertex}
 use Rattle.node_api.specs.Program.{Program}
 use Rattle.node_api.specs.Run.{last_state}
@@ -10,7 +10,8 @@ use Rattle.command_line.specs.declared.play_request.Play.{Play}
 use Rattle.command_line.specs.declared.play_request.Play.TheVariants.{Alone, Ends, Events, Replay, Rounds, Run}
 use Rattle.answers.specs.Roots.{rooted}
 use Rattle.answers.specs.declared.fault.PlanFault.{PlanFault}
-use Rattle.answers.specs.declared.root.Root.{Root}
+use Rattle.answers.specs.declared.setting.Root.{Root}
+use Rattle.answers.specs.declared.setting.Setting.TheVariants.{Rooted}
 use Rattle.play_commands.specs.Plays.{IsGoodPlay, MayPlay}
 
 module _ {S M E : Type 0} (program : Program S M E) (texts : ProgramTexts S) (payloads : PayloadTexts M) (root : Root)
@@ -20,8 +21,8 @@ module _ {S M E : Type 0} (program : Program S M E) (texts : ProgramTexts S) (pa
   abbrev other : ProgramTexts S
   other = record texts { Solves = Solves }
 
-  good : (play : Play) (input answer : List ℕ) → IsGoodPlay program texts payloads (Some root) play input answer
-      → IsGoodPlay program other payloads (Some root) play input answer
+  good : (play : Play) (input answer : List ℕ) → IsGoodPlay program texts payloads (Rooted root) play input answer
+      → IsGoodPlay program other payloads (Rooted root) play input answer
   good Events input answer (graph, reads, (vertex, (ok, reached, solves))) = (graph, reads, (vertex, (ok, reached, solved _ vertex ok)))
   good Replay input answer (graph, reads, (vertex, (ok, reached, solves, named))) =
       (graph, reads, (vertex, (ok, reached, solved _ vertex ok, named)))
@@ -34,8 +35,8 @@ module _ {S M E : Type 0} (program : Program S M E) (texts : ProgramTexts S) (pa
   good Ends input answer (graph, reads, (vertex, (ok, is, solves))) = (graph, reads, (vertex, (ok, is, solved _ vertex ok)))
 
   pub plays : (play : Play) (input : List ℕ) (result : Result (List ℕ) PlanFault)
-      → MayPlay program texts payloads (Some root) play input result
-      → MayPlay program other payloads (Some root) play input result
+      → MayPlay program texts payloads (Rooted root) play input result
+      → MayPlay program other payloads (Rooted root) play input result
   plays play input (Ok answer) may = good play input answer may
   plays Events input (Err fault) may = may
   plays Replay input (Err fault) may = may

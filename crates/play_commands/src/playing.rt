@@ -1,18 +1,18 @@
 //! What nodes of a program do with the bytes of an input.
 
-ghost use Rattle.std.specs.Prelude.{IfOk, IfErr, Ok, Err, Some};
+ghost use Rattle.std.specs.Prelude.{IfOk, IfErr, Ok, Err};
 ghost use Rattle.command_line.specs.Asked.{IsPlayInRange};
 ghost use Rattle.layers.specs.Layering.{layering};
 ghost use Rattle.layers.specs.Texts.{layers_texts_from};
 ghost use Rattle.wire_texts.specs.PayloadTexts.{payload_texts};
 ghost use Rattle.play_commands.specs.Payloads.{layers_payloads};
-ghost use Rattle.play_commands.specs.Plays.{MayPass, MayPlay, MayPlayNamed, MayRecolour, layers_root};
+ghost use Rattle.play_commands.specs.Plays.{MayPlay, MayPlayNamed, layers_root};
 
 use actor::OpenGate;
-use answers::{PlanFault, Root, events_bytes, replay_bytes, rounds_bytes};
+use answers::{PlanFault, Root, Setting, events_bytes, replay_bytes, rounds_bytes};
 use byte_functions::{run_bytes, run_transcript_bytes};
 use colour_program::Colouring;
-use command_line::{NodeProgramName, Passes, Play, Shown};
+use command_line::{NodeProgramName, Play, Shown};
 use independent_set::IndependentSet;
 use layers::laws::rounds_end_with_the_distances_from_a_root;
 use layers::{Layers, ROOT_ID};
@@ -26,40 +26,40 @@ use std::alloc::Global;
 use std::sync::Wait;
 use std::thread::Threads;
 
-// What nodes of a program answer to an input, with the root that is given, if there is one; each that they may be asked
-// for is a line. `Run` starts threads.
+// What nodes of a program answer to an input, whose network is as `setting` says; each that they may be asked for is a
+// line. `Run` starts threads.
 fn play_bytes<P: ProgramText, T: Threads + Wait + Sync>(
     rt: &T,
     alloc: Global,
-    root: Option<Root>,
+    setting: Setting,
     play: Play,
     input: &[u8],
 ) -> Result<Vec<u8>, PlanFault>
     requires in_range { IsPlayInRange play }
-    ensures ok { IfOk result (λ bytes. MayPlay P.program P.texts (payload_texts P.Payload.PayloadText.own) root play
-        input.now (Ok bytes.items)) }
-    ensures fault { IfErr result (λ fault. MayPlay P.program P.texts (payload_texts P.Payload.PayloadText.own) root play
-        input.now (Err fault)) }
+    ensures ok { IfOk result (λ bytes. MayPlay P.program P.texts (payload_texts P.Payload.PayloadText.own) setting
+        play input.now (Ok bytes.items)) }
+    ensures fault { IfErr result (λ fault. MayPlay P.program P.texts (payload_texts P.Payload.PayloadText.own) setting
+        play input.now (Err fault)) }
 {
     match play {
-        Play::Events => events_bytes::<P>(alloc, input, root),
-        Play::Replay => replay_bytes::<P>(alloc, input, root),
-        Play::Rounds => rounds_bytes::<P>(alloc, input, root),
+        Play::Events => events_bytes::<P>(alloc, input, setting),
+        Play::Replay => replay_bytes::<P>(alloc, input, setting),
+        Play::Rounds => rounds_bytes::<P>(alloc, input, setting),
         Play::Run(options, Shown::States) => {
-            run_bytes::<P, OpenGate, T>(rt, alloc, input, root, options, &OpenGate)
+            run_bytes::<P, OpenGate, T>(rt, alloc, input, setting, options, &OpenGate)
         }
         Play::Run(options, Shown::Transcript) => run_transcript_bytes::<P, OpenGate, T>(
             rt,
             alloc,
             input,
-            root,
+            setting,
             options,
             Edition::Two,
             &OpenGate,
         ),
-        Play::Alone(Shown::States) => alone_bytes::<P>(alloc, input, root),
-        Play::Alone(Shown::Transcript) => alone_transcript_bytes::<P>(alloc, input, root),
-        Play::Ends => ends_bytes::<P>(alloc, input, root),
+        Play::Alone(Shown::States) => alone_bytes::<P>(alloc, input, setting),
+        Play::Alone(Shown::Transcript) => alone_transcript_bytes::<P>(alloc, input, setting),
+        Play::Ends => ends_bytes::<P>(alloc, input, setting),
     }
 }
 
@@ -73,54 +73,16 @@ fn layers_bytes<T: Threads + Wait + Sync>(
 ) -> Result<Vec<u8>, PlanFault>
     requires in_range { IsPlayInRange play }
     ensures ok { IfOk result (λ bytes. MayPlay layering (layers_texts_from vertex) layers_payloads
-        (Some (layers_root vertex)) play input.now (Ok bytes.items)) }
+        (Setting.Rooted (layers_root vertex)) play input.now (Ok bytes.items)) }
     ensures fault { IfErr result (λ fault. MayPlay layering (layers_texts_from vertex) layers_payloads
-        (Some (layers_root vertex)) play input.now (Err fault)) }
+        (Setting.Rooted (layers_root vertex)) play input.now (Err fault)) }
 {
     rounds_end_with_the_distances_from_a_root();
     let root = Root {
         vertex,
         id: ROOT_ID,
     };
-    play_bytes::<Layers, T>(rt, alloc, Some(root), play, input)
-}
-
-// What the recolouring answers to an input, with one pass and so many more.
-fn passes_bytes<const AGAIN: u8, T: Threads + Wait + Sync>(
-    rt: &T,
-    alloc: Global,
-    play: Play,
-    input: &[u8],
-) -> Result<Vec<u8>, PlanFault>
-    requires in_range { IsPlayInRange play }
-    ensures ok { IfOk result (λ bytes. MayPass AGAIN play input.now (Ok bytes.items)) }
-    ensures fault { IfErr result (λ fault. MayPass AGAIN play input.now (Err fault)) }
-{
-    play_bytes::<Recolouring<AGAIN>, T>(rt, alloc, None, play, input)
-}
-
-// What the recolouring answers to an input, with so many passes.
-fn recolouring_bytes<T: Threads + Wait + Sync>(
-    rt: &T,
-    alloc: Global,
-    passes: Passes,
-    play: Play,
-    input: &[u8],
-) -> Result<Vec<u8>, PlanFault>
-    requires in_range { IsPlayInRange play }
-    ensures ok { IfOk result (λ bytes. MayRecolour passes play input.now (Ok bytes.items)) }
-    ensures fault { IfErr result (λ fault. MayRecolour passes play input.now (Err fault)) }
-{
-    match passes {
-        Passes::One => passes_bytes::<0, T>(rt, alloc, play, input),
-        Passes::Two => passes_bytes::<1, T>(rt, alloc, play, input),
-        Passes::Three => passes_bytes::<2, T>(rt, alloc, play, input),
-        Passes::Four => passes_bytes::<3, T>(rt, alloc, play, input),
-        Passes::Five => passes_bytes::<4, T>(rt, alloc, play, input),
-        Passes::Six => passes_bytes::<5, T>(rt, alloc, play, input),
-        Passes::Seven => passes_bytes::<6, T>(rt, alloc, play, input),
-        Passes::Eight => passes_bytes::<7, T>(rt, alloc, play, input),
-    }
+    play_bytes::<Layers, T>(rt, alloc, Setting::Rooted(root), play, input)
 }
 
 /// What nodes of the program of a name answer to an input; each program is a line. `Play::Run` starts threads, and
@@ -139,15 +101,22 @@ pub fn named_bytes<T: Threads + Wait + Sync>(
     ensures ok { IfOk result (λ bytes. MayPlayNamed program play input.now (Ok bytes.items)) }
     ensures fault { IfErr result (λ fault. MayPlayNamed program play input.now (Err fault)) }
 {
+    let read = Setting::AsRead;
     match program {
-        NodeProgramName::Colouring => play_bytes::<Colouring, T>(rt, alloc, None, play, input),
-        NodeProgramName::Leader => play_bytes::<Leader, T>(rt, alloc, None, play, input),
-        NodeProgramName::Layers(None) => play_bytes::<Layers, T>(rt, alloc, None, play, input),
+        NodeProgramName::Colouring => play_bytes::<Colouring, T>(rt, alloc, read, play, input),
+        NodeProgramName::Leader => play_bytes::<Leader, T>(rt, alloc, read, play, input),
+        NodeProgramName::Layers(None) => play_bytes::<Layers, T>(rt, alloc, read, play, input),
         NodeProgramName::Layers(Some(v)) => layers_bytes(rt, alloc, v, play, input),
-        NodeProgramName::Matching => play_bytes::<Matching, T>(rt, alloc, None, play, input),
+        NodeProgramName::Matching => play_bytes::<Matching, T>(rt, alloc, read, play, input),
         NodeProgramName::IndependentSet => play_bytes::<IndependentSet, T>(
-            rt, alloc, None, play, input,
+            rt, alloc, read, play, input,
         ),
-        NodeProgramName::Recolouring(passes) => recolouring_bytes(rt, alloc, passes, play, input),
+        NodeProgramName::Recolouring(again) => play_bytes::<Recolouring, T>(
+            rt,
+            alloc,
+            Setting::Repeating(again),
+            play,
+            input,
+        ),
     }
 }

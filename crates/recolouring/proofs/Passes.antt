@@ -3,12 +3,11 @@ use Rattle.std.proofs.Common.{◌≡◌, ◌≢◌, ℕ, zero, suc, ◌+◌, ◌
 use Rattle.std.proofs.lemmas.Bool.{ne_eqb}
 use Rattle.std.proofs.Math.Nat.{suc-mul}
 use Rattle.std.specs.Prelude.{if◌then◌else◌, map, Contains, Option, None}
-use Rattle.interference.specs.Net.{Net, IsBarred, IsNetwork, IsVertex, bars_of, degree_of, forest_count_of, neighbours, neighbour_of, port_to, span_of}
+use Rattle.interference.specs.Net.{Net, IsBarred, IsNetwork, IsVertex, degree_of, forest_count_of, neighbours, span_of}
 use Rattle.interference.proofs.Neighbours.{port-of}
-use Rattle.node_api.specs.Boxes.{at_port, nothing}
+use Rattle.node_api.specs.Boxes.{nothing}
 use Rattle.node_api.specs.Program.{sizes_of}
-use Rattle.node_api.specs.Run.{after, inbox_from, node_at, state_at}
-use Rattle.node_api.proofs.Runs.{node_at-more, node_at-none}
+use Rattle.node_api.proofs.Repeated.{node_at-repeated}
 use Rattle.followed.specs.Followed.{Both}
 use Rattle.followed.specs.Said.{said}
 use Rattle.followed.specs.RunLaws.{said-nothing, same_run}
@@ -19,7 +18,6 @@ use Rattle.colour_rules.specs.Program.{colouring}
 use Rattle.colour_laws.specs.Colours.{colours}
 use Rattle.colour_laws.proofs.Choices.{colours_unbarred, colours_within}
 use Rattle.colour_laws.proofs.Forests.{has_forest, has_start}
-use Rattle.node_api.proofs.Inboxes.{map-members}
 use Rattle.colour_laws.proofs.Proper.{colours_proper}
 use Rattle.colour_laws.proofs.Starts.{colour_at_last}
 use Rattle.recolouring.specs.declared.anew.Anew.{Anew}
@@ -33,35 +31,16 @@ pub inside-of : (net : Net) → IsNetwork net → (v w : ℕ) → IsVertex net v
 inside-of net ok v w is_vertex near =
     let port = port-of net ok v w near in subst (IsVertex net) port.2 (ok.vertices v port.0 is_vertex port.1)
 
--- how many passes come later changes nothing at a pulse
-module _ (a b : ℕ) (net : Net) where
-  pub same_pulses : (p v : ℕ) → node_at (recolouring a) net p v ≡ node_at (recolouring b) net p v
-  same_pulses zero v = node_at-none (recolouring a) net v ∙ sym (node_at-none (recolouring b) net v)
-  same_pulses (suc p) v =
-      let came : inbox_from net (node_at (recolouring a) net p) v ≡ inbox_from net (node_at (recolouring b) net p) v =
-      map-members (λ w. at_port (node_at (recolouring a) net p w).1 (port_to net w v))
-      (λ w. at_port (node_at (recolouring b) net p w).1 (port_to net w v)) (neighbours net v)
-      (λ k below. let w : ℕ = neighbour_of net v k in
-      ap (λ (node : Both Node Recoloured × List (Option Wire)). at_port node.1 (port_to net w v)) (same_pulses p w)) in
-      let state : state_at (recolouring a) net p v ≡ state_at (recolouring b) net p v =
-      ap (λ (node : Both Node Recoloured × List (Option Wire)). node.0) (same_pulses p v) in
-      node_at-more (recolouring a) net p v
-      ∙ (ap (λ (inbox : List (Option Wire)). after (state_at (recolouring a) net p v) (degree_of net v)
-      ((recolouring a).next (state_at (recolouring a) net p v) (suc p) inbox)) came
-      ∙ (ap (λ (s : Both Node Recoloured). after s (degree_of net v)
-      ((recolouring b).next s (suc p) (inbox_from net (node_at (recolouring b) net p) v))) state
-      ∙ sym (node_at-more (recolouring b) net p v)))
-
-module _ (again : ℕ) (net : Net) (ok : IsNetwork net) where
+module _ (net : Net) (ok : IsNetwork net) where
   abbrev span : ℕ
   span = span_of net
 
   -- the colour with which a node comes into sweep k, and the one that it chooses there
   abbrev pub old : ℕ → ℕ → ℕ
-  old k v = run.old again net ok k v
+  old k v = run.old net ok k v
 
   abbrev pub new : ℕ → ℕ → ℕ
-  new k v = run.new again net ok k v
+  new k v = run.new net ok k v
 
   -- the pulse after which sweep k begins
   abbrev start : ℕ → ℕ
@@ -77,7 +56,7 @@ module _ (again : ℕ) (net : Net) (ok : IsNetwork net) where
   Allowed k = (v : ℕ) → IsVertex net v → IsBarred net v (old k v) → ⊥
 
   abbrev Quiet : ℕ → Type 0
-  Quiet k = (v : ℕ) → IsVertex net v → (at again net ok (start k) v).1 ≡ nothing (degree_of net v)
+  Quiet k = (v : ℕ) → IsVertex net v → (at net ok (start k) v).1 ≡ nothing (degree_of net v)
 
   next-start : (k : ℕ) → start (suc k) ≡ cut net ok + (k * (span + 1) + suc span)
   next-start k = let e : suc k * (span + 1) ≡ k * (span + 1) + (span + 1) = suc-mul k (span + 1) in omega (arith, e)
@@ -85,17 +64,17 @@ module _ (again : ℕ) (net : Net) (ok : IsNetwork net) where
   -- the first sweep begins with the colours of the network
   pub first-old : (v : ℕ) → IsVertex net v → old 0 v ≡ colours net v
   first-old v is_vertex =
-      let s : Recoloured = (at again net ok (start 0) v).0.beside in
+      let s : Recoloured = (at net ok (start 0) v).0.beside in
       let none : 0 * (span + 1) + 0 ≡ 0 = omega arith in
-      ap (λ (t : Recoloured). t.before) (run.entered again net ok 0 v)
+      ap (λ (t : Recoloured). t.before) (run.entered net ok 0 v)
       ∙ (ap (λ (n : ℕ). if n == 0 then (coloured net ok v).merged else s.colour) none
       ∙ (colour_at_last net ok (has_forest net ok) (has_start net ok) v is_vertex).0)
 
   first-quiet : Quiet 0
   first-quiet v is_vertex =
-      subst (λ (n : ℕ). (at again net ok n v).1 ≡ nothing (degree_of net v)) (let e : cut net ok ≡ start 0 = omega arith in e)
+      subst (λ (n : ℕ). (at net ok n v).1 ≡ nothing (degree_of net v)) (let e : cut net ok ≡ start 0 = omega arith in e)
       (ap (λ (next : Both Node Recoloured × List (Option Wire)). next.1)
-      (same_run colouring (recolours again) (recolours_cut again) net ok (cut net ok) v is_vertex (omega arith))
+      (same_run colouring recolours recolours_cut net ok (cut net ok) v is_vertex (omega arith))
       ∙ (ap (map (said {A = Payload} {B = Anew}))
       ((colour_at_last net ok (has_forest net ok) (has_start net ok) v is_vertex).1 ∙ sym (same-for_all None (neighbours net v)))
       ∙ said-nothing {A = Payload} {B = Anew} (degree_of net v)))
@@ -103,19 +82,19 @@ module _ (again : ℕ) (net : Net) (ok : IsNetwork net) where
   -- each later one with those to which the sweep before led
   next-old : (k : ℕ) → Low k → Quiet k → (v : ℕ) → IsVertex net v → old (suc k) v ≡ new k v
   next-old k low quiet v is_vertex =
-      let s : Recoloured = (at again net ok (start (suc k)) v).0.beside in
+      let s : Recoloured = (at net ok (start (suc k)) v).0.beside in
       let d : ℕ = suc k * (span + 1) + 0 in
       let more : suc k * (span + 1) ≡ k * (span + 1) + (span + 1) = suc-mul k (span + 1) in
       let past : (d == 0) ≡ false = ne_eqb d 0 (λ none. omega (arith, more, none)) in
-      ap (λ (t : Recoloured). t.before) (run.entered again net ok (suc k) v)
+      ap (λ (t : Recoloured). t.before) (run.entered net ok (suc k) v)
       ∙ (ap (λ (b : Bool). if b then (coloured net ok v).merged else s.colour) past
-      ∙ (ap (λ (n : ℕ). (at again net ok n v).0.beside.colour) (next-start k) ∙ run.last-colour again net ok k low quiet v is_vertex))
+      ∙ (ap (λ (n : ℕ). (at net ok n v).0.beside.colour) (next-start k) ∙ run.last-colour net ok k low quiet v is_vertex))
 
   next-quiet : (k : ℕ) → Quiet (suc k)
   next-quiet k v is_vertex =
       let more : (k + 1) * (span + 1) ≡ k * (span + 1) + (span + 1) = one-more k (span + 1) in
       let same : cut net ok + (k + 1) * (span + 1) ≡ start (suc k) = omega (arith, more, next-start k) in
-      subst (λ (n : ℕ). (at again net ok n v).1 ≡ nothing (degree_of net v)) same (silent_sweep again net ok k v is_vertex)
+      subst (λ (n : ℕ). (at net ok n v).1 ≡ nothing (degree_of net v)) same (silent_sweep net ok k v is_vertex)
 
   -- so each begins with colours that are within the span, differ on every edge and aren't barred, and with nothing on its way
   pub entered : (k : ℕ) → Low k × Differ k × Allowed k × Quiet k
@@ -130,21 +109,21 @@ module _ (again : ℕ) (net : Net) (ok : IsNetwork net) where
   entered (suc k) =
       let begun = entered k in
       let next : (v : ℕ) → IsVertex net v → old (suc k) v ≡ new k v = next-old k begun.0 begun.3 in (
-        λ v is_vertex. omega (arith, next v is_vertex, plans.new-low again net ok k begun.0 begun.1 begun.2 begun.3 v is_vertex),
-        λ v w is_vertex near same. plans.proper again net ok k begun.0 begun.1 begun.2 begun.3 v w is_vertex near
+        λ v is_vertex. omega (arith, next v is_vertex, plans.new-low net ok k begun.0 begun.1 begun.2 begun.3 v is_vertex),
+        λ v w is_vertex near same. plans.proper net ok k begun.0 begun.1 begun.2 begun.3 v w is_vertex near
             (sym (next v is_vertex) ∙ (same ∙ next w (inside-of net ok v w is_vertex near))),
-        λ v is_vertex barred. plans.unbarred again net ok k begun.0 begun.1 begun.2 begun.3 v is_vertex
+        λ v is_vertex barred. plans.unbarred net ok k begun.0 begun.1 begun.2 begun.3 v is_vertex
             (subst (IsBarred net v) (next v is_vertex) barred),
         next-quiet k,
       )
 
   -- the colours after sweep k
-  pub at-last : (k v : ℕ) → IsVertex net v → (at again net ok (cut net ok + (k + 1) * (span + 1)) v).0.beside.colour ≡ new k v
+  pub at-last : (k v : ℕ) → IsVertex net v → (at net ok (cut net ok + (k + 1) * (span + 1)) v).0.beside.colour ≡ new k v
   at-last k v is_vertex =
       let begun = entered k in
       let more : (k + 1) * (span + 1) ≡ k * (span + 1) + (span + 1) = one-more k (span + 1) in
       let same : cut net ok + (k + 1) * (span + 1) ≡ cut net ok + (k * (span + 1) + suc span) = omega (arith, more) in
-      ap (λ (n : ℕ). (at again net ok n v).0.beside.colour) same ∙ run.last-colour again net ok k begun.0 begun.3 v is_vertex
+      ap (λ (n : ℕ). (at net ok n v).0.beside.colour) same ∙ run.last-colour net ok k begun.0 begun.3 v is_vertex
 
   -- no sweep leads to a colour above the greatest one with which it begins, nor do several
   pub no_greater : (greatest k d : ℕ) → ((w : ℕ) → IsVertex net w → old k w ≤ greatest) → (v : ℕ) → IsVertex net v → new (k + d) v ≤ greatest
@@ -152,14 +131,14 @@ module _ (again : ℕ) (net : Net) (ok : IsNetwork net) where
       let begun = entered k in
       let same : k + 0 ≡ k = omega arith in
       subst (λ (n : ℕ). new n v ≤ greatest) (sym same)
-      (plans.no_greater again net ok k begun.0 begun.1 begun.2 begun.3 greatest most v is_vertex)
+      (plans.no_greater net ok k begun.0 begun.1 begun.2 begun.3 greatest most v is_vertex)
   no_greater greatest k (suc d) most v is_vertex =
       let n : ℕ = k + d in
       let before = entered n in
       let begun = entered (suc n) in
       let same : k + suc d ≡ suc n = omega arith in
       subst (λ (m : ℕ). new m v ≤ greatest) (sym same)
-      (plans.no_greater again net ok (suc n) begun.0 begun.1 begun.2 begun.3 greatest
+      (plans.no_greater net ok (suc n) begun.0 begun.1 begun.2 begun.3 greatest
       (λ w inside. let bound : new n w ≤ greatest = no_greater greatest k d most w inside in
       omega (arith, next-old n before.0 before.3 w inside, bound))
       v is_vertex)
@@ -179,9 +158,9 @@ module _ (again : ℕ) (net : Net) (ok : IsNetwork net) where
   pulse-end : (k : ℕ) → cut net ok + (end-of k + 1) * (span + 1) ≡ cut net ok + (k + 1) * size * (span + 1)
   pulse-end k = ap (λ (n : ℕ). cut net ok + n * (span + 1)) (sym (sweeps-more k (sizes_of net)).1)
 
-  pub at-end : (k v : ℕ) → IsVertex net v → (at again net ok (cut net ok + (k + 1) * size * (span + 1)) v).0.beside.colour ≡ new (end-of k) v
+  pub at-end : (k v : ℕ) → IsVertex net v → (at net ok (cut net ok + (k + 1) * size * (span + 1)) v).0.beside.colour ≡ new (end-of k) v
   at-end k v is_vertex =
-      ap (λ (n : ℕ). (at again net ok n v).0.beside.colour) (sym (pulse-end k)) ∙ at-last (end-of k) v is_vertex
+      ap (λ (n : ℕ). (at net ok n v).0.beside.colour) (sym (pulse-end k)) ∙ at-last (end-of k) v is_vertex
 
   -- the classes don't rise in the last sweep of a pass
   falls-by : (b : Bool) (k n : ℕ) → n ≡ k * (if b then 2 else 1) + ((if b then 2 else 1) - 1) → rises b n ≡ false
@@ -220,4 +199,4 @@ module _ (again : ℕ) (net : Net) (ok : IsNetwork net) where
       ∙ (next-old n begun.0 begun.3 v is_vertex
       ∙ (sym (at-end k v is_vertex)
       ∙ ap (λ (node : Both Node Recoloured × List (Option Wire)). node.0.beside.colour)
-      (same_pulses again k net (cut net ok + (k + 1) * size * (span + 1)) v)))
+      (sym (node_at-repeated recolouring k net (cut net ok + (k + 1) * size * (span + 1)) v))))

@@ -85,10 +85,10 @@ module _ (net : Net) (ok : IsNetwork net) where
       let empty : bar_count_of net top.0 ≡ 0 = ap (λ (bars : List ℕ). length bars) (none top.0 top.1) in
       lt-ltb-none (greatest_bars_of net) (omega (arith, top.2, empty))
 
-module _ (again : ℕ) (net : Net) (ok : IsNetwork net) (k : ℕ) (low : (v : ℕ) → IsVertex net v → run.old again net ok k v ≤ span_of net)
-    (differ : (v w : ℕ) → IsVertex net v → Contains (neighbours net v) w → run.old again net ok k v ≢ run.old again net ok k w)
-    (allowed : (v : ℕ) → IsVertex net v → IsBarred net v (run.old again net ok k v) → ⊥)
-    (quiet : (v : ℕ) → IsVertex net v → (at again net ok (cut net ok + (k * (span_of net + 1) + 0)) v).1 ≡ nothing (degree_of net v)) where
+module _ (net : Net) (ok : IsNetwork net) (k : ℕ) (low : (v : ℕ) → IsVertex net v → run.old net ok k v ≤ span_of net)
+    (differ : (v w : ℕ) → IsVertex net v → Contains (neighbours net v) w → run.old net ok k v ≢ run.old net ok k w)
+    (allowed : (v : ℕ) → IsVertex net v → IsBarred net v (run.old net ok k v) → ⊥)
+    (quiet : (v : ℕ) → IsVertex net v → (at net ok (cut net ok + (k * (span_of net + 1) + 0)) v).1 ≡ nothing (degree_of net v)) where
   forest : IsForest net
   forest = has_forest net ok
 
@@ -100,19 +100,19 @@ module _ (again : ℕ) (net : Net) (ok : IsNetwork net) (k : ℕ) (low : (v : �
 
   -- the colour with which a node comes into the sweep, and the one that it chooses
   abbrev pub old : ℕ → ℕ
-  old v = run.old again net ok k v
+  old v = run.old net ok k v
 
   abbrev pub colour : ℕ → ℕ
-  colour v = run.new again net ok k v
+  colour v = run.new net ok k v
 
   abbrev place : ℕ → ℕ
-  place v = run.place again net ok k v
+  place v = run.place net ok k v
 
   abbrev heard : ℕ → ℕ → FinSet nat_cmp
-  heard q v = run.heard again net ok k q v
+  heard q v = run.heard net ok k q v
 
   soon : (v : ℕ) → IsVertex net v → place v ≤ span
-  soon v is_vertex = run.soon again net ok k low quiet v is_vertex
+  soon v is_vertex = run.soon net ok k low quiet v is_vertex
 
   abbrev barred : ℕ → FinSet nat_cmp
   barred v = up_to span (bars_of net v)
@@ -129,7 +129,7 @@ module _ (again : ℕ) (net : Net) (ok : IsNetwork net) (k : ℕ) (low : (v : �
 
   -- what a node has heard of is a neighbour's of a class before
   heard-by : (v c : ℕ) → IsVertex net v → contains (heard (place v) v) c ≡ true → Before v c
-  heard-by v c is_vertex near = run.heard-from again net ok k low quiet (place v) v c is_vertex (soon v is_vertex) near
+  heard-by v c is_vertex near = run.heard-from net ok k low quiet (place v) v c is_vertex (soon v is_vertex) near
 
   -- a colour that is taken is barred, or a neighbour's of a class before
   by : (v c : ℕ) → IsVertex net v → taken v c ≡ true → (is_among (bars_of net v) c ≡ true) ⊎ Before v c
@@ -155,7 +155,7 @@ module _ (again : ℕ) (net : Net) (ok : IsNetwork net) (k : ℕ) (low : (v : �
   -- if the classes rise, the greatest is first, and no colour gets less
   module _ (rise : rises barring k ≡ true) where
     up-is : (v : ℕ) → IsVertex net v → colour v ≡ raised (heard (place v) v) (barred v) (old v) (span - old v) false
-    up-is v is_vertex = run.raised-is again net ok k low quiet rise v is_vertex
+    up-is v is_vertex = run.raised-is net ok k low quiet rise v is_vertex
 
     down-from : (v : ℕ) → place v ≡ span - old v
     down-from v = rise-place barring k span (old v) rise
@@ -202,7 +202,7 @@ module _ (again : ℕ) (net : Net) (ok : IsNetwork net) (k : ℕ) (low : (v : �
   -- if they don't, each chooses the least
   module _ (falls : rises barring k ≡ false) where
     is : (v : ℕ) → IsVertex net v → colour v ≡ least_free_colour span (taken v)
-    is v is_vertex = run.least-is again net ok k low quiet falls v is_vertex
+    is v is_vertex = run.least-is net ok k low quiet falls v is_vertex
 
     -- one of the first colours is left for it
     free : (v : ℕ) → IsVertex net v → (c : ℕ) × (c ≤ degree_of net v + bar_count_of net v) × (taken v c ≡ false)
@@ -271,7 +271,7 @@ module _ (again : ℕ) (net : Net) (ok : IsNetwork net) (k : ℕ) (low : (v : �
           let wrong : false ≡ true = ap (λ (bars : List ℕ). is_among bars c) (sym (none v is_vertex)) ∙ held in cc
 
       abbrev count : ℕ → ℕ
-      count v = rank (run.place_of again net ok k) (place v) (suc greatest)
+      count v = rank (run.place_of net ok k) (place v) (suc greatest)
 
       ranked : (n v : ℕ) → IsVertex net v → place v < n → colour v ≤ count v
       ranked zero v is_vertex h = absurd (omega (arith, h))
@@ -281,7 +281,7 @@ module _ (again : ℕ) (net : Net) (ok : IsNetwork net) (k : ℕ) (low : (v : �
           let bound : colour w ≤ count w = ranked n w inside (omega (arith, there.2, h)) in
           let class : old w < suc greatest = (let it : old w ≤ greatest = most w inside in omega (arith, it)) in
           let fewer : suc (count w) ≤ count v =
-          rank-more (run.place_of again net ok k) (place w) (place v) (suc greatest) (old w) class (omega arith) there.2 in
+          rank-more (run.place_of net ok k) (place w) (place v) (suc greatest) (old w) class (omega arith) there.2 in
           omega (arith, bound, fewer, there.3)))
 
       pub no_greater_free : (v : ℕ) → IsVertex net v → colour v ≤ greatest
@@ -289,7 +289,7 @@ module _ (again : ℕ) (net : Net) (ok : IsNetwork net) (k : ℕ) (low : (v : �
           let bound : colour v ≤ count v = ranked (suc (place v)) v is_vertex (omega arith) in
           let class : old v < suc greatest = (let it : old v ≤ greatest = most v is_vertex in omega (arith, it)) in
           let few_before : suc (count v) ≤ suc greatest =
-          rank-less (run.place_of again net ok k) (place v) (suc greatest) (old v) class (omega arith) in
+          rank-less (run.place_of net ok k) (place v) (suc greatest) (old v) class (omega arith) in
           omega (arith, bound, few_before)
 
       -- from the greatest down it is at most as far from 0 as the old one from the greatest
@@ -350,7 +350,7 @@ module _ (again : ℕ) (net : Net) (ok : IsNetwork net) (k : ℕ) (low : (v : �
   before-taken v j is_vertex below less =
       let c : ℕ = colour (neighbour_of net v j) in
       or_left (contains (heard (place v) v) c) (contains (barred v) c)
-      (run.heard-has again net ok k low quiet (place v) v j is_vertex below (soon v is_vertex) less
+      (run.heard-has net ok k low quiet (place v) v j is_vertex below (soon v is_vertex) less
       (in_room (neighbour_of net v j) (ok.vertices v j is_vertex below)))
 
   apart : (v j : ℕ) → IsVertex net v → j < degree_of net v → place (neighbour_of net v j) < place v → colour v ≢ colour (neighbour_of net v j)

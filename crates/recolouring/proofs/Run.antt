@@ -52,7 +52,7 @@ told-some node k true c x e = elim (dec_lt k (ports node)) [
 ]
 told-some node k false c x e = let none : None ≡ Some x = sym (at_port-nothing (ports node) k) ∙ e in absurd cc
 
-module _ (again : ℕ) (net : Net) (ok : IsNetwork net) (k : ℕ) where
+module _ (net : Net) (ok : IsNetwork net) (k : ℕ) where
   -- the pulses of the sweeps before this one, and the last pulse before it
   abbrev past : ℕ
   past = k * (span_of net + 1)
@@ -62,10 +62,10 @@ module _ (again : ℕ) (net : Net) (ok : IsNetwork net) (k : ℕ) where
 
   -- what a node has beside its first colour when pulse q of the sweep begins
   abbrev pub mine : ℕ → ℕ → Recoloured
-  mine q v = ready (coloured net ok v) (at again net ok (cut net ok + (past + q)) v).0.beside (past + q)
+  mine q v = ready (coloured net ok v) (at net ok (cut net ok + (past + q)) v).0.beside (past + q)
 
   abbrev inbox : ℕ → ℕ → List (Option Wire)
-  inbox q v = inbox_from net (at again net ok (cut net ok + (past + q))) v
+  inbox q v = inbox_from net (at net ok (cut net ok + (past + q))) v
 
   -- what it has heard of when the next class chooses
   abbrev pub heard : ℕ → ℕ → FinSet nat_cmp
@@ -79,22 +79,22 @@ module _ (again : ℕ) (net : Net) (ok : IsNetwork net) (k : ℕ) where
   old v = (mine 0 v).before
 
   more : (q v : ℕ) → IsVertex net v → q ≤ span_of net →
-      at again net ok (cut net ok + (past + suc q)) v ≡ beside_of (coloured net ok v) (class_next (coloured net ok v) (mine q v) k q (inbox q v))
+      at net ok (cut net ok + (past + suc q)) v ≡ beside_of (coloured net ok v) (class_next (coloured net ok v) (mine q v) k q (inbox q v))
   more q v is_vertex h =
-      subst (λ (n : ℕ). at again net ok n v ≡ beside_of (coloured net ok v) (class_next (coloured net ok v) (mine q v) k q (inbox q v)))
+      subst (λ (n : ℕ). at net ok n v ≡ beside_of (coloured net ok v) (class_next (coloured net ok v) (mine q v) k q (inbox q v)))
       (let e : suc (cut net ok + (past + q)) ≡ cut net ok + (past + suc q) = omega arith in e)
-      (at-sweep again net ok k q v is_vertex h)
+      (at-sweep net ok k q v is_vertex h)
 
-  beside-more : (q v : ℕ) → IsVertex net v → q ≤ span_of net → (at again net ok (cut net ok + (past + suc q)) v).0.beside
+  beside-more : (q v : ℕ) → IsVertex net v → q ≤ span_of net → (at net ok (cut net ok + (past + suc q)) v).0.beside
       ≡ recoloured (mine q v) k (heard q v) (turn q v)
   beside-more q v is_vertex h = ap (λ (next : Both Node Recoloured × List (Option Wire)). next.0.beside) (more q v is_vertex h)
 
   -- within the sweep nothing begins anew
-  within : (q v : ℕ) → suc q ≤ span_of net → mine (suc q) v ≡ (at again net ok (cut net ok + (past + suc q)) v).0.beside
+  within : (q v : ℕ) → suc q ≤ span_of net → mine (suc q) v ≡ (at net ok (cut net ok + (past + suc q)) v).0.beside
   within q v h =
-      let s : Recoloured = (at again net ok (cut net ok + (past + suc q)) v).0.beside in
+      let s : Recoloured = (at net ok (cut net ok + (past + suc q)) v).0.beside in
       let class : (past + suc q) % (s.greatest + 1) ≡ suc q =
-      ap (λ (n : ℕ). (past + suc q) % (n + 1)) (has_greatest again net ok (cut net ok + (past + suc q)) v) ∙ class-of (span_of net) k (suc q) h in
+      ap (λ (n : ℕ). (past + suc q) % (n + 1)) (has_greatest net ok (cut net ok + (past + suc q)) v) ∙ class-of (span_of net) k (suc q) h in
       ap (λ (n : ℕ). if n == 0 then entering (coloured net ok v) s (past + suc q) else s) class
       ∙ ap (λ (b : Bool). if b then entering (coloured net ok v) s (past + suc q) else s) (ne_eqb (suc q) 0 (λ none. omega (arith, none)))
 
@@ -109,55 +109,55 @@ module _ (again : ℕ) (net : Net) (ok : IsNetwork net) (k : ℕ) where
   old-is (suc q) v is_vertex h = old-more q v is_vertex h ∙ old-is q v is_vertex (omega arith)
 
   -- a sweep begins with the colours to which the one before led
-  pub kept-colour : (q v : ℕ) → (mine q v).colour ≡ (at again net ok (cut net ok + (past + q)) v).0.beside.colour
+  pub kept-colour : (q v : ℕ) → (mine q v).colour ≡ (at net ok (cut net ok + (past + q)) v).0.beside.colour
   kept-colour q v =
-      let s : Recoloured = (at again net ok (cut net ok + (past + q)) v).0.beside in
+      let s : Recoloured = (at net ok (cut net ok + (past + q)) v).0.beside in
       ready-as (λ t. t.colour) ((past + q) % (s.greatest + 1) == 0) s (entering (coloured net ok v) s (past + q)) refl
 
   colour-more : (q v : ℕ) → IsVertex net v → q ≤ span_of net → (mine (suc q) v).colour ≡ colour_after (mine q v) k (heard q v) (turn q v)
   colour-more q v is_vertex h = kept-colour (suc q) v ∙ ap (λ (t : Recoloured). t.colour) (beside-more q v is_vertex h)
 
-  sent : (q v : ℕ) → IsVertex net v → q ≤ span_of net → (at again net ok (cut net ok + (past + suc q)) v).1
+  sent : (q v : ℕ) → IsVertex net v → q ≤ span_of net → (at net ok (cut net ok + (past + suc q)) v).1
       ≡ told (coloured net ok v) (turn q v && nat_lt q (mine q v).greatest) (colour_after (mine q v) k (heard q v) (turn q v))
   sent q v is_vertex h = ap (λ (next : Both Node Recoloured × List (Option Wire)). next.1) (more q v is_vertex h)
 
   greatest_is : (q v : ℕ) → (mine q v).greatest ≡ span_of net
   greatest_is q v =
       let p : ℕ = cut net ok + (past + q) in
-      let s : Recoloured = (at again net ok p v).0.beside in
+      let s : Recoloured = (at net ok p v).0.beside in
       ready-as (λ t. t.greatest) ((past + q) % (s.greatest + 1) == 0) s (entering (coloured net ok v) s (past + q)) refl
-      ∙ has_greatest again net ok p v
+      ∙ has_greatest net ok p v
 
   barred_is : (q v : ℕ) → (mine q v).barred ≡ up_to (span_of net) (bars_of net v)
   barred_is q v =
       let p : ℕ = cut net ok + (past + q) in
-      let s : Recoloured = (at again net ok p v).0.beside in
+      let s : Recoloured = (at net ok p v).0.beside in
       ready-as (λ t. t.barred) ((past + q) % (s.greatest + 1) == 0) s (entering (coloured net ok v) s (past + q)) refl
-      ∙ kept_beside colouring (recolours again) (recolours_cut again) net ok (λ t. t.barred)
+      ∙ kept_beside colouring recolours recolours_cut net ok (λ t. t.barred)
       (λ node t q inbox. ready-as (λ r. r.barred) (q % (t.greatest + 1) == 0) t (entering node t q) refl) p v
 
   barring_is : (q v : ℕ) → (mine q v).barring ≡ has_bars (sizes_of net)
   barring_is q v =
       let p : ℕ = cut net ok + (past + q) in
-      let s : Recoloured = (at again net ok p v).0.beside in
+      let s : Recoloured = (at net ok p v).0.beside in
       ready-as (λ t. t.barring) ((past + q) % (s.greatest + 1) == 0) s (entering (coloured net ok v) s (past + q)) refl
-      ∙ has_barring again net ok p v
+      ∙ has_barring net ok p v
 
   -- as the sweep begins
-  pub entered : (v : ℕ) → mine 0 v ≡ entering (coloured net ok v) (at again net ok (cut net ok + (past + 0)) v).0.beside (past + 0)
+  pub entered : (v : ℕ) → mine 0 v ≡ entering (coloured net ok v) (at net ok (cut net ok + (past + 0)) v).0.beside (past + 0)
   entered v =
-      let s : Recoloured = (at again net ok (cut net ok + (past + 0)) v).0.beside in
+      let s : Recoloured = (at net ok (cut net ok + (past + 0)) v).0.beside in
       let class : (past + 0) % (s.greatest + 1) ≡ 0 =
-      ap (λ (n : ℕ). (past + 0) % (n + 1)) (has_greatest again net ok (cut net ok + (past + 0)) v) ∙ class-of (span_of net) k 0 (omega arith) in
+      ap (λ (n : ℕ). (past + 0) % (n + 1)) (has_greatest net ok (cut net ok + (past + 0)) v) ∙ class-of (span_of net) k 0 (omega arith) in
       ap (λ (n : ℕ). if n == 0 then entering (coloured net ok v) s (past + 0) else s) class
 
   first : (v : ℕ) → (mine 0 v).chosen ≡ empty
   first v = ap (λ (s : Recoloured). s.chosen) (entered v)
 
   slot : (q v j : ℕ) → j < degree_of net v → at_port (inbox q v) j
-      ≡ at_port (at again net ok (cut net ok + (past + q)) (neighbour_of net v j)).1 (port_to net (neighbour_of net v j) v)
+      ≡ at_port (at net ok (cut net ok + (past + q)) (neighbour_of net v j)).1 (port_to net (neighbour_of net v j) v)
   slot q v j below =
-      at_port-inbox net (at again net ok (cut net ok + (past + q))) v j below
+      at_port-inbox net (at net ok (cut net ok + (past + q))) v j below
 
   -- the pulse of a colour, and so of a node
   abbrev pub place_of : ℕ → ℕ
@@ -186,7 +186,7 @@ module _ (again : ℕ) (net : Net) (ok : IsNetwork net) (k : ℕ) where
 
   -- if the colours with which they come are within the span, and nothing is on its way
   module _ (low : (v : ℕ) → IsVertex net v → old v ≤ span_of net)
-      (quiet : (v : ℕ) → IsVertex net v → (at again net ok (cut net ok + (past + 0)) v).1 ≡ nothing (degree_of net v)) where
+      (quiet : (v : ℕ) → IsVertex net v → (at net ok (cut net ok + (past + 0)) v).1 ≡ nothing (degree_of net v)) where
     -- a node has its pulse in the sweep
     pub soon : (v : ℕ) → IsVertex net v → place v ≤ span_of net
     soon v is_vertex = place-low (has_bars (sizes_of net)) k (span_of net) (old v) (low v is_vertex)
@@ -244,7 +244,7 @@ module _ (again : ℕ) (net : Net) (ok : IsNetwork net) (k : ℕ) where
         ap (λ (n : ℕ). (mine n v).colour) same ∙ stays (q - suc (place v)) v is_vertex (omega (arith, h, same))
 
     -- with it a node ends the sweep
-    pub last-colour : (v : ℕ) → IsVertex net v → (at again net ok (cut net ok + (past + suc (span_of net))) v).0.beside.colour ≡ new v
+    pub last-colour : (v : ℕ) → IsVertex net v → (at net ok (cut net ok + (past + suc (span_of net))) v).0.beside.colour ≡ new v
     last-colour v is_vertex =
         let early : place v ≤ span_of net = soon v is_vertex in
         sym (kept-colour (suc (span_of net)) v) ∙ later (suc (span_of net)) v is_vertex (omega arith) (omega (arith, early))
@@ -280,7 +280,7 @@ module _ (again : ℕ) (net : Net) (ok : IsNetwork net) (k : ℕ) where
           let none : false ≡ true = sym (contains-empty nat_cmp c) ∙ (ap (λ (set : FinSet nat_cmp). contains set c) (sym (first v)) ∙ before) in
           absurd cc
       | inr there ↦
-          let below : there.0 < degree_of net v = omega (arith, there.1, length-inbox net (at again net ok (cut net ok + (past + 0))) v) in
+          let below : there.0 < degree_of net v = omega (arith, there.1, length-inbox net (at net ok (cut net ok + (past + 0))) v) in
           absurd (first_none v there.0 c is_vertex below there.2)
     ]
     heard-from (suc q) v c is_vertex h is = elim (anew-from (inbox (suc q) v) (mine (suc q) v).chosen 0 c is) [
@@ -289,7 +289,7 @@ module _ (again : ℕ) (net : Net) (ok : IsNetwork net) (k : ℕ) where
           (ap (λ (set : FinSet nat_cmp). contains set c) (sym (chosen-more q v is_vertex h)) ∙ before) in
           (there.0, there.1, omega (arith, there.2), there.3)
       | inr now ↦
-          let below : now.0 < degree_of net v = omega (arith, now.1, length-inbox net (at again net ok (cut net ok + (past + suc q))) v) in
+          let below : now.0 < degree_of net v = omega (arith, now.1, length-inbox net (at net ok (cut net ok + (past + suc q))) v) in
           let facts = came q v now.0 c is_vertex (omega (arith, h)) below now.2 in
           (now.0, below, omega (arith, facts.0), facts.1)
     ]
@@ -323,6 +323,6 @@ module _ (again : ℕ) (net : Net) (ok : IsNetwork net) (k : ℕ) where
               ∙ ap (told (coloured net ok w) true) is))
               ∙ get_or-replicate (ports (coloured net ok w)) (port_to net w v) (Some (says (new w))) None (omega (arith, many, port))) in
               let size : j < length (inbox (suc q) v) =
-              omega (arith, below, length-inbox net (at again net ok (cut net ok + (past + suc q))) v) in
+              omega (arith, below, length-inbox net (at net ok (cut net ok + (past + suc q))) v) in
               anew-has (inbox (suc q) v) (mine (suc q) v).chosen 0 j (new w) size few here
         ]

@@ -1,7 +1,7 @@
 -- The classes of a colouring choose anew, a class a pulse: a node takes the least colour that isn't barred at it and
 -- that no neighbour which has chosen anew has, and says so. That is a sweep. Without bars a pass is a sweep. With bars
 -- it is two: before they choose the least, the classes rise, the greatest first, each node to a colour that is at most
--- the greatest one of a neighbour. A pass may be made again, from the colours to which it led.
+-- the greatest one of a neighbour. A pass is made again as often as the network says, from the colours to which it led.
 use Rattle.std.specs.Prelude.{ℕ, zero, suc, ◌+◌, ◌-◌, ◌*◌, ◌/◌, ◌%◌, ◌==◌, ◌&&◌, ◌||◌, Bool, true, false, not}
 use Rattle.std.specs.Prelude.{if◌then◌else◌, nat_lt, List, Option, Some, Ok, replicate}
 use Rattle.std.specs.Ordering.{nat_cmp}
@@ -129,10 +129,10 @@ abbrev pub anew_next : Node → Recoloured → ℕ → List (Option Wire) → Re
 anew_next node s q inbox = class_next node (ready node s q) (q / (s.greatest + 1)) (q % (s.greatest + 1)) inbox
 
 -- what follows the colouring: a pass, and as many again
-abbrev pub recolours : ℕ → Sequel Node Recoloured Payload Anew
-recolours again = record {
+abbrev pub recolours : Sequel Node Recoloured Payload Anew
+recolours = record {
   until = λ s. s.until;
-  last = λ sizes more. last sizes + (again + 1) * sweeps sizes * (span sizes + 1);
+  last = λ sizes again. last sizes + (again + 1) * sweeps sizes * (span sizes + 1);
   begin = λ own. record {
     until = last own.sizes;
     greatest = span own.sizes;
@@ -146,5 +146,5 @@ recolours again = record {
 }
 
 -- the program
-abbrev pub recolouring : ℕ → Program (Both Node Recoloured) Wire Refused
-recolouring again = followed colouring (recolours again)
+abbrev pub recolouring : Program (Both Node Recoloured) Wire Refused
+recolouring = followed colouring recolours

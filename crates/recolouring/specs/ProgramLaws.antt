@@ -29,10 +29,10 @@ pub ready-as : {A : Type 0} (f : Recoloured → A) (b : Bool) (s t : Recoloured)
 ready-as f true s t e = e
 ready-as f false s t e = refl
 
-abbrev pub recolours_cut : (again : ℕ) → IsCut colouring (recolours again)
-recolours_cut again = record {
+abbrev pub recolours_cut : IsCut colouring recolours
+recolours_cut = record {
   cut = last;
-  within = λ sizes more. omega arith;
+  within = λ sizes again. omega arith;
   begins = λ own. refl;
   keeps = λ node s q inbox. ready-as (λ t. t.until) (q % (s.greatest + 1) == 0) s (entering node s q) refl;
 }
@@ -69,22 +69,22 @@ module _ (net : Net) (ok : IsNetwork net) where
   abbrev pub coloured : ℕ → Node
   coloured v = state_at colouring net cut v
 
-module _ (again : ℕ) (net : Net) (ok : IsNetwork net) where
+module _ (net : Net) (ok : IsNetwork net) where
   abbrev pub at : ℕ → ℕ → Both Node Recoloured × List (Option Wire)
-  at p v = node_at (recolouring again) net p v
+  at p v = node_at recolouring net p v
 
   pub at-class : (p v : ℕ) → IsVertex net v → cut net ok ≤ p →
       at (suc p) v ≡ beside_of (coloured net ok v)
       (anew_next (coloured net ok v) (at p v).0.beside (p - cut net ok) (inbox_from net (at p) v))
-  at-class p v is_vertex h = at-more colouring (recolours again) (recolours_cut again) net ok p v is_vertex h
+  at-class p v is_vertex h = at-more colouring recolours recolours_cut net ok p v is_vertex h
       (anew_next (coloured net ok v) (at p v).0.beside (p - cut net ok) (inbox_from net (at p) v)) refl
 
   pub has_greatest : (p v : ℕ) → (at p v).0.beside.greatest ≡ span_of net
-  has_greatest p v = kept_beside colouring (recolours again) (recolours_cut again) net ok (λ s. s.greatest)
+  has_greatest p v = kept_beside colouring recolours recolours_cut net ok (λ s. s.greatest)
       (λ node s q inbox. ready-as (λ t. t.greatest) (q % (s.greatest + 1) == 0) s (entering node s q) refl) p v
 
   pub has_barring : (p v : ℕ) → (at p v).0.beside.barring ≡ has_bars (sizes_of net)
-  has_barring p v = kept_beside colouring (recolours again) (recolours_cut again) net ok (λ s. s.barring)
+  has_barring p v = kept_beside colouring recolours recolours_cut net ok (λ s. s.barring)
       (λ node s q inbox. ready-as (λ t. t.barring) (q % (s.greatest + 1) == 0) s (entering node s q) refl) p v
 
   -- pulse q of sweep k, from 0
@@ -134,9 +134,9 @@ module _ (again : ℕ) (net : Net) (ok : IsNetwork net) where
       ∙ (ap (λ (b : Bool). told node b colour) (and_right turn (nat_lt (span_of net) s.greatest) late)
       ∙ ap (λ (n : ℕ). nothing n) (node_at-ports colouring net keeps (cut net ok) v).0))
 
-pub recolours_laws : (again : ℕ) → IsSequel colouring (recolours again)
-recolours_laws again = record {
-  cut = recolours_cut again;
+pub recolours_laws : IsSequel colouring recolours
+recolours_laws = record {
+  cut = recolours_cut;
   shape = λ node s q inbox h.
       let r : Recoloured = ready node s q in
       let sweep : ℕ = q / (s.greatest + 1) in
@@ -145,7 +145,7 @@ recolours_laws again = record {
       length-told node (turn && nat_lt class r.greatest) (colour_after r sweep (with_anew r.chosen inbox) turn);
   accepts = λ net ok p v is_vertex late below. refl;
   silent = λ net ok v is_vertex.
-      let more = sweeps-more again (sizes_of net) in
-      subst (λ (n : ℕ). (at again net ok (cut net ok + n * (span_of net + 1)) v).1 ≡ nothing (degree_of net v))
-      (sym more.1) (silent_sweep again net ok more.0 v is_vertex);
+      let more = sweeps-more net.again (sizes_of net) in
+      subst (λ (n : ℕ). (at net ok (cut net ok + n * (span_of net + 1)) v).1 ≡ nothing (degree_of net v))
+      (sym more.1) (silent_sweep net ok more.0 v is_vertex);
 }

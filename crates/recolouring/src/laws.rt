@@ -14,32 +14,33 @@ ghost use Rattle.recolouring.specs.Knowing.{and_anew, recolouring};
 ghost use Rattle.recolouring.specs.declared.anew.Anew.{Anew};
 ghost use Rattle.recolouring.specs.Texts.{plan_of_passes};
 
-/// In the last state of the synchronous run, after a pass and any number again, the new colours differ on every edge,
-/// none is barred at its node, and each is at most the degree and the bars of its node; each lower colour is barred at
-/// the node or is a neighbour's. None is above the greatest one before the last pass (`no_greater`), nor above the
-/// greatest one of the first plan (`never_more`), with bars, too. If nothing is barred, and the last pass takes the
-/// classes from the greatest down, the sum of a node's colours before and after it is at most the greatest before it.
+/// In the last state of the synchronous run, after a pass and as many again as the network says, the new colours
+/// differ on every edge, none is barred at its node, and each is at most the degree and the bars of its node; each
+/// lower colour is barred at the node or is a neighbour's. None is above the greatest one before the last pass
+/// (`no_greater`), nor above the greatest one of the first plan (`never_more`), with bars, too. If nothing is barred,
+/// and the last pass takes the classes from the greatest down, the sum of a node's colours before and after it is at
+/// most the greatest before it.
 pub fn rounds_end_with_a_plan_that_none_can_lower()
-    ensures proper { (again : ℕ) (net : Net) → IsNetwork net → (v w : ℕ) → IsEdge net v w
-        → (last_state (recolouring again) net v).beside.colour ≢ (last_state (recolouring again) net w).beside.colour }
-    ensures unbarred { (again : ℕ) (net : Net) → IsNetwork net → (v : ℕ) → IsVertex net v
-        → IsBarred net v (last_state (recolouring again) net v).beside.colour → ⊥ }
-    ensures within { (again : ℕ) (net : Net) → IsNetwork net → (v : ℕ) → IsVertex net v
-        → (last_state (recolouring again) net v).beside.colour ≤ degree_of net v + bar_count_of net v }
-    ensures lowest { (again : ℕ) (net : Net) → IsNetwork net → (v colour : ℕ) → IsVertex net v
-        → colour < (last_state (recolouring again) net v).beside.colour → (IsBarred net v colour → ⊥)
-        → (w : ℕ) × Contains (neighbours net v) w × ((last_state (recolouring again) net w).beside.colour ≡ colour) }
-    ensures no_more { (again : ℕ) (net : Net) → IsNetwork net → ((w : ℕ) → IsVertex net w → bars_of net w ≡ [])
-        → again % 3 ≡ 0
-        → (greatest : ℕ) → ((w : ℕ) → IsVertex net w → plan_of_passes again net w ≤ greatest)
+    ensures proper { (net : Net) → IsNetwork net → (v w : ℕ) → IsEdge net v w
+        → (last_state recolouring net v).beside.colour ≢ (last_state recolouring net w).beside.colour }
+    ensures unbarred { (net : Net) → IsNetwork net → (v : ℕ) → IsVertex net v
+        → IsBarred net v (last_state recolouring net v).beside.colour → ⊥ }
+    ensures within { (net : Net) → IsNetwork net → (v : ℕ) → IsVertex net v
+        → (last_state recolouring net v).beside.colour ≤ degree_of net v + bar_count_of net v }
+    ensures lowest { (net : Net) → IsNetwork net → (v colour : ℕ) → IsVertex net v
+        → colour < (last_state recolouring net v).beside.colour → (IsBarred net v colour → ⊥)
+        → (w : ℕ) × Contains (neighbours net v) w × ((last_state recolouring net w).beside.colour ≡ colour) }
+    ensures no_more { (net : Net) → IsNetwork net → ((w : ℕ) → IsVertex net w → bars_of net w ≡ [])
+        → net.again % 3 ≡ 0
+        → (greatest : ℕ) → ((w : ℕ) → IsVertex net w → plan_of_passes net.again net w ≤ greatest)
         → (v : ℕ) → IsVertex net v
-        → (last_state (recolouring again) net v).beside.colour + plan_of_passes again net v ≤ greatest }
-    ensures no_greater { (again : ℕ) (net : Net) → IsNetwork net
-        → (greatest : ℕ) → ((w : ℕ) → IsVertex net w → plan_of_passes again net w ≤ greatest)
-        → (v : ℕ) → IsVertex net v → (last_state (recolouring again) net v).beside.colour ≤ greatest }
-    ensures never_more { (again : ℕ) (net : Net) → IsNetwork net
+        → (last_state recolouring net v).beside.colour + plan_of_passes net.again net v ≤ greatest }
+    ensures no_greater { (net : Net) → IsNetwork net
+        → (greatest : ℕ) → ((w : ℕ) → IsVertex net w → plan_of_passes net.again net w ≤ greatest)
+        → (v : ℕ) → IsVertex net v → (last_state recolouring net v).beside.colour ≤ greatest }
+    ensures never_more { (net : Net) → IsNetwork net
         → (greatest : ℕ) → ((w : ℕ) → IsVertex net w → colours net w ≤ greatest)
-        → (v : ℕ) → IsVertex net v → (last_state (recolouring again) net v).beside.colour ≤ greatest }
+        → (v : ℕ) → IsVertex net v → (last_state recolouring net v).beside.colour ≤ greatest }
 {}
 
 /// What a node makes of what comes at a port, for the colours that neighbours have chosen: a payload of the colouring

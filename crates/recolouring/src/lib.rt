@@ -3,13 +3,14 @@
 //! the iterated greedy of J. C. Culberson, Iterated greedy graph coloring and the difficulty landscape, 1992, with the
 //! classes in reverse order, by messages.
 //!
-//! That is a pass. `Recolouring<AGAIN>` makes one, and `AGAIN` more, each from the colours to which the last one led.
+//! That is a pass. `Recolouring` makes one, and as many more as its network says (`Network::again`), each from the
+//! colours to which the last one led.
 //!
 //! The new colours are proper and not barred, at most the degree and the bars of each node, and no node can lower its
-//! own while the others keep theirs; without bars they are no more than before (`laws`).
+//! own while the others keep theirs; no pass leads to more channels than it began with (`laws`).
 //!
 //! ```text
-//! for node in &run_rounds::<Recolouring<0>>(alloc, &net)? {
+//! for node in &run_rounds::<Recolouring>(alloc, &net.repeating(63))? {
 //!     colours.push(node.beside().colour())?;
 //! }
 //! ```

@@ -8,13 +8,13 @@ use interference::Network;
 use number_rows::push_numbered;
 use std::alloc::AllocError;
 
-impl<const AGAIN: u8> SequelText<Colouring> for Recolours<AGAIN> {
+impl SequelText<Colouring> for Recolours {
     ghost use Rattle.recolouring.specs.Texts.{recolouring_words};
     ghost use Rattle.recolouring.specs.TextsLaws.{recolouring_named};
 
-    ghost words = { recolouring_words AGAIN };
+    ghost words = { recolouring_words };
 
-    ghost are_named = { recolouring_named AGAIN };
+    ghost are_named = { recolouring_named };
 
     fn rounds_end() {
         rounds_end_with_a_plan_that_none_can_lower();

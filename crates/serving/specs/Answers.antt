@@ -1,5 +1,5 @@
 -- What a command of `forestplan` may answer to the bytes of its input.
-use Rattle.std.specs.Prelude.{◌≢◌, ℕ, List, None, Result, Ok, Err}
+use Rattle.std.specs.Prelude.{◌≢◌, ℕ, List, Result, Ok, Err}
 use Rattle.run_faults.specs.declared.fault.PoolFault.TheVariants.{BadOptions}
 use Rattle.answers.specs.Answers.{IsFaultOfText, IsForestsAnswer, IsPlainAnswer}
 use Rattle.colour_rules.specs.Program.{colouring}
@@ -9,6 +9,7 @@ use Rattle.answers.specs.Verdicts.{IsCheckAnswer, IsFaultOfCheck}
 use Rattle.byte_functions.specs.Workers.{IsFaultOfWorkers}
 use Rattle.answers.specs.declared.fault.PlanFault.{PlanFault}
 use Rattle.answers.specs.declared.fault.PlanFault.TheVariants.{Pool}
+use Rattle.answers.specs.declared.setting.Setting.TheVariants.{AsRead}
 use Rattle.command_line.specs.Asked.{request_of}
 use Rattle.command_line.specs.declared.executable.Executable.TheVariants.{Forestplan}
 use Rattle.command_line.specs.declared.request.Request.{Request}
@@ -26,11 +27,11 @@ IsGoodAnswer Check input answer = IsCheckAnswer input answer
 
 -- the fault of an input for each command, a line for each; the options of a command line are never out of range
 abbrev pub IsFaultAnswer : Request → List ℕ → PlanFault → Type 0
-IsFaultAnswer Forests input fault = IsFaultOfText None input fault
-IsFaultAnswer Plain input fault = IsFaultOfText None input fault
-IsFaultAnswer (Plan options) input fault = IsFaultOfWorkers None options input fault × (fault ≢ Pool BadOptions)
+IsFaultAnswer Forests input fault = IsFaultOfText AsRead input fault
+IsFaultAnswer Plain input fault = IsFaultOfText AsRead input fault
+IsFaultAnswer (Plan options) input fault = IsFaultOfWorkers AsRead options input fault × (fault ≢ Pool BadOptions)
 IsFaultAnswer (Transcript options edition) input fault =
-    IsFaultOfWorkers None options input fault × (fault ≢ Pool BadOptions)
+    IsFaultOfWorkers AsRead options input fault × (fault ≢ Pool BadOptions)
 IsFaultAnswer Check input fault = IsFaultOfCheck input fault
 
 -- the bytes that a command may answer, or its fault

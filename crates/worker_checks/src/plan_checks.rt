@@ -3,7 +3,7 @@
 use crate::meeting::Meeting;
 use crate::node_pool_checks::PULSES;
 use crate::runs::BY_TWO;
-use answers::replay_bytes;
+use answers::{Setting, replay_bytes};
 use byte_functions::{plan_bytes, run_bytes, transcript_bytes};
 use colour_program::Colouring;
 use run_options::Edition;
@@ -35,7 +35,7 @@ const TRIANGLE_ENDS: &[u8] =
 
 // Whether two workers make the last states through a gate.
 fn make_the_ends<R: Threads + Wait + Sync>(rt: &R, alloc: Global, gate: &Meeting) -> bool {
-    match run_bytes::<Colouring, Meeting, R>(rt, alloc, TRIANGLE, None, BY_TWO, gate) {
+    match run_bytes::<Colouring, Meeting, R>(rt, alloc, TRIANGLE, Setting::AsRead, BY_TWO, gate) {
         Ok(ends) => ends.as_slice() == TRIANGLE_ENDS,
         Err(_) => false,
     }
@@ -54,7 +54,7 @@ fn is_replayed(alloc: Global, transcript: &[u8]) -> bool {
     text.extend_from_slice(TRIANGLE).is_ok()
         && text.extend_from_slice(transcript).is_ok()
         && transcript.starts_with(b"transcript 2 3\n")
-        && replay_bytes::<Colouring>(alloc, &text, None).is_ok()
+        && replay_bytes::<Colouring>(alloc, &text, Setting::AsRead).is_ok()
 }
 
 // Whether two workers make a transcript through a gate that is replayed.

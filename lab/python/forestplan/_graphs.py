@@ -15,7 +15,7 @@ MAX_EDGES = 400000
 MAX_CHANNEL = 2048
 MAX_BARS = 1024
 MAX_WORKERS = 64
-MAX_PASSES = 8
+MAX_PASSES = 64
 # No channel of a licence has a greater number.
 MAX_REAL = 10**12
 

@@ -16,13 +16,23 @@ export function programNamed() {
   if (program === "recolouring" && passes > 1) return `recolouring passes ${passes}`;
   return program === "layers" && root ? `layers root ${root}` : program;
 }
+// A number of passes, if recolouring makes as many; else nothing.
+export function manyPasses(said) {
+  const passes = whole(said);
+  return passes <= seen.hello.passes ? passes : null;
+}
 // The fields of these options, beside each choice of a program; `changed` is called after one of them.
 export function showOptions() {
   all(".passes").forEach(one => { one.value = seen.passes; one.parentNode.hidden = seen.program !== "recolouring"; });
   all(".root").forEach(one => { one.value = seen.root || ""; one.parentNode.hidden = seen.program !== "layers"; });
 }
 export function watchOptions(changed) {
-  all(".passes").forEach(one => { one.onchange = () => { seen.passes = +one.value; changed(); }; });
+  all(".passes").forEach(one => {
+    one.onchange = () => {
+      seen.passes = manyPasses(one.value) || 1;
+      changed();
+    };
+  });
   all(".root").forEach(one => {
     one.onchange = () => {
       const v = whole(one.value);

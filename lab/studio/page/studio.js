@@ -1,7 +1,7 @@
 // The studio: its tabs, the mouse on the stage, keys, and the address, which says all that is seen.
 import {call, cancel, hello as greeted, token} from "./api.js";
-import {all, asks, by, edgesOf, hooks, listOf, option, rulesOf, say, seen, show, stage, tabs, time, tried, watchOptions,
-  whole, wrong, zoomPicture} from "./base.js";
+import {all, asks, by, edgesOf, hooks, listOf, manyPasses, option, rulesOf, say, seen, show, stage, tabs, time, tried,
+  watchOptions, whole, wrong, zoomPicture} from "./base.js";
 import {askPlan, drawn, inspect, makeForm, openFile, save} from "./draw.js";
 import {check} from "./check.js";
 import {rounds} from "./rounds_tab.js";
@@ -245,7 +245,7 @@ async function follow(place = location.hash) {
     if (found) model.load(found, example);
     seen.program = hello.programs.includes(given.get("program")) ? given.get("program") : "colouring";
     const isNode = v => v >= 1 && v <= net.nodes.length, [node, root] = ["node", "root"].map(one => whole(given.get(one)));
-    seen.passes = +hello.passes.find(passes => passes === given.get("passes")) || 1;
+    seen.passes = manyPasses(given.get("passes")) || 1;
     Object.assign(seen, {root: isNode(root) ? root : null, slow: edgesOf(given.get("slow")).filter(e => model.hasEdge(...e)),
       lazy: listOf(given.get("lazy")).map(whole).filter(isNode), node: isNode(node) ? node : null});
     Object.values(tabs).forEach(tab => tab.follow(given));
@@ -262,7 +262,7 @@ async function follow(place = location.hash) {
 // What an address says and the page can't read: a value that isn't of its kind, or a word that means nothing.
 const NUMBER = /^\d{1,9}(\.\d+)?$/, isSmall = (said, most) => NUMBER.test(said) && +said <= most;
 function readers() {
-  const {dares, lessons, passes, policies, programs, rules} = seen.hello, isAmong = list => said => list.includes(said);
+  const {dares, lessons, policies, programs, rules} = seen.hello, isAmong = list => said => list.includes(said);
   const isRules = of => said => rulesOf(of, said) === said, isPolicy = said => Object.hasOwn(policies, said);
   const isNode = v => whole(v) >= 1 && whole(v) <= net.nodes.length, any = () => true;
   return {
@@ -277,7 +277,7 @@ function readers() {
     steps: said => listOf(said).every(step => /^\d+(-\d+){0,2}$/.test(step)),
     plan: said => listOf(said).every(one => isSmall(one, 9999)),
     policy: isPolicy, other: said => isPolicy(said.split(".")[0]), how: isAmong(["seed", "threads"]),
-    beside: isAmong(["0", "1"]), kind: isAmong(tabs.pictures.kinds), passes: isAmong(passes)};
+    beside: isAmong(["0", "1"]), kind: isAmong(tabs.pictures.kinds), passes: manyPasses};
 }
 function notRead(given) {
   const reads = readers(), isRead = (name, said) => Object.hasOwn(reads, name) && (!said || reads[name](said));
@@ -390,7 +390,7 @@ async function begin() {
   hello.lessons.forEach(one => option(by("lessons"), one.number, `${one.number}. ${one.title}`));
   Object.entries(hello.dares).forEach(([name, says]) => option(by("dare"), name, says));
   hello.lecture.forEach((one, k) => option(by("lecture"), k, `${one.minutes}: ${one.title}`));
-  all(".passes").forEach(one => hello.passes.forEach(passes => option(one, passes)));
+  all(".passes").forEach(one => { one.max = hello.passes; });
   ["program", "program2", "program3", "program4"].forEach(id => hello.programs.forEach(name => option(by(id), name)));
   ["policy", "policy2"].forEach(id => Object.keys(hello.policies).forEach(name => {
     option(by(id), name, name, hello.policies[name]);

@@ -1,6 +1,6 @@
 use Rattle.dimacs_col.specs.Reading.{graph_of}
 use Rattle.answers.specs.Answers.{network_with}
-use Rattle.answers.proofs.Rooted.{graph-count}
+use Rattle.answers.proofs.Settings.{graph-count}
 use Rattle.answers.proofs.answer.network_of_text.Goals as goal
 
 -- the root is no vertex of the network of the graph

@@ -12,7 +12,7 @@ returns-in_err-network-clause-fault g c =
     let program = g.P.NodeProgram.program in
     let payloads = payload_texts g.P.Payload.PayloadText in
     let p = err_from_is_err_and c.from_residual.result c.from_residual.ensures.1 in
-    rw (p.1, p.2) (fault-network program payloads c.args.root g.P.ProgramText.texts c.args.input.now c.network_text.result.now c.in_err-network.field-0.0
+    rw (p.1, p.2) (fault-network program payloads c.args.setting g.P.ProgramText.texts c.args.input.now c.network_text.result.now c.in_err-network.field-0.0
     c.network_text.ensures.network
     c.in_err-network.ensures.fault)
 
@@ -22,7 +22,7 @@ returns-in_err-check_program-clause-fault g c =
     let program = g.P.NodeProgram.program in
     let payloads = payload_texts g.P.Payload.PayloadText in
     let p = err_from_is_err_and c.from_residual-in_err-check_program.result c.from_residual-in_err-check_program.ensures.1 in
-    rw (p.1, p.2) (fault-transcript program payloads c.args.root g.P.ProgramText.texts c.args.input.now c.network_text.result.now
+    rw (p.1, p.2) (fault-transcript program payloads c.args.setting g.P.ProgramText.texts c.args.input.now c.network_text.result.now
     c.in_ok-network.network c.in_err-check_program.field-0.0
     c.network_text.ensures.network c.in_ok-network.ensures.ok
     (inl (subst (λ name. IsFaultOfName name (lines_of c.args.input.now) c.in_err-check_program.field-0.0) c.name.ensures.name
@@ -33,7 +33,7 @@ returns-in_err-state-clause-fault g c =
     let program = g.P.NodeProgram.program in
     let payloads = payload_texts g.P.Payload.PayloadText in
     let p = err_from_is_err_and c.from_residual-in_err-state.result c.from_residual-in_err-state.ensures.1 in
-    rw (p.1, p.2) (fault-transcript program payloads c.args.root g.P.ProgramText.texts c.args.input.now c.network_text.result.now
+    rw (p.1, p.2) (fault-transcript program payloads c.args.setting g.P.ProgramText.texts c.args.input.now c.network_text.result.now
     c.in_ok-network.network c.in_err-state.field-0.0
     c.network_text.ensures.network c.in_ok-network.ensures.ok
     (inr (
@@ -47,7 +47,7 @@ returns-clause-ok g c =
     let payloads = payload_texts g.P.Payload.PayloadText in
     let texts = g.P.ProgramText.texts in
     let view = c.in_ok-state.state in
-    reached program payloads c.args.root texts c.args.input.now c.network_text.result.now c.in_ok-text_of_state.field-0.items
+    reached program payloads c.args.setting texts c.args.input.now c.network_text.result.now c.in_ok-text_of_state.field-0.items
     c.in_ok-network.network view.state
     c.network_text.ensures.network c.in_ok-network.ensures.ok c.in_ok-state.ensures.ok
     (c.in_ok-text_of_state.ensures.text ∙ ap (λ net. state_text program texts payloads net view.state) c.in_ok-state.ensures.net)

@@ -20,9 +20,9 @@ counted forests degree width sweeps first few =
     omega (arith, most, left, right, split)
 
 pub returns-clause-pulses : goal.returns-clause-pulses
-returns-clause-pulses c = λ again net ok.
+returns-clause-pulses c = λ net ok.
     counted (forest_count_of net) (greatest_degree_of net) (greatest_degree_of net + greatest_bars_of net + 1)
-    ((again + 1) * sweeps (sizes_of net)) 12 (c.forest_count_is_the_greatest.ensures.within net ok)
+    ((net.again + 1) * sweeps (sizes_of net)) 12 (c.forest_count_is_the_greatest.ensures.within net ok)
 
 pub returns-clause-payloads : goal.returns-clause-payloads
-returns-clause-payloads c = λ again net ok v w edge. recolouring-over again net ok v w edge
+returns-clause-payloads c = λ net ok v w edge. recolouring-over net ok v w edge

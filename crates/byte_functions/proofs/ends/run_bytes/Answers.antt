@@ -26,7 +26,7 @@ returns-clause-ok g c =
     let texts = g.P.ProgramText.texts in
     let ended = c.whole_outcomes_have_ended.ensures.law program g.P.NodeProgram.laws net c.in_ok-network.ensures.network capacity false outcome is
     c.in_ok-outcome.ensures.whole in
-    ends-answer program texts net capacity false outcome is ended.nodes_are c.args.root c.args.input.now c.in_ok-text_of_ends.field-0.items
+    ends-answer program texts net capacity false outcome is ended.nodes_are c.args.setting c.args.input.now c.in_ok-text_of_ends.field-0.items
     c.in_ok-network.ensures.ok
     (c.in_ok-text_of_ends.ensures ∙ ap (flat_map (gathered_end texts net)) c.actors.ensures.nodes)
     c.rounds_solve.ensures.law
@@ -34,5 +34,5 @@ returns-clause-ok g c =
 pub returns-in_err-outcome-clause-fault : goal.returns-in_err-outcome-clause-fault
 returns-in_err-outcome-clause-fault g c =
     let p = err_from_is_err_and c.from_residual-in_err-outcome.result c.from_residual-in_err-outcome.ensures.1 in
-    rw (p.1, p.2) (workers-fault c.args.root c.args.input.now c.in_ok-network.network c.args.options c.in_err-outcome.field-0.0
+    rw (p.1, p.2) (workers-fault c.args.setting c.args.input.now c.in_ok-network.network c.args.options c.in_err-outcome.field-0.0
     c.in_ok-network.ensures.ok c.in_err-outcome.ensures.fault)

@@ -35,7 +35,7 @@ returns-clause-ok g c =
     let law : WholeOutcomesReplay g.P.NodeProgram.program net = c.whole_outcomes_replay.ensures.law g.P.NodeProgram.program net here in
     let payloads = payload_texts g.P.Payload.PayloadText in
     let words = stamped_edition g.P.ProgramText.texts in
-    answered g.P.NodeProgram.program payloads words c.args.root c.args.input.now text net c.args.options.capacity outcome c.in_ok-network.ensures.ok
+    answered g.P.NodeProgram.program payloads words c.args.setting c.args.input.now text net c.args.options.capacity outcome c.in_ok-network.ensures.ok
     c.in_ok-outcome.ensures.outcome c.in_ok-outcome.ensures.whole c.args.edition law
     (subst (λ n. IsTextIn payloads words c.args.edition n outcome.nodes text) c.nodes-count.ensures.count
     (subst (λ nodes. IsTextIn payloads words c.args.edition c.nodes-count.result nodes text) c.into_actors.ensures.nodes c.in_ok-text_in.ensures))
@@ -43,5 +43,5 @@ returns-clause-ok g c =
 pub returns-in_err-outcome-clause-fault : goal.returns-in_err-outcome-clause-fault
 returns-in_err-outcome-clause-fault g c =
     let p = err_from_is_err_and c.from_residual-in_err-outcome.result c.from_residual-in_err-outcome.ensures.1 in
-    rw (p.1, p.2) (workers-fault c.args.root c.args.input.now c.in_ok-network.network c.args.options c.in_err-outcome.field-0.0
+    rw (p.1, p.2) (workers-fault c.args.setting c.args.input.now c.in_ok-network.network c.args.options c.in_err-outcome.field-0.0
     c.in_ok-network.ensures.ok c.in_err-outcome.ensures.fault)

@@ -16,6 +16,6 @@ returns-clause-ok g c =
     let same : at.net ≡ net = c.in_ok-state.ensures.network in
     ends-answer program texts net (node_of program net at.state)
     (subst (λ n. (v : ℕ) → IsVertex n v → node_of program n at.state v ≡ end_node program n v) same c.in_ok-state.ensures.ended.nodes_are)
-    c.args.root c.args.input.now c.in_ok-text_of_ends.field-0.items c.in_ok-network.ensures.ok
+    c.args.setting c.args.input.now c.in_ok-text_of_ends.field-0.items c.in_ok-network.ensures.ok
     (c.in_ok-text_of_ends.ensures.text ∙ ap (λ n. flat_map (λ v. node_end texts n v (node_of program n at.state v)) (vertices n)) same)
     c.rounds_solve.ensures.law

@@ -3,7 +3,7 @@ use Rattle.dimacs_col.specs.Lines.{lines_of}
 use Rattle.interference.specs.Net.{IsNetwork, count_of}
 use Rattle.wire_texts.specs.PayloadTexts.{payload_texts}
 use Rattle.transcripts.specs.TranscriptText.{stamped_row_text, text_of}
-use Rattle.answers.proofs.Rooted.{lines-more}
+use Rattle.answers.proofs.Settings.{lines-more}
 use Rattle.byte_functions.specs.Transcripts.{stamped_edition}
 use Rattle.lone_answers.specs.Transcripts.{IsRecordText}
 use Rattle.lone_answers.proofs.transcript.alone_transcript_bytes.Goals as goal
@@ -21,7 +21,7 @@ returns-clause-ok g c =
     let line = stamped_row_text payloads in
     let is_text : text ≡ text_of words line (count_of net) rows = c.in_ok-text_of_rows.ensures.text
     ∙ ap (λ n. text_of words line n c.as_slice.result.now) c.nodes.ensures.count ∙ ap (text_of words line (count_of net)) c.as_slice.ensures.value in
-    lines-more c.args.root (lines_of c.args.input.now) (λ read. IsNetwork read × (net ≡ read))
+    lines-more c.args.setting (lines_of c.args.input.now) (λ read. IsNetwork read × (net ≡ read))
     (λ read. IsNetwork read × IsRecordText program payloads words read text)
     (λ read both. (
       both.0,
