@@ -5,9 +5,9 @@ use Rattle.std.proofs.lemmas.List.{length-append, length-map}
 use Rattle.std.specs.declared.cmp.PartialEq as equality
 use Rattle.node_api.specs.declared.program.NodeProgram as program
 use Rattle.node_api.specs.declared.payload.PayloadText as text
-use Rattle.alpha_core.specs.StampedWires.{stamped}
-use Rattle.alpha_core.specs.declared.stamped.Stamped.{Stamped}
-use Rattle.alpha_core.specs.declared.wire.Wire.{Wire}
+use Rattle.wires.specs.StampedWires.{stamped}
+use Rattle.wires.specs.declared.stamped.Stamped.{Stamped}
+use Rattle.wires.specs.declared.wire.Wire.{Wire}
 use Rattle.link_queue.specs.Ends.{put_stamped, taken_stamped}
 use Rattle.actor.specs.Counted.{CountsOn, events_of, greatest_in, greatest_stamp, greatest_taken, wires_in}
 use Rattle.actor.specs.Node.{by_port}

@@ -9,10 +9,10 @@ use Rattle.node_api.specs.Program.{Program, last_pulse_on}
 use Rattle.node_api.specs.Laws.{IsProgram}
 use Rattle.alpha_core.specs.Alpha.{pulse, put_done, reaction}
 use Rattle.alpha_core.specs.declared.refused.AlphaRefused.{AlphaRefused}
-use Rattle.alpha_core.specs.StampedWires.{last_stamp, stamped, wires_of}
-use Rattle.alpha_core.specs.declared.stamped.Stamped.{Stamped}
+use Rattle.wires.specs.StampedWires.{last_stamp, stamped, wires_of}
+use Rattle.wires.specs.declared.stamped.Stamped.{Stamped}
 use Rattle.alpha_core.specs.View.{Node, can_pulse, port_at}
-use Rattle.alpha_core.specs.declared.wire.Wire.{Wire}
+use Rattle.wires.specs.declared.wire.Wire.{Wire}
 use Rattle.link_queue.specs.Ends.{put_list, put_stamped, take_name, taken_list, taken_stamped}
 use Rattle.link_queue.specs.Queued.{stamped_of}
 use Rattle.link_queue.specs.declared.queued.Queued.{Queued}

@@ -1,7 +1,7 @@
 -- A wire with its stamp, as the queue of a link holds it.
 use Rattle.std.proofs.Common.{◌≡◌, ℕ, sym}
-use Rattle.alpha_core.specs.declared.wire.Wire.{Wire}
-use Rattle.alpha_core.specs.StampedWires.{stamped}
+use Rattle.wires.specs.declared.wire.Wire.{Wire}
+use Rattle.wires.specs.StampedWires.{stamped}
 use Rattle.link_queue.specs.Queued.{stamped_of}
 use Rattle.link_queue.specs.declared.queued.Queued.{Queued}
 

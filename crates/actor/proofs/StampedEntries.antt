@@ -4,7 +4,7 @@ use Rattle.std.proofs.lemmas.Bool.{cases_Bool}
 use Rattle.entries.specs.declared.entry.Entry.{Entry}
 use Rattle.entries.specs.declared.entry.Entry.TheVariants.{Pulse, Put, Take}
 use Rattle.actor.specs.Written.{puts_in, takes_in}
-use Rattle.alpha_core.specs.StampedWires.{wires_of}
+use Rattle.wires.specs.StampedWires.{wires_of}
 use Rattle.entries.specs.declared.rows.StampedEntry.{StampedEntry}
 use Rattle.entries.specs.Rows.{bare_of}
 use Rattle.stamps.specs.Stamps.{put_if, put_in, taken_if, taken_in}

@@ -3,7 +3,7 @@ use Rattle.std.proofs.Common.{◌≡◌, ◌<◌, ◌≤◌, ◌+◌, ◌^◌, �
 use Rattle.std.specs.Prelude.{Bool, Result, IsErrAnd, IsTrue, max}
 use Rattle.std.specs.declared.cmp.PartialEq as equality
 use Rattle.atomic_table.specs.Seated.{TableId}
-use Rattle.alpha_core.specs.declared.wire.Wire.{Wire}
+use Rattle.wires.specs.declared.wire.Wire.{Wire}
 use Rattle.node_api.specs.declared.program.NodeProgram as program
 use Rattle.node_api.specs.declared.payload.PayloadText as text
 use Rattle.actor.specs.Blocked.{IsUnmoved}

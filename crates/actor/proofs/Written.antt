@@ -8,7 +8,7 @@ use Rattle.std.proofs.lemmas.List.{append-nil}
 use Rattle.interference.specs.Net.{Net, IsNetwork, IsVertex, degree_of, neighbour_of, port_to}
 use Rattle.interference.proofs.Neighbours.{port_to-is}
 use Rattle.node_api.specs.Program.{Program, last_pulse_on}
-use Rattle.alpha_core.specs.declared.wire.Wire.{Wire}
+use Rattle.wires.specs.declared.wire.Wire.{Wire}
 use Rattle.alpha_core.specs.View.{View, Node, can_pulse, port_at}
 use Rattle.alpha_core.specs.Alpha.{pulse, put_done, reaction, reacts}
 use Rattle.alpha_core.specs.Program.{start_node}

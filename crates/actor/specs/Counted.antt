@@ -1,8 +1,8 @@
 -- How the counter of a node counts its events, with a transcript or without.
 use Rattle.std.specs.Prelude.{◌≡◌, ◌+◌, ◌≤◌, ℕ, List, [], ◌∷◌, length, map, max, None}
 use Rattle.std.specs.declared.cmp.PartialEq as equality
-use Rattle.alpha_core.specs.StampedWires.{last_stamp}
-use Rattle.alpha_core.specs.declared.stamped.Stamped.{Stamped}
+use Rattle.wires.specs.StampedWires.{last_stamp}
+use Rattle.wires.specs.declared.stamped.Stamped.{Stamped}
 use Rattle.node_api.specs.declared.program.NodeProgram as program
 use Rattle.node_api.specs.declared.payload.PayloadText as text
 use Rattle.link_queue.specs.Ends.{put_stamped, taken_stamped}

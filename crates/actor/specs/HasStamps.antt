@@ -1,8 +1,8 @@
 -- What a node with its ends keeps of its stamps.
 use Rattle.std.specs.Prelude.{◌≡◌, ℕ, ◌≤◌, ◌+◌, ◌^◌, max, Bool, IsTrue, List, Option, Some, None}
 use Rattle.interference.specs.Net.{Net}
-use Rattle.alpha_core.specs.declared.stamped.Stamped.{Stamped}
-use Rattle.alpha_core.specs.StampedWires.{last_stamp}
+use Rattle.wires.specs.declared.stamped.Stamped.{Stamped}
+use Rattle.wires.specs.StampedWires.{last_stamp}
 use Rattle.stamps.specs.Keeps.{KeepsStamps}
 use Rattle.entries.specs.declared.rows.StampedEntry.{StampedEntry}
 use Rattle.actor.specs.declared.aside.Aside.{Aside}

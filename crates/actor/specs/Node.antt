@@ -3,7 +3,7 @@ use Rattle.std.specs.Prelude.{◌≡◌, ℕ, ◌-◌, ◌<◌, List, [], ◌∷
 use Rattle.std.specs.Prelude.{false, slice_index_or, slice_set}
 use Rattle.std.specs.List.{range_with_len}
 use Rattle.interference.specs.Net.{Net, degree_of, neighbour_of, back_port_of}
-use Rattle.alpha_core.specs.declared.wire.Wire.{Wire}
+use Rattle.wires.specs.declared.wire.Wire.{Wire}
 use Rattle.alpha_core.specs.View.{View, port_at}
 use Rattle.alpha_core.specs.Table.{is_due}
 use Rattle.actor.specs.declared.aside.Aside.{Aside}

@@ -4,7 +4,7 @@ use Rattle.atomic_table.specs.Seated.{TableId}
 use Rattle.interference.specs.Net.{Net}
 use Rattle.link_rule.specs.declared.name.LinkName.{LinkName}
 use Rattle.link_rule.specs.Legal.{name_of}
-use Rattle.alpha_core.specs.declared.wire.Wire.{Wire}
+use Rattle.wires.specs.declared.wire.Wire.{Wire}
 use Rattle.link_queue.specs.declared.link.Link.{Link}
 use Rattle.link_queue.specs.Ends.{WasFull}
 

@@ -4,7 +4,7 @@ use Rattle.std.specs.Prelude.{List, [], ◌∷◌, slice_get}
 use Rattle.std.specs.List.{range_with_len}
 use Rattle.interference.specs.Net.{Net, degree_of, neighbour_of, port_to}
 use Rattle.node_api.specs.Program.{Program, last_pulse_on}
-use Rattle.alpha_core.specs.declared.wire.Wire.{Wire}
+use Rattle.wires.specs.declared.wire.Wire.{Wire}
 use Rattle.alpha_core.specs.View.{Node, can_pulse, port_at}
 use Rattle.alpha_core.specs.Alpha.{pulse, put_done, reaction}
 use Rattle.alpha_core.specs.Program.{start_node}

@@ -1,6 +1,6 @@
 //! A wire that a node did nothing with.
 
-use alpha_core::Wire;
+use wires::Wire;
 
 /// Why a wire was set aside.
 #[derive(Debug, Clone, Copy, PartialEq, Eq)]

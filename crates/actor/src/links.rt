@@ -3,7 +3,7 @@
 ghost use Rattle.std.specs.Prelude.{◌≡◌, ◌<◌, ◌≤◌, ◌++◌, ◌∷◌, [], ℕ, Some, IsSome, length, map};
 ghost use Rattle.std.specs.Prelude.{IfOk, IfErr, IfSome, IfNone, IsTrue, slice_get};
 ghost use Rattle.link_rule.specs.Legal.{IsLegalOn, LegalFor};
-ghost use Rattle.alpha_core.specs.StampedWires.{StampsRise, last_stamp};
+ghost use Rattle.wires.specs.StampedWires.{StampsRise, last_stamp};
 ghost use Rattle.link_queue.specs.Ends.{put_list, put_name, put_stamped, take_name, taken_list};
 ghost use Rattle.link_queue.specs.Ends.{HasMet, held_stamped, taken_stamped};
 ghost use Rattle.link_queue.specs.Queued.{stamped_of};
@@ -11,13 +11,13 @@ ghost use Rattle.actor.specs.Tables.{LinkWasFull, table_of};
 
 use crate::wired::{WiredPut, WiredTake};
 use crate::wiring::Wiring;
-use alpha_core::Stamped;
 use interference::Memory;
 use link_queue::{Full, Link, Met, Queued};
 use node_api::NodeProgram;
 use std::alloc::Global;
 use std::marker::PhantomData;
 use std::sync::Wait;
+use wires::Stamped;
 
 /// The links of a run, in one list, in which an end finds its link by the link's index. No clause says in which order
 /// they are.

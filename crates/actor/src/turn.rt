@@ -16,11 +16,11 @@ use crate::links::Links;
 use crate::node::Node;
 use crate::refused::TurnRefused;
 use crate::wiring::Wiring;
-use alpha_core::{Stamped, Wire};
 use entries::Entry;
 use link_queue::Queued;
 use node_api::{NodeProgram, PayloadText};
 use std::sync::Wait;
+use wires::{Stamped, Wire};
 
 // How many wires a node takes by one port in a turn, at most.
 const TAKES: u32 = 4;

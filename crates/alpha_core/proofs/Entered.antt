@@ -6,7 +6,7 @@ use Rattle.std.proofs.lemmas.Bool.{and_parts, not-true}
 use Rattle.std.proofs.lemmas.List.{get_or-map, get_or-replicate, length-map, same_lists}
 use Rattle.node_api.specs.Boxes.{at_port, FilledPorts}
 use Rattle.node_api.proofs.Slots.{some_or_none}
-use Rattle.alpha_core.specs.declared.wire.Wire.TheVariants.{Payload, Close}
+use Rattle.wires.specs.declared.wire.Wire.TheVariants.{Payload, Close}
 use Rattle.alpha_core.specs.View.{Port, none_waits}
 use Rattle.alpha_core.specs.Alpha.{emit, enters, enter_all}
 use Rattle.alpha_core.proofs.Changed.{ChangedAt, ChangedUpTo, changed-all}

@@ -2,7 +2,7 @@
 use Rattle.std.proofs.Common.{◌≡◌, ℕ, Option, Some, None, List, [], ◌∷◌, length, drop, refl, ap, arith}
 use Rattle.std.specs.Prelude.{slice_get}
 use Rattle.std.proofs.lemmas.Option.{same_Some}
-use Rattle.alpha_core.specs.declared.wire.Wire.TheVariants as wire
+use Rattle.wires.specs.declared.wire.Wire.TheVariants as wire
 use Rattle.alpha_core.specs.declared.bare.BareWire.{BareWire}
 use Rattle.alpha_core.specs.declared.bare.BareWire.TheVariants.{Payload}
 use Rattle.alpha_core.specs.OutLists.{payload_count, payloads_in, wires_of}

@@ -21,4 +21,3 @@ mod SeenOuts
 mod Followed
 mod Settled
 mod Entered
-pub mod StampedWires

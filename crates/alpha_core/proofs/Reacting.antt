@@ -2,8 +2,8 @@
 use Rattle.std.proofs.Common.{◌≡◌, ℕ, suc, ◌+◌, ◌<◌, ◌≤◌, Bool, true, false, ◌&&◌, Option, Some, None, refl, sym, ap, ◌∙◌, arith, eq-eqb, ne_eqb, ⊎_elim}
 use Rattle.std.specs.Prelude.{is_some, nat_eq, nat_lt, if◌then◌else◌, Ok}
 use Rattle.std.proofs.lemmas.Bool.{cases_eq, and_parts, or_parts, eqb-true, leb-true, ltb-true, not-true}
-use Rattle.alpha_core.specs.declared.wire.Wire.{Wire}
-use Rattle.alpha_core.specs.declared.wire.Wire.TheVariants.{Payload, Safe}
+use Rattle.wires.specs.declared.wire.Wire.{Wire}
+use Rattle.wires.specs.declared.wire.Wire.TheVariants.{Payload, Safe}
 use Rattle.alpha_core.specs.View.{Alpha, Port, View, set_port, safes_at, safes_here, is_paid, port_at}
 use Rattle.alpha_core.specs.Table.{horizon, refusal_of, is_due}
 use Rattle.alpha_core.specs.Rows.{AtPulse, with_port}

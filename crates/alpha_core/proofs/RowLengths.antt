@@ -4,7 +4,7 @@ use Rattle.std.proofs.lemmas.List.{length-map, length-replicate}
 use Rattle.interference.specs.declared.limits.TheConstants.{MAX_DEGREE}
 use Rattle.node_api.specs.Boxes.{nothing}
 use Rattle.alpha_core.specs.declared.marks.Marks.{Marks}
-use Rattle.alpha_core.specs.declared.wire.Wire.{Wire}
+use Rattle.wires.specs.declared.wire.Wire.{Wire}
 use Rattle.alpha_core.specs.Rows.{AreRows, Rows, Taken, advanced, is_odd, no_marks, rows_of}
 
 module _ {M : Type 0} where

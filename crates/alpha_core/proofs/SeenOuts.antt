@@ -2,7 +2,7 @@
 use Rattle.std.proofs.Common.{◌≡◌, ℕ, ◌<◌, ◌≤◌, ◌+◌, ◌-◌, List, [], ◌∷◌, ◌++◌, length, drop, get_or, set, ap, ◌∙◌, arith}
 use Rattle.std.specs.Prelude.{nat_eq}
 use Rattle.alpha_core.specs.declared.bare.BareWire.{BareWire}
-use Rattle.alpha_core.specs.declared.wire.Wire.{Wire}
+use Rattle.wires.specs.declared.wire.Wire.{Wire}
 use Rattle.alpha_core.specs.Rows.{out_at, push_out}
 use Rattle.alpha_core.specs.OutLists.{AreOutLists, bare_of, outs_of, overs_of, payload_count, payload_of, payloads_in, payloads_out, wires_of}
 use Rattle.alpha_core.proofs.OutWires.{bit, element-at}

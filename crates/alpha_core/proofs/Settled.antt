@@ -5,8 +5,8 @@ use Rattle.std.proofs.Common.{refl, sym, ap, ◌∙◌, arith, subst, replicate}
 use Rattle.std.specs.Prelude.{nat_lt, not, ◌&&◌, if◌then◌else◌}
 use Rattle.std.proofs.lemmas.Bool.{and_from, and_parts}
 use Rattle.std.proofs.lemmas.List.{length-set}
-use Rattle.alpha_core.specs.declared.wire.Wire.{Wire}
-use Rattle.alpha_core.specs.declared.wire.Wire.TheVariants.{Safe}
+use Rattle.wires.specs.declared.wire.Wire.{Wire}
+use Rattle.wires.specs.declared.wire.Wire.TheVariants.{Safe}
 use Rattle.alpha_core.specs.Followed.{unsaid, AreFollowed, AllFollowed, AreSettled, IsAlphaNode}
 use Rattle.alpha_core.specs.Rows.{AtPulse}
 use Rattle.alpha_core.specs.View.{Port, View, new_port, none_waits}

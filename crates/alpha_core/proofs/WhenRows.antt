@@ -5,7 +5,7 @@ use Rattle.node_api.specs.Boxes.{at_port}
 use Rattle.alpha_core.specs.declared.marks.Marks.{Marks}
 use Rattle.alpha_core.specs.declared.when.When.{When}
 use Rattle.alpha_core.specs.declared.when.When.TheVariants.{Now, Next}
-use Rattle.alpha_core.specs.declared.wire.Wire.{Wire}
+use Rattle.wires.specs.declared.wire.Wire.{Wire}
 use Rattle.alpha_core.specs.View.{Port, is_paid, port_in, safes_here}
 use Rattle.alpha_core.specs.Rows.{AreRows, Taken, marks_at, port_of, ports_of, rows_of}
 use Rattle.alpha_core.specs.When.{mark_safe, payload_taken, safes_before, slots_of, with_payload, with_safe, with_slots}

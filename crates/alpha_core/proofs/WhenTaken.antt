@@ -3,7 +3,7 @@ use Rattle.std.proofs.Common.{◌≡◌, ℕ, ◌<◌, Bool, true, false, List, 
 use Rattle.std.specs.Prelude.{if◌then◌else◌, nat_eq, Some, not}
 use Rattle.alpha_core.specs.declared.when.When.{When}
 use Rattle.alpha_core.specs.declared.when.When.TheVariants.{Now, Next}
-use Rattle.alpha_core.specs.declared.wire.Wire.TheVariants.{Payload, Ack, Safe}
+use Rattle.wires.specs.declared.wire.Wire.TheVariants.{Payload, Ack, Safe}
 use Rattle.alpha_core.specs.View.{Port, port_in}
 use Rattle.alpha_core.specs.Alpha.{emit, takes}
 use Rattle.alpha_core.specs.Rows.{AtPulse, with_port}

@@ -1,6 +1,6 @@
 -- Out-lists in which each payload is followed by a safe of its own, but for one payload if the node hasn't said safe.
 use Rattle.std.specs.Prelude.{⊤, ◌≡◌, ◌≤◌, ℕ, ◌+◌, Bool, true, false, List, [], ◌∷◌, length}
-use Rattle.alpha_core.specs.declared.wire.Wire.{Wire}
+use Rattle.wires.specs.declared.wire.Wire.{Wire}
 use Rattle.alpha_core.specs.OutLists.{payloads_out, safes_out}
 use Rattle.alpha_core.specs.View.{Port, none_waits}
 

@@ -1,8 +1,8 @@
 -- An out-list whose payloads lie apart from its wires.
 use Rattle.std.specs.Prelude.{⊤, ◌≡◌, ◌≤◌, ℕ, ◌+◌, Option, None, Some, List, [], ◌∷◌, All, count_by, length, map}
 use Rattle.std.specs.List.{zip}
-use Rattle.alpha_core.specs.declared.wire.Wire.{Wire}
-use Rattle.alpha_core.specs.declared.wire.Wire.TheVariants as wire
+use Rattle.wires.specs.declared.wire.Wire.{Wire}
+use Rattle.wires.specs.declared.wire.Wire.TheVariants as wire
 use Rattle.alpha_core.specs.declared.bare.BareWire.{BareWire}
 use Rattle.alpha_core.specs.declared.bare.BareWire.TheVariants.{Payload, Ack, Safe, Close}
 use Rattle.alpha_core.specs.Rows.{is_over}

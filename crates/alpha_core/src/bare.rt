@@ -3,8 +3,8 @@
 ghost use Rattle.std.specs.Prelude.{◌≡◌};
 ghost use Rattle.alpha_core.specs.OutLists.{bare_of};
 
-use crate::wire::Wire;
 use std::mem::size_of;
+use wires::Wire;
 
 /// A wire of an out-list, without its payload.
 #[derive(Debug, Clone, Copy, PartialEq, Eq)]

@@ -39,14 +39,10 @@ mod out_lists;
 mod payloads;
 mod ports;
 mod refused;
-mod stamped;
 mod table;
 mod taking;
 mod when;
-mod wire;
 
 pub use counter::{Counter, StampFull};
 pub use node::AlphaNode;
 pub use refused::AlphaRefused;
-pub use stamped::Stamped;
-pub use wire::Wire;

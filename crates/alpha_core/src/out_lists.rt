@@ -8,11 +8,11 @@ ghost use Rattle.alpha_core.specs.Rows.{all_within, out_at, push_out};
 
 use crate::bare::{BareWire, bare_of};
 use crate::payloads::Payloads;
-use crate::wire::Wire;
 use arrayvec::ArrayVec;
 use interference::Memory;
 use std::alloc::Global;
 use std::marker::Model;
+use wires::Wire;
 
 /// How many wires an out-list has room for.
 const ROOM: usize = 4;
@@ -32,7 +32,7 @@ pub(crate) struct OutLists<T> {
 
 impl<T> Model for OutLists<T> {
     ghost use Rattle.std.specs.Prelude.{List};
-    ghost use Rattle.alpha_core.specs.declared.wire.Wire.{Wire};
+    ghost use Rattle.wires.specs.declared.wire.Wire.{Wire};
     ghost use Rattle.alpha_core.specs.OutLists.{AreOutLists, outs_of};
 
     ghost Value = { List (List (Wire T)) };

@@ -4,8 +4,8 @@ ghost use Rattle.std.specs.Prelude.{◌≡◌, ◌≤◌, ◌++◌, ◌∷◌, [
 ghost use Rattle.alpha_core.specs.OutLists.{PayloadFits, payload_count, payload_of};
 
 use crate::bare::BareWire;
-use crate::wire::Wire;
 use std::marker::Model;
+use wires::Wire;
 
 /// The payloads of a port's wires, oldest first, in two places. Contracts see the list of them.
 ///

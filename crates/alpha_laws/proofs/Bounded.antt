@@ -13,7 +13,7 @@ use Rattle.interference.proofs.PortSums.{at_vertices, ports-same, ports-add, por
 use Rattle.interference.proofs.Sums.{sum_by-same, sum_by-const}
 use Rattle.interference.proofs.TwoEnds.{ports-swapped, degrees-are_twice_edges}
 use Rattle.node_api.specs.Program.{Program, last_pulse_on}
-use Rattle.alpha_core.specs.declared.wire.Wire.{Wire}
+use Rattle.wires.specs.declared.wire.Wire.{Wire}
 use Rattle.alpha_core.specs.Streams.{sent_pulses}
 use Rattle.alpha_core.specs.View.{Node, is_halted, port_at}
 use Rattle.alpha_core.specs.Program.{sends}

@@ -8,7 +8,7 @@ use Rattle.interference.specs.Net.{Net, IsNetwork, IsVertex, degree_of, neighbou
 use Rattle.node_api.specs.Boxes.{at_port}
 use Rattle.node_api.specs.Program.{Program, last_pulse_on}
 use Rattle.node_api.specs.Run.{outbox_at, inbox_at}
-use Rattle.alpha_core.specs.declared.wire.Wire.{Wire}
+use Rattle.wires.specs.declared.wire.Wire.{Wire}
 use Rattle.alpha_core.specs.Wires.{payload_at}
 use Rattle.alpha_core.specs.Streams.{Legal}
 use Rattle.alpha_core.specs.View.{Node, port_at}
@@ -21,7 +21,7 @@ use Rattle.alpha_laws.proofs.Runs.{Runs}
 use Rattle.alpha_laws.proofs.Across.{mine, theirs, whole', near_at, two_in_flight}
 use Rattle.alpha_laws.specs.Position.{start_at}
 use Rattle.alpha_laws.specs.Kept.{AllKept}
-use Rattle.alpha_core.specs.declared.wire.Wire.TheVariants.{Close}
+use Rattle.wires.specs.declared.wire.Wire.TheVariants.{Close}
 use Rattle.alpha_laws.proofs.Listed.{contains_cons, safe_below}
 use Rattle.alpha_laws.proofs.PortClaims.{port_fits}
 use Rattle.alpha_laws.proofs.Heard.{passed_at, heard}

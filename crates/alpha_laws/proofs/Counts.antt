@@ -7,7 +7,7 @@ use Rattle.interference.specs.Counts.{sum_over_ports, degree_sum_of, edge_count_
 use Rattle.interference.proofs.PortSums.{ports-same, ports-add, ports-const}
 use Rattle.interference.proofs.TwoEnds.{ports-swapped, degrees-are_twice_edges}
 use Rattle.node_api.specs.Program.{Program, last_pulse_on}
-use Rattle.alpha_core.specs.declared.wire.Wire.{Wire}
+use Rattle.wires.specs.declared.wire.Wire.{Wire}
 use Rattle.alpha_core.specs.Streams.{sent_pulses}
 use Rattle.alpha_core.specs.Program.{sends}
 use Rattle.alpha_laws.specs.Simulates.{IsCompleteOn}

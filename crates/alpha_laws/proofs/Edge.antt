@@ -3,7 +3,7 @@ use Rattle.std.proofs.Common.{◌≡◌, ℕ, suc, ◌+◌, ◌*◌, ◌≤◌, 
 use Rattle.std.proofs.Common.{append-nil, length-append, arith, ⊎_elim, ne_eqb, eq-eqb}
 use Rattle.std.specs.Prelude.{is_some, if◌then◌else◌, nat_eq}
 use Rattle.std.proofs.lemmas.Bool.{cases_eq, false_from_ne_true}
-use Rattle.alpha_core.specs.declared.wire.Wire.{Wire}
+use Rattle.wires.specs.declared.wire.Wire.{Wire}
 use Rattle.alpha_core.specs.Wires.{acks_of, payloads_of}
 use Rattle.alpha_core.specs.Streams.{sent_pulse, sent_pulses}
 use Rattle.alpha_core.specs.View.{Port, bit, safes_at}

@@ -4,8 +4,8 @@ use Rattle.std.proofs.Common.{subst, ⊎_elim}
 use Rattle.std.specs.Prelude.{is_some}
 use Rattle.std.proofs.lemmas.Bool.{cases_Bool, and_parts, eqb-true, ltb-true, not-true}
 use Rattle.std.proofs.lemmas.List.{append_cancel_left}
-use Rattle.alpha_core.specs.declared.wire.Wire.{Wire}
-use Rattle.alpha_core.specs.declared.wire.Wire.TheVariants.{Payload, Ack, Safe, Close}
+use Rattle.wires.specs.declared.wire.Wire.{Wire}
+use Rattle.wires.specs.declared.wire.Wire.TheVariants.{Payload, Ack, Safe, Close}
 use Rattle.alpha_core.specs.Wires.{data_of}
 use Rattle.alpha_core.specs.Streams.{payload_wire, rounds, stream, Legal}
 use Rattle.alpha_core.specs.View.{Port, safes_at, is_paid}

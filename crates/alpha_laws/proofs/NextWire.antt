@@ -4,8 +4,8 @@ use Rattle.std.proofs.Common.{arith, ⊎_elim, ne_eqb, eq-eqb, lt-ltb, le-leb}
 use Rattle.std.specs.Prelude.{if◌then◌else◌, nat_eq}
 use Rattle.std.proofs.lemmas.Bool.{cases_eq, eqb-true}
 use Rattle.std.proofs.lemmas.List.{append_cancel_left}
-use Rattle.alpha_core.specs.declared.wire.Wire.{Wire}
-use Rattle.alpha_core.specs.declared.wire.Wire.TheVariants.{Payload, Ack, Safe, Close}
+use Rattle.wires.specs.declared.wire.Wire.{Wire}
+use Rattle.wires.specs.declared.wire.Wire.TheVariants.{Payload, Ack, Safe, Close}
 use Rattle.alpha_core.specs.Wires.{acks_of, payloads_of}
 use Rattle.alpha_core.specs.Streams.{sent_pulse, sent_pulses}
 use Rattle.alpha_core.specs.View.{Port, bit, safes_at, is_paid}

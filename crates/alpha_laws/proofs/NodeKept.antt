@@ -6,8 +6,8 @@ use Rattle.std.proofs.lemmas.Bool.{cases_eq, cases_Bool, and_parts, ltb-true}
 use Rattle.std.proofs.lemmas.List.{get_or-map, get_or-set_same, get_or-set_other, length-set, length-map}
 use Rattle.interference.specs.Net.{Net, degree_of}
 use Rattle.node_api.specs.Program.{Program, last_pulse_on}
-use Rattle.alpha_core.specs.declared.wire.Wire.{Wire}
-use Rattle.alpha_core.specs.declared.wire.Wire.TheVariants.{Safe}
+use Rattle.wires.specs.declared.wire.Wire.{Wire}
+use Rattle.wires.specs.declared.wire.Wire.TheVariants.{Safe}
 use Rattle.alpha_core.specs.View.{Port, View, none_waits, new_port, port_at, set_port}
 use Rattle.alpha_core.specs.Alpha.{emit, settles}
 use Rattle.alpha_laws.proofs.PortFlags.{no_wait_at}

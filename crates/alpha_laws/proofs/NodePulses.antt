@@ -9,7 +9,7 @@ use Rattle.node_api.specs.Boxes.{at_port}
 use Rattle.node_api.specs.Run.{node_at, inbox_at, state_at, outbox_at}
 use Rattle.node_api.proofs.Runs.{node_at-none}
 use Rattle.node_api.specs.Program.{own_of, Program, last_pulse_on}
-use Rattle.alpha_core.specs.declared.wire.Wire.{Wire}
+use Rattle.wires.specs.declared.wire.Wire.{Wire}
 use Rattle.alpha_core.specs.View.{Port, Node, all_safe, new_port, can_pulse, port_at, inbox_of}
 use Rattle.alpha_core.specs.Alpha.{advances, entry, enters, enter_all, entering, started}
 use Rattle.alpha_core.specs.Program.{sends}

@@ -4,8 +4,8 @@ use Rattle.std.proofs.Common.{append_assoc, append-nil, arith, subst, ⊎_elim}
 use Rattle.std.specs.Prelude.{is_some, if◌then◌else◌, nat_eq, Contains}
 use Rattle.std.proofs.lemmas.Bool.{cases_lt, cases_Bool}
 use Rattle.std.proofs.lemmas.List.Elements.{Contains-append_left, Contains-append_right}
-use Rattle.alpha_core.specs.declared.wire.Wire.{Wire}
-use Rattle.alpha_core.specs.declared.wire.Wire.TheVariants.{Safe, Close}
+use Rattle.wires.specs.declared.wire.Wire.{Wire}
+use Rattle.wires.specs.declared.wire.Wire.TheVariants.{Safe, Close}
 use Rattle.alpha_core.specs.Wires.{data_of, acks_of}
 use Rattle.alpha_core.specs.Streams.{sent_pulse, sent_pulses, payload_wire, rounds, Legal}
 use Rattle.alpha_core.specs.View.{Port, bit}

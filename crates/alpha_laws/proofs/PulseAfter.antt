@@ -4,8 +4,8 @@ use Rattle.std.specs.Prelude.{nat_lt, ◌&&◌, replicate, false}
 use Rattle.std.proofs.lemmas.Bool.{cases_Bool}
 use Rattle.interference.specs.Net.{Net, degree_of}
 use Rattle.node_api.specs.Program.{Program, last_pulse_on, own_of}
-use Rattle.alpha_core.specs.declared.wire.Wire.{Wire}
-use Rattle.alpha_core.specs.declared.wire.Wire.TheVariants as wire
+use Rattle.wires.specs.declared.wire.Wire.{Wire}
+use Rattle.wires.specs.declared.wire.Wire.TheVariants as wire
 use Rattle.alpha_core.specs.declared.refused.AlphaRefused.{AlphaRefused}
 use Rattle.alpha_core.specs.View.{View, Node, Port, new_port, none_waits, port_at, set_port}
 use Rattle.alpha_core.specs.Table.{refusal_of}

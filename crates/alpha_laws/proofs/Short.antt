@@ -1,8 +1,8 @@
 -- How long a legal list is at most: its data begin a stream, and its acknowledgements the pulses at which a payload comes the other way.
 use Rattle.std.proofs.Common.{ℕ, zero, suc, ◌+◌, ◌*◌, ◌≤◌, List, [], ◌∷◌, Option, Some, None, length, ap, arith}
 use Rattle.std.proofs.lemmas.List.{length-append}
-use Rattle.alpha_core.specs.declared.wire.Wire.{Wire}
-use Rattle.alpha_core.specs.declared.wire.Wire.TheVariants.{Close}
+use Rattle.wires.specs.declared.wire.Wire.{Wire}
+use Rattle.wires.specs.declared.wire.Wire.TheVariants.{Close}
 use Rattle.alpha_core.specs.Wires.{data_of, acks_of}
 use Rattle.alpha_core.specs.Streams.{rounds, stream, sent_pulse, sent_pulses, Legal}
 use Rattle.alpha_core.proofs.Wires.{begins_rest}

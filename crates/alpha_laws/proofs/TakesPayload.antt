@@ -1,7 +1,7 @@
 -- A port keeps its link as its node takes a payload.
 use Rattle.std.proofs.Common.{◌≡◌, ℕ, suc, Bool, true, false, List, [], ◌∷◌, ◌++◌, Option, Some, refl, sym, ap, ◌∙◌, append-nil, arith, ne_eqb}
-use Rattle.alpha_core.specs.declared.wire.Wire.{Wire}
-use Rattle.alpha_core.specs.declared.wire.Wire.TheVariants.{Payload, Ack}
+use Rattle.wires.specs.declared.wire.Wire.{Wire}
+use Rattle.wires.specs.declared.wire.Wire.TheVariants.{Payload, Ack}
 use Rattle.alpha_core.specs.View.{Port}
 use Rattle.alpha_core.specs.Alpha.{emit}
 use Rattle.alpha_core.proofs.Wires.{acks-append, payloads-append}

@@ -10,7 +10,7 @@ use Rattle.interference.specs.Net.{Net, IsNetwork, IsVertex, degree_of, neighbou
 use Rattle.interference.proofs.Neighbours.{at-back_port}
 use Rattle.node_api.specs.Program.{Program, last_pulse_on}
 use Rattle.node_api.specs.Run.{state_at, last_state}
-use Rattle.alpha_core.specs.declared.wire.Wire.{Wire}
+use Rattle.wires.specs.declared.wire.Wire.{Wire}
 use Rattle.alpha_core.specs.Wires.{safes_of}
 use Rattle.alpha_core.specs.View.{Node, Port, bit, new_port, port_at}
 use Rattle.alpha_core.specs.Program.{sends}

@@ -3,7 +3,7 @@ use Rattle.std.specs.Prelude.{◌≡◌, ℕ, ◌+◌, ◌*◌, ◌<◌, ◌≤�
 use Rattle.interference.specs.Net.{Net, IsVertex, count_of, vertices, degree_of, neighbour_of}
 use Rattle.interference.specs.Counts.{sum_over_ports, edge_count_of}
 use Rattle.node_api.specs.Program.{Program, last_pulse_on}
-use Rattle.alpha_core.specs.declared.wire.Wire.{Wire}
+use Rattle.wires.specs.declared.wire.Wire.{Wire}
 use Rattle.alpha_core.specs.Wires.{payloads_of}
 use Rattle.alpha_core.specs.Streams.{sent_pulses}
 use Rattle.alpha_core.specs.Program.{sends, IsLegal}

@@ -4,8 +4,8 @@ use Rattle.std.specs.Prelude.{List, [], ◌∷◌, ◌++◌, length, Contains, O
 use Rattle.interference.specs.Net.{Net, degree_of, neighbour_of}
 use Rattle.node_api.specs.Program.{Program, last_pulse_on}
 use Rattle.node_api.specs.Run.{state_at}
-use Rattle.alpha_core.specs.declared.wire.Wire.{Wire}
-use Rattle.alpha_core.specs.declared.wire.Wire.TheVariants.{Safe, Close}
+use Rattle.wires.specs.declared.wire.Wire.{Wire}
+use Rattle.wires.specs.declared.wire.Wire.TheVariants.{Safe, Close}
 use Rattle.alpha_core.specs.Wires.{data_of, acks_of, payloads_of, payload_at, safes_of}
 use Rattle.alpha_core.specs.Streams.{payload_wire, rounds, Legal}
 use Rattle.alpha_core.specs.View.{Port, Node, safes_at, none_waits, port_at}

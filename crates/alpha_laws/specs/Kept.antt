@@ -6,7 +6,7 @@ use Rattle.std.specs.Prelude.{List, [], ◌++◌, length, Option, is_some}
 use Rattle.interference.specs.Net.{Net, IsVertex, degree_of, neighbour_of}
 use Rattle.node_api.specs.Program.{Program, last_pulse_on}
 use Rattle.node_api.specs.Run.{state_at}
-use Rattle.alpha_core.specs.declared.wire.Wire.{Wire}
+use Rattle.wires.specs.declared.wire.Wire.{Wire}
 use Rattle.alpha_core.specs.Wires.{acks_of, payloads_of, payload_at}
 use Rattle.alpha_core.specs.Streams.{sent_pulse, sent_pulses}
 use Rattle.alpha_core.specs.View.{Port, View, Node, bit, safes_at, none_waits, port_at}

@@ -1,7 +1,7 @@
 -- How far a list of wires has come in the stream of its link, and which wires may come next.
 use Rattle.std.specs.Prelude.{◌≡◌, ℕ, suc, ◌<◌, Bool, true, false, List, [], ◌∷◌, Option, Some, is_some}
-use Rattle.alpha_core.specs.declared.wire.Wire.{Wire}
-use Rattle.alpha_core.specs.declared.wire.Wire.TheVariants.{Payload, Ack, Safe, Close}
+use Rattle.wires.specs.declared.wire.Wire.{Wire}
+use Rattle.wires.specs.declared.wire.Wire.TheVariants.{Payload, Ack, Safe, Close}
 
 -- Where a list stands: how many safes it has, whether a payload came after the last of them, and whether Close came.
 pub record Position : Type 0 where

@@ -5,8 +5,8 @@ use Rattle.std.specs.List.{range_with_len}
 use Rattle.interference.specs.Net.{Net, IsVertex, degree_of, neighbour_of, back_port_of}
 use Rattle.node_api.specs.Program.{Program, last_pulse_on}
 use Rattle.node_api.specs.Run.{inbox_at}
-use Rattle.alpha_core.specs.declared.wire.Wire.{Wire}
-use Rattle.alpha_core.specs.declared.wire.Wire.TheVariants.{Safe, Close}
+use Rattle.wires.specs.declared.wire.Wire.{Wire}
+use Rattle.wires.specs.declared.wire.Wire.TheVariants.{Safe, Close}
 use Rattle.alpha_core.specs.Wires.{data_of, acks_of, payload_at}
 use Rattle.alpha_core.specs.Streams.{Begins, sent_pulses, stream}
 use Rattle.alpha_core.specs.View.{Node, port_at, inbox_of, can_take, can_pulse}

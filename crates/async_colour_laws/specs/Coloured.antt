@@ -2,7 +2,7 @@
 use Rattle.std.specs.Prelude.{◌≡◌, ℕ, Bool, IsTrue, List, Ok}
 use Rattle.interference.specs.Net.{Net, IsVertex}
 use Rattle.node_api.specs.Program.{Program, last_pulse_on}
-use Rattle.alpha_core.specs.declared.wire.Wire.{Wire}
+use Rattle.wires.specs.declared.wire.Wire.{Wire}
 use Rattle.alpha_core.specs.View.{Node, is_halted}
 use Rattle.alpha_laws.specs.Simulates.{Simulates}
 use Rattle.gather_laws.specs.Outcome.{Outcome, IsOutcome, node_in}

@@ -3,7 +3,7 @@ use Rattle.std.proofs.Common.{◌≡◌, ℕ, zero, suc, ◌+◌, ◌≤◌, Lis
 use Rattle.interference.specs.Net.{IsNetwork, IsVertex, Net, back_port_of, neighbour_of}
 use Rattle.interference.proofs.Neighbours.{at-back_port}
 use Rattle.node_api.specs.Program.{Program}
-use Rattle.alpha_core.specs.declared.wire.Wire.{Wire}
+use Rattle.wires.specs.declared.wire.Wire.{Wire}
 use Rattle.alpha_core.specs.View.{Node}
 use Rattle.alpha_laws.specs.Simulates.{Simulates}
 use Rattle.bound_laws.specs.Apart.{AreApart}

@@ -3,7 +3,7 @@ use Rattle.std.specs.Prelude.{ℕ, ◌+◌, ◌≤◌, Bool, List}
 use Rattle.interference.specs.Net.{IsVertex, Net}
 use Rattle.node_api.specs.Program.{Program}
 use Rattle.sync_rounds.specs.Reach.{IsWithinLinks}
-use Rattle.alpha_core.specs.declared.wire.Wire.{Wire}
+use Rattle.wires.specs.declared.wire.Wire.{Wire}
 use Rattle.alpha_core.specs.View.{Node}
 use Rattle.alpha_laws.specs.Simulates.{Simulates}
 use Rattle.gather_laws.specs.Outcome.{IsOutcome, Outcome, node_in}

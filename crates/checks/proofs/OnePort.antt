@@ -3,8 +3,8 @@ use Rattle.std.proofs.Common.{◌≡◌, ℕ, suc, ◌&&◌, Option, List, map, 
 use Rattle.std.specs.Prelude.{nat_lt, Result, Ok, Err, MatchResult, OnErr, if◌then◌else◌}
 use Rattle.std.proofs.lemmas.List.{length-map, length-set}
 use Rattle.alpha_laws.proofs.PulseAfter.{not_refused}
-use Rattle.alpha_core.specs.declared.wire.Wire.{Wire}
-use Rattle.alpha_core.specs.declared.wire.Wire.TheVariants.{Payload, Ack, Safe, Close}
+use Rattle.wires.specs.declared.wire.Wire.{Wire}
+use Rattle.wires.specs.declared.wire.Wire.TheVariants.{Payload, Ack, Safe, Close}
 use Rattle.alpha_core.specs.declared.refused.AlphaRefused.{AlphaRefused}
 use Rattle.node_api.specs.declared.program.Refused.{Refused}
 use Rattle.alpha_core.specs.View.{View, Node, Alpha, port_at, none_waits, set_at}

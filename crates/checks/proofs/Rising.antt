@@ -1,8 +1,8 @@
 -- The last stamp of what an end has put.
 use Rattle.std.proofs.Common.{◌≡◌, List, [], ◌∷◌, ◌++◌, ap, refl, ◌∙◌}
-use Rattle.alpha_core.specs.declared.stamped.Stamped.{Stamped}
-use Rattle.alpha_core.specs.StampedWires.{last_stamp, wires_of}
-use Rattle.alpha_core.proofs.StampedWires.{last_more}
+use Rattle.wires.specs.declared.stamped.Stamped.{Stamped}
+use Rattle.wires.specs.StampedWires.{last_stamp, wires_of}
+use Rattle.wires.proofs.StampedWires.{last_more}
 
 module _ {M : Type 0} where
   -- before the first put

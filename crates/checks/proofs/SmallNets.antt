@@ -5,8 +5,8 @@ use Rattle.interference.specs.Net.{Net}
 use Rattle.interference.specs.Making.{network_of}
 use Rattle.node_api.specs.Program.{Program}
 use Rattle.node_api.specs.Run.{node_at}
-use Rattle.alpha_core.specs.declared.wire.Wire.{Wire}
-use Rattle.alpha_core.specs.declared.wire.Wire.TheVariants.{Payload, Safe, Close}
+use Rattle.wires.specs.declared.wire.Wire.{Wire}
+use Rattle.wires.specs.declared.wire.Wire.TheVariants.{Payload, Safe, Close}
 use Rattle.alpha_core.specs.Streams.{rounds, stream, Legal}
 use Rattle.alpha_core.specs.Program.{sends}
 use Rattle.alpha_core.proofs.Wires.{begins_from, legal-front}

@@ -2,19 +2,19 @@
 //! at which they may be dropped costs proof.
 
 ghost use Rattle.std.specs.Prelude.{◌≡◌, [], ◌∷◌};
-ghost use Rattle.alpha_core.specs.declared.wire.Wire.{Wire};
+ghost use Rattle.wires.specs.declared.wire.Wire.{Wire};
 ghost use Rattle.link_rule.specs.Legal.{IsLegalOn, name_of};
 ghost use Rattle.link_queue.specs.Ends.{IsNewPutEnd, IsPutEndOf, IsTakeEndOf, StaysPutEnd, StaysTakeEnd, put_name};
 ghost use Rattle.link_queue.specs.Ends.{take_name};
 ghost use Rattle.checks.specs.SmallNets.{pair_net};
 
-use alpha_core::{Stamped, Wire};
 use interference::{Memory, Network};
 use link_queue::{Full, Link, MeetRefused, Met, PutEnd, TakeEnd};
 use node_api::NodeProgram;
 use std::alloc::Global;
 use std::sync::Wait;
 use sync_rounds::{Best, Greatest};
+use wires::{Stamped, Wire};
 
 // Whether the takes after a full link return what is due: the first wire, nothing, and the second wire.
 fn are_due<T: Copy + Eq>(

@@ -5,7 +5,6 @@ ghost use Rattle.checks.specs.SmallNets.{pair_net};
 
 use crate::link_alone::{met_again, one_after_another};
 use crate::link_threads::hand_over;
-use alpha_core::{Stamped, Wire};
 use colour_program::Colouring;
 use colour_rules::{Long, Payload};
 use interference::{NetFault, Network, bars_fit, edges_fit};
@@ -16,6 +15,7 @@ use std::process::Abort;
 use std::sync::Wait;
 use std::thread::Threads;
 use sync_rounds::{Best, Greatest};
+use wires::{Stamped, Wire};
 
 /// Two nodes with identifiers 1 and 2 and an edge.
 pub fn pair(rt: &impl Abort, alloc: Global) -> Result<Network, NetFault>

@@ -9,13 +9,13 @@ ghost use Rattle.actor.specs.Tables.{IsEndAt, table_of};
 ghost use Rattle.checks.specs.SmallNets.{pair_net};
 
 use actor::{Links, Node, OpenGate, TurnRefused, WiredPut, WiredTake, Wiring};
-use alpha_core::{Stamped, Wire};
 use interference::{Memory, Network};
 use link_queue::{Link, PutEnd, TakeEnd};
 use std::alloc::Global;
 use std::marker::Brand;
 use std::sync::Wait;
 use sync_rounds::{Best, Greatest};
+use wires::{Stamped, Wire};
 
 /// What a turn of the node says, its counter after it, the stamp of the wire that its neighbour takes then, and whether
 /// the node set a wire aside.

@@ -5,8 +5,8 @@ ghost use Rattle.std.specs.Option.{option_to_list};
 ghost use Rattle.entries.specs.Bare.{entry_of, payloads_of_kind, payloads_of_act, wire_of};
 
 use crate::entry::Entry;
-use alpha_core::Wire;
 use std::mem::size_of;
+use wires::Wire;
 
 /// The kind of a wire.
 #[derive(Debug, Clone, Copy, PartialEq, Eq)]

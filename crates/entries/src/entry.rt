@@ -1,6 +1,6 @@
 //! One entry.
 
-use alpha_core::Wire;
+use wires::Wire;
 
 /// An entry of a node: an event that it made. The start at pulse 0 is no event, so it has no entry.
 #[derive(Debug, Clone, Copy, PartialEq, Eq)]

@@ -5,7 +5,7 @@ use Rattle.std.proofs.lemmas.List.{length-map, get_or-map, map-set}
 use Rattle.interference.specs.Net.{Net, IsVertex, degree_of, neighbour_of, back_port_of}
 use Rattle.node_api.specs.Program.{Program, last_pulse_on}
 use Rattle.node_api.specs.Laws.{IsProgram}
-use Rattle.alpha_core.specs.declared.wire.Wire.{Wire}
+use Rattle.wires.specs.declared.wire.Wire.{Wire}
 use Rattle.alpha_core.specs.declared.refused.AlphaRefused.{AlphaRefused}
 use Rattle.alpha_core.specs.View.{Alpha, Node, port_at, can_pulse, can_take}
 use Rattle.alpha_core.specs.Alpha.{pulse, reaction, put_done}

@@ -5,7 +5,7 @@ use Rattle.std.specs.Prelude.{if◌then◌else◌}
 use Rattle.interference.specs.Net.{Net, IsNetwork, IsVertex, degree_of, neighbour_of, back_port_of}
 use Rattle.interference.proofs.Neighbours.{at-back_port, back-of-back_port}
 use Rattle.node_api.specs.Program.{Program, last_pulse_on}
-use Rattle.alpha_core.specs.declared.wire.Wire.{Wire}
+use Rattle.wires.specs.declared.wire.Wire.{Wire}
 use Rattle.alpha_core.specs.View.{port_at, can_pulse}
 use Rattle.alpha_core.specs.Alpha.{unless_refused, reacts, reaction}
 use Rattle.alpha_core.proofs.Due.{due-taken}

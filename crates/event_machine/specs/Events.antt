@@ -2,7 +2,7 @@
 use Rattle.std.specs.Prelude.{◌≡◌, ◌↔◌, ◌⊎◌, ℕ, ◌+◌, ◌<◌, IsTrue, List, [], ◌∷◌, ◌++◌, length, Ok, Err}
 use Rattle.interference.specs.Net.{Net, IsVertex, degree_of}
 use Rattle.node_api.specs.Program.{Program, last_pulse_on}
-use Rattle.alpha_core.specs.declared.wire.Wire.{Wire}
+use Rattle.wires.specs.declared.wire.Wire.{Wire}
 use Rattle.alpha_core.specs.View.{View, Node, port_at, can_pulse}
 use Rattle.alpha_core.specs.Alpha.{pulse, reaction, put_done}
 use Rattle.event_machine.specs.declared.event.Event.{Event}

@@ -3,7 +3,7 @@ use Rattle.std.specs.Prelude.{◌≡◌, ◌≢◌, ℕ, suc, Bool, ◌&&◌, na
 use Rattle.std.specs.Prelude.{List, [], ◌∷◌, ◌++◌, Result, Ok, Err, MatchResult}
 use Rattle.interference.specs.Net.{Net, count_of, degree_of}
 use Rattle.node_api.specs.Program.{Program, last_pulse_on}
-use Rattle.alpha_core.specs.declared.wire.Wire.{Wire}
+use Rattle.wires.specs.declared.wire.Wire.{Wire}
 use Rattle.alpha_core.specs.View.{Node, port_at, can_pulse}
 use Rattle.alpha_core.specs.Alpha.{pulse, reaction, put_done}
 use Rattle.event_machine.specs.declared.event.Event.{Event}

@@ -4,10 +4,10 @@ ghost use Rattle.std.specs.Prelude.{◌≡◌, ◌<◌, IfOk, OnErr, length, rep
 ghost use Rattle.event_machine.specs.State.{HasLink, empty_links, link_at, no_link, put_one, set_link, take_one};
 
 use crate::wires::Wires;
-use alpha_core::Wire;
 use interference::{Memory, Network};
 use std::alloc::Global;
 use std::marker::Model;
+use wires::Wire;
 
 /// The links of a network. Contracts see them as rows: entry `v - 1` has the links out of vertex `v`, by
 /// port.

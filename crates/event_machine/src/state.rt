@@ -7,11 +7,12 @@ ghost use Rattle.event_machine.specs.Simulation.{IsReachable, IsSimulation};
 ghost use Rattle.event_machine.specs.State.{link_at, node_of, start, started_nodes};
 
 use crate::links::Links;
-use alpha_core::{AlphaNode, Wire};
+use alpha_core::AlphaNode;
 use interference::{Memory, Network};
 use node_api::NodeProgram;
 use std::alloc::Global;
 use std::marker::Model;
+use wires::Wire;
 
 /// A network of nodes under synchroniser alpha, in a state that some list of events reaches. Contracts see
 /// its network and the state.

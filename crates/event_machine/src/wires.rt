@@ -3,10 +3,10 @@
 ghost use Rattle.std.specs.Prelude.{◌≡◌, ◌<◌, ◌++◌, ◌∷◌, [], IfOk, OnErr, length, slice_get};
 ghost use Rattle.event_machine.specs.State.{no_link, take_one};
 
-use alpha_core::Wire;
 use interference::Memory;
 use std::alloc::Global;
 use std::marker::Model;
+use wires::Wire;
 
 /// The wires put on a link, oldest first, and how many of them were taken. A link has no capacity.
 #[derive(Drop)]

@@ -5,7 +5,7 @@ use Rattle.std.specs.List.{range_with_len}
 use Rattle.interference.specs.Net.{Net, degree_of, neighbour_of}
 use Rattle.node_api.specs.Program.{Program, last_pulse_on}
 use Rattle.alpha_core.specs.View.{Port, View, is_halted, port_at}
-use Rattle.alpha_core.specs.declared.wire.Wire.{Wire}
+use Rattle.wires.specs.declared.wire.Wire.{Wire}
 use Rattle.event_machine.specs.declared.event.Event.{Event}
 use Rattle.event_machine.specs.declared.event.Event.TheVariants.{Pulse, Put, Take}
 use Rattle.event_machine.specs.State.{State, link_to, node_of}

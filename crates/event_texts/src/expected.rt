@@ -5,12 +5,12 @@ ghost use Rattle.event_texts.specs.Missing.{expected_text, expected_wire};
 ghost use Rattle.wire_texts.specs.PayloadTexts.{payload_texts};
 
 use crate::missing::{has_port, is_vertex};
-use alpha_core::Wire;
 use event_machine::{Event, NetState};
 use node_api::{NodeProgram, PayloadText};
 use number_rows::push_numbered;
 use std::alloc::{AllocError, Global};
 use wire_texts::push_wire;
+use wires::Wire;
 
 // A wire, if there is one, as the one that was expected.
 fn wire_words<T: PayloadText>(alloc: Global, wire: Option<Wire<T>>) -> Result<Vec<u8>, AllocError>

@@ -8,7 +8,6 @@ ghost use Rattle.event_texts.specs.StateText.{link_text, links_text, node_text, 
 ghost use Rattle.wire_texts.specs.PayloadTexts.{payload_texts};
 ghost use Rattle.wire_texts.specs.WireText.{wire_text};
 
-use alpha_core::Wire;
 use event_machine::NetState;
 use interference::Memory;
 use node_api::{NodeProgram, PayloadText};
@@ -16,6 +15,7 @@ use number_rows::push_numbered;
 use program_texts::ProgramText;
 use std::alloc::{AllocError, Global};
 use wire_texts::push_wire;
+use wires::Wire;
 
 // Appends the line of a vertex's node.
 fn push_node<P: ProgramText>(

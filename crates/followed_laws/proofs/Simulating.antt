@@ -8,7 +8,7 @@ use Rattle.node_api.specs.Program.{Program}
 use Rattle.node_api.specs.Run.{inbox_at, node_at, state_at}
 use Rattle.node_api.specs.declared.program.Refused.{Refused}
 use Rattle.node_api.proofs.Inboxes.{map-members}
-use Rattle.alpha_core.specs.declared.wire.Wire.{Wire}
+use Rattle.wires.specs.declared.wire.Wire.{Wire}
 use Rattle.alpha_core.specs.View.{Node}
 use Rattle.alpha_laws.specs.Simulates.{Simulates}
 use Rattle.followed.specs.declared.said.Said.{Said}

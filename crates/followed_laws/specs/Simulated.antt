@@ -4,7 +4,7 @@ use Rattle.interference.specs.Net.{Net, IsNetwork, IsVertex}
 use Rattle.node_api.specs.Program.{Program, own_of}
 use Rattle.node_api.specs.Run.{inbox_at, inbox_from, state_at}
 use Rattle.node_api.specs.declared.program.Refused.{Refused}
-use Rattle.alpha_core.specs.declared.wire.Wire.{Wire}
+use Rattle.wires.specs.declared.wire.Wire.{Wire}
 use Rattle.alpha_core.specs.View.{Node}
 use Rattle.alpha_laws.specs.Simulates.{Simulates, heard_at}
 use Rattle.followed.specs.declared.said.Said.{Said}

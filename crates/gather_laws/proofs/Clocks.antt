@@ -9,7 +9,7 @@ use Rattle.interference.specs.Net.{Net, IsNetwork, IsVertex, count_of, degree_of
 use Rattle.interference.proofs.Members.{place_of-is}
 use Rattle.interference.proofs.Neighbours.{at-back_port, back-of-back_port}
 use Rattle.node_api.specs.Program.{Program, last_pulse_on}
-use Rattle.alpha_core.specs.declared.wire.Wire.{Wire}
+use Rattle.wires.specs.declared.wire.Wire.{Wire}
 use Rattle.alpha_core.specs.View.{Node, is_drained}
 use Rattle.alpha_core.specs.Alpha.{pulse, put_done, reaction}
 use Rattle.alpha_core.specs.Program.{start_node}
@@ -18,8 +18,8 @@ use Rattle.entries.specs.declared.entry.Entry.TheVariants.{Pulse, Put, Take}
 use Rattle.entries.specs.Rows.{stamped_entry, stamped_row, bare_of}
 use Rattle.actor.specs.Written.{Leads, takes_in}
 use Rattle.event_machine.specs.State.{State, node_of}
-use Rattle.alpha_core.specs.declared.stamped.Stamped.{Stamped}
-use Rattle.alpha_core.specs.StampedWires.{stamped, stamps_of, wires_of}
+use Rattle.wires.specs.declared.stamped.Stamped.{Stamped}
+use Rattle.wires.specs.StampedWires.{stamped, stamps_of, wires_of}
 use Rattle.entries.specs.declared.rows.StampedEntry.{StampedEntry}
 use Rattle.stamps.specs.Stamps.{counter_of, next_stamp, put_in, taken_in}
 use Rattle.stamps.specs.Keeps.{came_to}

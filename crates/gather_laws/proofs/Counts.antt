@@ -7,7 +7,7 @@ use Rattle.std.proofs.lemmas.List.FromFn.{length-range_with_len}
 use Rattle.interference.specs.Net.{Net, IsNetwork, count_of}
 use Rattle.interference.specs.Counts.{sum_over_ports}
 use Rattle.node_api.specs.Program.{Program}
-use Rattle.alpha_core.specs.StampedWires.{wires_of}
+use Rattle.wires.specs.StampedWires.{wires_of}
 use Rattle.alpha_core.specs.Wires.{payloads_of}
 use Rattle.alpha_laws.proofs.Counts.{lists_counted}
 use Rattle.alpha_laws.proofs.Sums.{by_ports}

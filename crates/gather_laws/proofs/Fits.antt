@@ -12,11 +12,11 @@ use Rattle.interference.specs.Net.{Net, IsNetwork, IsVertex, count_of, degree_of
 use Rattle.interference.proofs.Members.{place_of-is}
 use Rattle.node_api.specs.Program.{Program}
 use Rattle.node_api.specs.Laws.{IsProgram}
-use Rattle.alpha_core.specs.declared.wire.Wire.{Wire}
+use Rattle.wires.specs.declared.wire.Wire.{Wire}
 use Rattle.alpha_core.specs.View.{Node}
 use Rattle.alpha_core.specs.Program.{start_node}
-use Rattle.alpha_core.specs.declared.stamped.Stamped.{Stamped}
-use Rattle.alpha_core.specs.StampedWires.{stamped, stamps_of, wires_of}
+use Rattle.wires.specs.declared.stamped.Stamped.{Stamped}
+use Rattle.wires.specs.StampedWires.{stamped, stamps_of, wires_of}
 use Rattle.alpha_laws.specs.Counts.{events_of_run}
 use Rattle.alpha_laws.proofs.Runs.{runs}
 use Rattle.event_machine.specs.State.{State}

@@ -3,8 +3,8 @@ use Rattle.std.proofs.Common.{◌≡◌, ℕ, ◌+◌, ◌≤◌, ◌<◌, Bool,
 use Rattle.std.proofs.lemmas.List.{length-append, length-map}
 use Rattle.interference.specs.Net.{Net, IsNetwork, IsVertex, degree_of}
 use Rattle.node_api.specs.Program.{Program}
-use Rattle.alpha_core.specs.StampedWires.{wires_of}
-use Rattle.alpha_core.specs.declared.wire.Wire.{Wire}
+use Rattle.wires.specs.StampedWires.{wires_of}
+use Rattle.wires.specs.declared.wire.Wire.{Wire}
 use Rattle.alpha_core.specs.View.{port_at}
 use Rattle.alpha_laws.specs.Simulates.{taken_over}
 use Rattle.alpha_laws.proofs.Across.{over}

@@ -6,10 +6,10 @@ use Rattle.interference.proofs.Neighbours.{at-back_port}
 use Rattle.node_api.specs.Program.{Program}
 use Rattle.alpha_core.specs.View.{Node}
 use Rattle.alpha_laws.proofs.Across.{over}
-use Rattle.alpha_core.specs.declared.stamped.Stamped.{Stamped}
+use Rattle.wires.specs.declared.stamped.Stamped.{Stamped}
 use Rattle.actor.specs.Written.{takes_in}
 use Rattle.stamps.specs.Keeps.{came_to}
-use Rattle.alpha_core.specs.StampedWires.{wires_of}
+use Rattle.wires.specs.StampedWires.{wires_of}
 use Rattle.entries.specs.declared.rows.StampedEntry.{StampedEntry}
 use Rattle.stamps.specs.Stamps.{Carries, Rises, taken_in}
 use Rattle.entries.specs.Rows.{bare_of}

@@ -14,7 +14,7 @@ use Rattle.actor.specs.Written.{Leads, takes_in}
 use Rattle.event_machine.specs.State.{Link, State, link_at, no_link, start}
 use Rattle.event_machine.specs.Step.{go_on, run_from, step}
 use Rattle.net_core.specs.Rows.{event_of, if_made, rows_from}
-use Rattle.alpha_core.specs.StampedWires.{wires_of}
+use Rattle.wires.specs.StampedWires.{wires_of}
 use Rattle.entries.specs.Rows.{without_stamp, bare_of}
 use Rattle.entries.specs.declared.rows.StampedEntry.{StampedEntry}
 use Rattle.stamps.specs.Stamps.{Carries, put_in, taken_in}

@@ -9,7 +9,7 @@ use Rattle.interference.specs.Net.{Net, IsNetwork, IsVertex, count_of, degree_of
 use Rattle.interference.proofs.Neighbours.{at-back_port, port_to-is}
 use Rattle.interference.proofs.Members.{place_of-is}
 use Rattle.node_api.specs.Program.{Program, last_pulse_on}
-use Rattle.alpha_core.specs.declared.wire.Wire.{Wire}
+use Rattle.wires.specs.declared.wire.Wire.{Wire}
 use Rattle.alpha_core.specs.View.{Node, port_at}
 use Rattle.alpha_core.specs.Alpha.{pulse, put_done, reaction}
 use Rattle.alpha_core.specs.Program.{start_node}
@@ -25,8 +25,8 @@ use Rattle.event_machine.proofs.Parts.{first-some}
 use Rattle.entries.specs.declared.rows.Row.{Row}
 use Rattle.net_core.specs.Rows.{event_of, row_of}
 use Rattle.net_core.proofs.Writes.{row-is}
-use Rattle.alpha_core.specs.declared.stamped.Stamped.{Stamped}
-use Rattle.alpha_core.specs.StampedWires.{stamped, wires_of}
+use Rattle.wires.specs.declared.stamped.Stamped.{Stamped}
+use Rattle.wires.specs.StampedWires.{stamped, wires_of}
 use Rattle.stamps.specs.Stamps.{Carries}
 use Rattle.entries.specs.declared.rows.StampedRow.{StampedRow}
 use Rattle.stamps.specs.Merged.{Precedes, entries_at, puts_at, takes_at}

@@ -4,9 +4,9 @@ use Rattle.interference.specs.Net.{Net, IsVertex, degree_of, neighbour_of, back_
 use Rattle.node_api.specs.Program.{Program}
 use Rattle.alpha_core.specs.View.{Node}
 use Rattle.alpha_core.specs.Streams.{Begins}
-use Rattle.alpha_core.specs.StampedWires.{wires_of}
-use Rattle.alpha_core.specs.declared.stamped.Stamped.{Stamped}
-use Rattle.alpha_core.specs.declared.wire.Wire.{Wire}
+use Rattle.wires.specs.StampedWires.{wires_of}
+use Rattle.wires.specs.declared.stamped.Stamped.{Stamped}
+use Rattle.wires.specs.declared.wire.Wire.{Wire}
 use Rattle.alpha_laws.specs.Counts.{events_of_run}
 use Rattle.actor.specs.Written.{IsWritten}
 use Rattle.entries.specs.declared.rows.StampedEntry.{StampedEntry}

@@ -3,7 +3,7 @@ use Rattle.std.specs.Prelude.{◌≡◌, ℕ, ◌<◌, IsTrue, List, [], ◌++�
 use Rattle.interference.specs.Net.{Net, IsVertex, count_of, degree_of, neighbour_of, back_port_of}
 use Rattle.node_api.specs.Program.{Program, last_pulse_on}
 use Rattle.alpha_core.specs.View.{Node, is_drained}
-use Rattle.alpha_core.specs.declared.stamped.Stamped.{Stamped}
+use Rattle.wires.specs.declared.stamped.Stamped.{Stamped}
 use Rattle.actor.specs.Written.{IsWritten}
 use Rattle.event_machine.specs.declared.event.Event.{Event}
 use Rattle.event_machine.specs.State.{Link, State, link_at, node_of, sent_of}
@@ -13,7 +13,7 @@ use Rattle.net_core.specs.Whole.{IsStampedReplay, IsWholeReplay}
 use Rattle.stamps.specs.Keeps.{KeepsStamps}
 use Rattle.entries.specs.declared.rows.StampedRow.{StampedRow}
 use Rattle.stamps.specs.Merged.{IsMerge, rows_in}
-use Rattle.alpha_core.specs.StampedWires.{wires_of}
+use Rattle.wires.specs.StampedWires.{wires_of}
 use Rattle.entries.specs.declared.rows.StampedEntry.{StampedEntry}
 use Rattle.stamps.specs.Stamps.{Carries, Rises, put_in, taken_in}
 use Rattle.entries.specs.Rows.{bare_of}

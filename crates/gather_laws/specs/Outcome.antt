@@ -3,9 +3,9 @@ use Rattle.std.specs.Prelude.{◌≡◌, ℕ, ◌-◌, ◌<◌, ◌≤◌, Bool,
 use Rattle.std.specs.Prelude.{List, [], ◌∷◌, ◌++◌, map, length, slice_index_or}
 use Rattle.interference.specs.Net.{Net, IsVertex, count_of, vertices, degree_of, neighbour_of, back_port_of}
 use Rattle.node_api.specs.Program.{Program, last_pulse_on}
-use Rattle.alpha_core.specs.declared.wire.Wire.{Wire}
-use Rattle.alpha_core.specs.declared.stamped.Stamped.{Stamped}
-use Rattle.alpha_core.specs.StampedWires.{wires_of}
+use Rattle.wires.specs.declared.wire.Wire.{Wire}
+use Rattle.wires.specs.declared.stamped.Stamped.{Stamped}
+use Rattle.wires.specs.StampedWires.{wires_of}
 use Rattle.alpha_core.specs.View.{Alpha, Node, is_drained}
 use Rattle.alpha_core.specs.Program.{start_node}
 use Rattle.alpha_laws.specs.Simulates.{Simulates}

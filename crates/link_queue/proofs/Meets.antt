@@ -1,6 +1,6 @@
 -- What a view of both ends knows while the wires on the queue are taken, and once they all are.
 use Rattle.std.proofs.Common.{◌≡◌, ◌<◌, ◌≤◌, ◌+◌, ℕ, true, List, [], ◌∷◌, ◌++◌, length, refl, sym, ap, ◌∙◌, append_assoc, append-nil, length-append, arith}
-use Rattle.alpha_core.specs.declared.stamped.Stamped.{Stamped}
+use Rattle.wires.specs.declared.stamped.Stamped.{Stamped}
 use Rattle.link_queue.specs.declared.view.EndView.{EndView}
 use Rattle.link_queue.specs.Rule.{end_view}
 

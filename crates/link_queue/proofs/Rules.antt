@@ -9,17 +9,17 @@ use mathlib.Core.Option as option
 use lib.ListN.{get_elem?}
 use Rattle.crossbeam_queue.specs.Fifo.{Pushes, Pops, Forks, Merges, Learns}
 use Rattle.crossbeam_queue.proofs.Lists.{at_set, at_snoc}
-use Rattle.alpha_core.specs.declared.stamped.Stamped.{Stamped}
-use Rattle.alpha_core.specs.declared.wire.Wire.{Wire}
-use Rattle.alpha_core.specs.declared.wire.Wire.TheVariants.{Payload, Ack, Safe, Close}
+use Rattle.wires.specs.declared.stamped.Stamped.{Stamped}
+use Rattle.wires.specs.declared.wire.Wire.{Wire}
+use Rattle.wires.specs.declared.wire.Wire.TheVariants.{Payload, Ack, Safe, Close}
 use Rattle.link_rule.specs.declared.name.LinkName.{LinkName}
 use Rattle.link_queue.specs.declared.view.EndView.{EndView}
 use Rattle.node_api.specs.Program.{Program}
 use Rattle.alpha_core.proofs.Wires.{legal-front}
 use Rattle.link_rule.proofs.Orders.{contains_nil, contains_one}
 use Rattle.link_rule.specs.Legal.{IsLegalOn, LegalFor}
-use Rattle.alpha_core.specs.StampedWires.{StampsRise, last_stamp, wires_of}
-use Rattle.alpha_core.proofs.StampedWires.{rise_front, rise_more}
+use Rattle.wires.specs.StampedWires.{StampsRise, last_stamp, wires_of}
+use Rattle.wires.proofs.StampedWires.{rise_front, rise_more}
 use Rattle.link_queue.specs.Rule.{end_view, has_close, is_close, AreLastOf, IsAllOf, Knows, Linked, MayFollow, Taking}
 
 module _ {T : Type 0} where

@@ -2,14 +2,14 @@
 use Rattle.std.specs.Prelude.{◌≡◌, ℕ, List, [], ◌++◌, Option, Some}
 use Rattle.crossbeam_queue.specs.Fifo.{Held}
 use Rattle.crossbeam_queue.specs.Passes.{view, IsPassOf, ruled_capacity}
-use Rattle.alpha_core.specs.declared.stamped.Stamped.{Stamped}
-use Rattle.alpha_core.specs.declared.wire.Wire.{Wire}
+use Rattle.wires.specs.declared.stamped.Stamped.{Stamped}
+use Rattle.wires.specs.declared.wire.Wire.{Wire}
 use Rattle.link_rule.specs.declared.name.LinkName.{LinkName}
 use Rattle.link_queue.specs.declared.ends.PutSide.{PutSide}
 use Rattle.link_queue.specs.declared.ends.TakeSide.{TakeSide}
 use Rattle.link_queue.specs.declared.met.Met.{Met}
 use Rattle.link_queue.specs.declared.link.Link.{Link}
-use Rattle.alpha_core.specs.StampedWires.{wires_of}
+use Rattle.wires.specs.StampedWires.{wires_of}
 use Rattle.link_queue.specs.Rule.{AreLastOf, MayFollow}
 
 module _ {T : Type 0} where

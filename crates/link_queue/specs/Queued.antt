@@ -1,8 +1,8 @@
 -- What the queue of a link holds.
 use Rattle.std.specs.Prelude.{List, map}
-use Rattle.alpha_core.specs.StampedWires.{stamped}
-use Rattle.alpha_core.specs.declared.stamped.Stamped.{Stamped}
-use Rattle.alpha_core.specs.declared.wire.Wire.TheVariants as wire
+use Rattle.wires.specs.StampedWires.{stamped}
+use Rattle.wires.specs.declared.stamped.Stamped.{Stamped}
+use Rattle.wires.specs.declared.wire.Wire.TheVariants as wire
 use Rattle.link_queue.specs.declared.queued.Queued.{Queued}
 use Rattle.link_queue.specs.declared.queued.Queued.TheVariants.{Payload, Ack, Safe, Close}
 

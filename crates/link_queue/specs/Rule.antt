@@ -2,10 +2,10 @@
 use Rattle.std.specs.Prelude.{◌≡◌, ℕ, Bool, true, false, ◌||◌, List, ◌∷◌, [], ◌++◌, Option}
 use mathlib.Core.Option as option
 use lib.ListN.{get_elem?}
-use Rattle.alpha_core.specs.StampedWires.{StampsRise, wires_of}
-use Rattle.alpha_core.specs.declared.stamped.Stamped.{Stamped}
-use Rattle.alpha_core.specs.declared.wire.Wire.{Wire}
-use Rattle.alpha_core.specs.declared.wire.Wire.TheVariants.{Payload, Ack, Safe, Close}
+use Rattle.wires.specs.StampedWires.{StampsRise, wires_of}
+use Rattle.wires.specs.declared.stamped.Stamped.{Stamped}
+use Rattle.wires.specs.declared.wire.Wire.{Wire}
+use Rattle.wires.specs.declared.wire.Wire.TheVariants.{Payload, Ack, Safe, Close}
 use Rattle.link_rule.specs.declared.name.LinkName.{LinkName}
 use Rattle.link_rule.specs.Legal.{LegalFor}
 use Rattle.link_queue.specs.declared.view.EndView.{EndView}

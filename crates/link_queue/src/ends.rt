@@ -2,7 +2,7 @@
 
 ghost use Rattle.std.specs.Prelude.{◌≡◌, [], true};
 ghost use Rattle.crossbeam_queue.specs.Passes.{view};
-ghost use Rattle.alpha_core.specs.StampedWires.{wires_of};
+ghost use Rattle.wires.specs.StampedWires.{wires_of};
 ghost use Rattle.link_queue.specs.Rule.{has_close};
 
 use crate::queued::Queued;

@@ -2,10 +2,10 @@
 
 ghost use Rattle.std.specs.Prelude.{◌≡◌, ◌<◌, ◌≤◌, ◌+◌, [], ◌∷◌, ◌++◌, true, length, IfOk, IfErr, IfSome, IfNone};
 ghost use Rattle.std.specs.Prelude.{vec_capacity, IsTrue, ◌↔◌, Contains};
-ghost use Rattle.alpha_core.specs.declared.wire.Wire.{Wire};
+ghost use Rattle.wires.specs.declared.wire.Wire.{Wire};
 ghost use Rattle.crossbeam_queue.specs.Passes.{view, IsPassOf};
 ghost use Rattle.link_rule.specs.Legal.{name_of, IsLegalOn, LegalFor};
-ghost use Rattle.alpha_core.specs.StampedWires.{StampsRise, last_stamp, wires_of};
+ghost use Rattle.wires.specs.StampedWires.{StampsRise, last_stamp, wires_of};
 ghost use Rattle.link_queue.specs.Queued.{stamped_of};
 ghost use Rattle.link_queue.specs.Rule.{end_view, has_close};
 ghost use Rattle.link_queue.specs.Ends.{AreAsBefore, HasMet, IsNewPutEnd, IsNewTakeEnd, IsPutEndOf, IsTakeEndOf};
@@ -17,7 +17,6 @@ use crate::met::{Full, Met};
 use crate::queued::Queued;
 use crate::rule::{LinkRule, Named, Naming, Puts, Takes, TakesAll, TwoEnds};
 use crate::view::EndView;
-use alpha_core::{Stamped, Wire};
 use crossbeam_queue::{Pass, RuledArrayQueue};
 use interference::{Memory, Network};
 use node_api::NodeProgram;
@@ -26,6 +25,7 @@ use std::alloc::Global;
 use std::marker::Brand;
 use std::snapshot::Snapshot;
 use std::sync::Wait;
+use wires::{Stamped, Wire};
 
 /// A bounded, lock-free, directed link of the program `P`: wires that one end puts, the other takes in the same order.
 /// It lives outside the scope of the threads that use it.

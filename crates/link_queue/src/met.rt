@@ -5,8 +5,8 @@ ghost use Rattle.link_queue.specs.Ends.{held_stamped};
 
 use crate::queued::Queued;
 use crate::view::EndView;
-use alpha_core::Stamped;
 use crossbeam_queue::Pass;
+use wires::Stamped;
 
 /// The wire for which the link had no room.
 #[derive(Clone, Copy)]

@@ -3,8 +3,8 @@
 ghost use Rattle.std.specs.Prelude.{◌≡◌};
 ghost use Rattle.link_queue.specs.Queued.{stamped_of};
 
-use alpha_core::{Stamped, Wire};
 use node_api::PayloadText;
+use wires::{Stamped, Wire};
 
 /// A wire with its stamp, in one enum: after the pulse comes the stamp, and then the payload.
 ///

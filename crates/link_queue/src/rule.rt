@@ -86,7 +86,7 @@ impl<T> Outcome<Queued<T>, EndView<T>> for Puts {
 }
 
 impl<T> Lesson<Queued<T>, EndView<T>> for Puts {
-    ghost use Rattle.alpha_core.specs.StampedWires.{wires_of};
+    ghost use Rattle.wires.specs.StampedWires.{wires_of};
     ghost use Rattle.link_queue.specs.Queued.{all_stamped};
     ghost use Rattle.link_queue.specs.Rule.{AreLastOf};
 
@@ -108,7 +108,7 @@ impl<P: NodeProgram> Outcome<Queued<P::Payload>, EndView<P::Payload>> for Takes<
 
 impl<P: NodeProgram> Lesson<Queued<P::Payload>, EndView<P::Payload>> for Takes<P> {
     ghost use Rattle.link_rule.specs.Legal.{IsLegalOn};
-    ghost use Rattle.alpha_core.specs.StampedWires.{wires_of};
+    ghost use Rattle.wires.specs.StampedWires.{wires_of};
     ghost use Rattle.link_queue.specs.Queued.{all_stamped};
     ghost use Rattle.link_queue.specs.Rule.{MayFollow};
 

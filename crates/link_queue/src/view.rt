@@ -1,8 +1,8 @@
 //! What an end of a link knows.
 
-use alpha_core::Stamped;
 use link_rule::LinkName;
 use std::collections::LinkedList;
+use wires::Stamped;
 
 /// What an end of a link knows: the link's name, whether it may put and may take, what it put and what it took, oldest
 /// first, each wire with its stamp. Contracts speak of it; no value of it is made.

@@ -4,16 +4,16 @@ use Rattle.std.proofs.Common.{◌⊎◌, ⊎_elim, append-nil, lt-ltb}
 use Rattle.std.specs.Prelude.{Contains, IsTrue, ◌↔◌, ◌&&◌, not, MatchBool}
 use Rattle.std.proofs.lemmas.List.Elements.{Contains-append_left, Contains-push}
 use Rattle.std.proofs.lemmas.Bool.{eqb-true, eq-eqb, ltb-true, leb-true, le-leb, and_parts, and_from}
-use Rattle.alpha_core.specs.declared.wire.Wire.{Wire}
-use Rattle.alpha_core.specs.declared.wire.Wire.TheVariants.{Payload, Ack, Safe, Close}
+use Rattle.wires.specs.declared.wire.Wire.{Wire}
+use Rattle.wires.specs.declared.wire.Wire.TheVariants.{Payload, Ack, Safe, Close}
 use Rattle.alpha_core.specs.Wires.{acks_of, payloads_of, safes_of}
 use Rattle.alpha_core.proofs.Wires.{acks-append, payloads-append}
 use Rattle.link_rule.specs.Order.{MayFollow, IsInOrder}
 use Rattle.link_rule.specs.Progress.{Progress, HasCome, WasFed, at_start, may_come, goes_on, advanced, after_wire}
 use Rattle.std.proofs.lemmas.List.{map-append, take-append-drop}
-use Rattle.alpha_core.specs.declared.stamped.Stamped.{Stamped}
-use Rattle.alpha_core.specs.StampedWires.{StampsRise, wires_of}
-use Rattle.alpha_core.proofs.StampedWires.{last_more, rise_last, rise_more}
+use Rattle.wires.specs.declared.stamped.Stamped.{Stamped}
+use Rattle.wires.specs.StampedWires.{StampsRise, wires_of}
+use Rattle.wires.proofs.StampedWires.{last_more, rise_last, rise_more}
 use Rattle.link_rule.proofs.Orders.{contains_nil, contains_snoc, order-front, order-more, order-last, order-nil, safes-append}
 
 new_come : {M : Type 0} (last : ℕ) → HasCome {M = M} (at_start last) []

@@ -3,8 +3,8 @@ use Rattle.std.proofs.Common.{◌≡◌, ℕ, suc, zero, ◌+◌, ◌<◌, ◌�
 use Rattle.std.proofs.Common.{◌∙◌, arith, subst, ◌⊎◌, inl, inr, ⊎_elim, append_assoc, append-nil}
 use Rattle.std.specs.Prelude.{Contains, is_some, ◌↔◌}
 use Rattle.alpha_laws.proofs.Claims.{has_split}
-use Rattle.alpha_core.specs.declared.wire.Wire.{Wire}
-use Rattle.alpha_core.specs.declared.wire.Wire.TheVariants.{Payload, Ack, Safe, Close}
+use Rattle.wires.specs.declared.wire.Wire.{Wire}
+use Rattle.wires.specs.declared.wire.Wire.TheVariants.{Payload, Ack, Safe, Close}
 use Rattle.alpha_core.specs.Wires.{data_of, acks_of, payloads_of, safes_of}
 use Rattle.alpha_core.specs.Streams.{payload_wire, sent_pulse, rounds, stream, sent_pulses, Legal}
 use Rattle.alpha_core.proofs.Wires.{acks-append, begins_rest, data-append, legal-front}

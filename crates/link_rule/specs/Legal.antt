@@ -1,7 +1,7 @@
 -- Legal lists of a link, by its name.
 use Rattle.std.specs.Prelude.{◌≡◌, ℕ, List, Option, Some}
 use Rattle.interference.specs.Net.{Net, neighbour_of}
-use Rattle.alpha_core.specs.declared.wire.Wire.{Wire}
+use Rattle.wires.specs.declared.wire.Wire.{Wire}
 use Rattle.alpha_core.specs.Program.{IsLegal}
 use Rattle.node_api.specs.Program.{Program}
 use Rattle.link_rule.specs.declared.name.LinkName.{LinkName}

@@ -1,10 +1,10 @@
 -- What a check keeps of the wires that it was fed.
 use Rattle.std.specs.Prelude.{◌≡◌, ℕ, ◌+◌, ◌<◌, ◌≤◌, ◌↔◌, Bool, true, false, ◌&&◌, not, nat_eq, nat_lt, nat_le}
 use Rattle.std.specs.Prelude.{IsTrue, List, Contains, if◌then◌else◌}
-use Rattle.alpha_core.specs.StampedWires.{StampsRise, last_stamp, wires_of}
-use Rattle.alpha_core.specs.declared.stamped.Stamped.{Stamped}
-use Rattle.alpha_core.specs.declared.wire.Wire.{Wire}
-use Rattle.alpha_core.specs.declared.wire.Wire.TheVariants.{Payload, Ack, Safe, Close}
+use Rattle.wires.specs.StampedWires.{StampsRise, last_stamp, wires_of}
+use Rattle.wires.specs.declared.stamped.Stamped.{Stamped}
+use Rattle.wires.specs.declared.wire.Wire.{Wire}
+use Rattle.wires.specs.declared.wire.Wire.TheVariants.{Payload, Ack, Safe, Close}
 use Rattle.alpha_core.specs.Wires.{acks_of, payloads_of, safes_of}
 use Rattle.link_rule.specs.Order.{IsInOrder}
 

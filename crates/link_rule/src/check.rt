@@ -1,13 +1,13 @@
 //! Whether wires come in order.
 
 ghost use Rattle.std.specs.Prelude.{◌≡◌, ◌++◌, [], ◌∷◌, List, MatchBool};
-ghost use Rattle.alpha_core.specs.declared.stamped.Stamped.{Stamped};
-ghost use Rattle.alpha_core.specs.StampedWires.{StampsRise, wires_of};
+ghost use Rattle.wires.specs.declared.stamped.Stamped.{Stamped};
+ghost use Rattle.wires.specs.StampedWires.{StampsRise, wires_of};
 ghost use Rattle.link_rule.specs.Order.{IsInOrder};
 ghost use Rattle.link_rule.specs.Progress.{WasFed, after_wire, at_start, goes_on};
 
-use alpha_core::{Stamped, Wire};
 use std::marker::Model;
+use wires::{Stamped, Wire};
 
 /// How far one direction of a link has come, by the order of its wires and their stamps alone.
 ///

@@ -2,7 +2,7 @@
 //! the law.
 
 ghost use Rattle.std.specs.Prelude.{◌≡◌, ◌++◌, [], ◌∷◌, ℕ, List, Option, Contains};
-ghost use Rattle.alpha_core.specs.declared.wire.Wire.{Wire};
+ghost use Rattle.wires.specs.declared.wire.Wire.{Wire};
 ghost use Rattle.alpha_core.specs.Streams.{Legal};
 ghost use Rattle.alpha_laws.specs.Simulates.{IsComplete};
 ghost use Rattle.link_rule.specs.Order.{IsInOrder};

@@ -8,9 +8,9 @@ use Rattle.interference.specs.Net.{Net, IsNetwork, IsVertex, degree_of, neighbou
 use Rattle.interference.proofs.Neighbours.{at-back_port, same-port}
 use Rattle.node_api.specs.Program.{Program, last_pulse_on}
 use Rattle.alpha_core.specs.Program.{start_node}
-use Rattle.alpha_core.specs.StampedWires.{stamps_of}
+use Rattle.wires.specs.StampedWires.{stamps_of}
 use Rattle.alpha_core.specs.View.{Node, can_pulse, port_at}
-use Rattle.alpha_core.specs.declared.wire.Wire.{Wire}
+use Rattle.wires.specs.declared.wire.Wire.{Wire}
 use Rattle.entries.specs.Rows.{stamped_row, vertex_row}
 use Rattle.entries.specs.declared.entry.Entry.{Entry}
 use Rattle.entries.specs.declared.entry.Entry.TheVariants as entry

@@ -4,9 +4,9 @@ use Rattle.std.specs.Prelude.{All, Bool, true, false, ◌&&◌, ◌==◌, slice_
 use Rattle.std.proofs.lemmas.List.{get_or_at, length-map, map-append}
 use Rattle.std.proofs.lemmas.List.Elements.{All-cons, All-head, All-nil, All-tail}
 use Rattle.interference.specs.Net.{Net, neighbour_of}
-use Rattle.alpha_core.specs.StampedWires.{stamps_of}
-use Rattle.alpha_core.specs.declared.stamped.Stamped.{Stamped}
-use Rattle.alpha_core.specs.declared.wire.Wire.{Wire}
+use Rattle.wires.specs.StampedWires.{stamps_of}
+use Rattle.wires.specs.declared.stamped.Stamped.{Stamped}
+use Rattle.wires.specs.declared.wire.Wire.{Wire}
 use Rattle.entries.specs.Rows.{stamped_entry, stamped_row, without_vertex}
 use Rattle.entries.specs.declared.entry.Entry.{Entry}
 use Rattle.entries.specs.declared.entry.Entry.TheVariants as entry

@@ -2,7 +2,7 @@
 use Rattle.std.specs.Prelude.{◌≡◌, ℕ, suc, max, ◌+◌, ◌<◌, ◌≤◌, List, length, All, slice_index_or}
 use Rattle.interference.specs.Net.{Net, IsVertex, degree_of, neighbour_of}
 use Rattle.node_api.specs.Program.{Program}
-use Rattle.alpha_core.specs.StampedWires.{stamps_of}
+use Rattle.wires.specs.StampedWires.{stamps_of}
 use Rattle.entries.specs.declared.entry.Entry.TheVariants as entry
 use Rattle.entries.specs.declared.rows.StampedRow.{StampedRow}
 use Rattle.entries.specs.Rows.{stamped_row}

@@ -19,13 +19,13 @@ ghost use Rattle.lone_runs.specs.Ticks.{IsBeforeTick, IsInTurn, IsPassed};
 ghost use Rattle.lone_runs.specs.Went.{Went};
 
 use crate::alone::{attempt, either};
-use alpha_core::Wire;
 use entries::{Entry, Row, StampedRow};
 use event_machine::{Event, NetState};
 use interference::{Memory, Network};
 use node_api::NodeProgram;
 use stamps::StampTable;
 use std::alloc::Global;
+use wires::Wire;
 
 // A state, the rows of the events that led to it, and what these say of the next row.
 #[derive(Drop)]

@@ -7,12 +7,12 @@ use Rattle.std.proofs.lemmas.List.Elements.{All-cons, All-head, All-nil, All-pus
 use Rattle.entries.specs.declared.entry.Entry.{Entry}
 use Rattle.entries.specs.declared.entry.Entry.TheVariants.{Pulse, Put, Take}
 use Rattle.entries.specs.Rows.{stamped_row, without_vertex}
-use Rattle.alpha_core.specs.declared.stamped.Stamped.{Stamped}
+use Rattle.wires.specs.declared.stamped.Stamped.{Stamped}
 use Rattle.stamps.specs.Stamps.{counter_from, counter_of, taken_in}
 use Rattle.entries.specs.declared.rows.StampedRow.{StampedRow}
 use Rattle.stamps.specs.Merged.{AreStampedRows, entries_at, puts_at, stamp_behind}
 use Rattle.stamps.proofs.Lists.{none_or_one}
-use Rattle.alpha_core.specs.StampedWires.{stamps_of}
+use Rattle.wires.specs.StampedWires.{stamps_of}
 
 pick : {A : Type 0} (P : A → Type 0) (b : Bool) (x y : A) → P x → P y → P (if b then x else y)
 pick P true x y p q = p

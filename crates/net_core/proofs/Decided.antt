@@ -6,7 +6,7 @@ use Rattle.std.specs.Option.{option_map}
 use Rattle.interference.specs.Net.{IsNetwork, Net, neighbour_of, port_to}
 use Rattle.interference.proofs.Neighbours.{port_to-is}
 use Rattle.node_api.specs.Program.{Program}
-use Rattle.alpha_core.specs.declared.wire.Wire.{Wire}
+use Rattle.wires.specs.declared.wire.Wire.{Wire}
 use Rattle.alpha_core.specs.View.{port_at}
 use Rattle.entries.specs.declared.entry.Entry.TheVariants as entry
 use Rattle.entries.specs.Rows.{vertex_row}

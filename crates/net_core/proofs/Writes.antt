@@ -5,7 +5,7 @@ use Rattle.std.specs.Option.{option_map}
 use Rattle.interference.specs.Net.{Net, neighbours, degree_of, neighbour_of, port_to}
 use Rattle.interference.proofs.Members.{place_of-is}
 use Rattle.node_api.specs.Program.{Program}
-use Rattle.alpha_core.specs.declared.wire.Wire.{Wire}
+use Rattle.wires.specs.declared.wire.Wire.{Wire}
 use Rattle.entries.specs.declared.entry.Entry.{Entry}
 use Rattle.entries.specs.declared.entry.Entry.TheVariants as entry
 use Rattle.entries.specs.Rows.{vertex_row}

@@ -3,7 +3,7 @@ use Rattle.std.specs.Prelude.{ℕ, ◌+◌, Bool, Option, Some, None, option_map
 use Rattle.interference.specs.Net.{Net, neighbour_of, port_to}
 use Rattle.node_api.specs.Program.{Program}
 use Rattle.alpha_core.specs.View.{port_at}
-use Rattle.alpha_core.specs.declared.wire.Wire.{Wire}
+use Rattle.wires.specs.declared.wire.Wire.{Wire}
 use Rattle.entries.specs.declared.entry.Entry.{Entry}
 use Rattle.entries.specs.declared.entry.Entry.TheVariants as entry
 use Rattle.entries.specs.Rows.{vertex_row}

@@ -7,11 +7,11 @@ ghost use Rattle.net_core.specs.Rows.{event_of, has_place, next_wire, row_of};
 
 use crate::refused::EntryRefused;
 use crate::same_wire::carries;
-use alpha_core::Wire;
 use entries::{Entry, Row};
 use event_machine::{Event, NetState, StepRefused};
 use interference::Network;
 use node_api::NodeProgram;
+use wires::Wire;
 
 // The port of vertex `v` that leads to `w`; `None` if `w` isn't its neighbour.
 fn port_to(net: &Network, v: u32, w: u32) -> Option<u32>

@@ -2,8 +2,8 @@
 
 ghost use Rattle.std.specs.Prelude.{◌≡◌, ◌≢◌, MatchBool, Option};
 
-use alpha_core::Wire;
 use node_api::PayloadText;
+use wires::Wire;
 
 fn is_same_payload<T: PayloadText>(a: T, b: T) -> bool
     ensures { MatchBool result (a ≡ b) (a ≢ b) }

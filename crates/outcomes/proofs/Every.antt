@@ -3,7 +3,7 @@ use Rattle.std.proofs.Common.{◌≡◌, ℕ, zero, suc, ◌+◌, ◌<◌, ◌�
 use Rattle.std.specs.Prelude.{Bool, ◌&&◌}
 use Rattle.std.proofs.Math.Numerals.{add-one}
 use Rattle.std.proofs.Math.Seq.{drop-cons, drop-nil}
-use Rattle.alpha_core.specs.declared.stamped.Stamped.{Stamped}
+use Rattle.wires.specs.declared.stamped.Stamped.{Stamped}
 use Rattle.link_queue.specs.declared.met.Met.{Met}
 use Rattle.link_queue.specs.Ends.{held_stamped}
 use Rattle.outcomes.specs.Meets.{history_of_met}

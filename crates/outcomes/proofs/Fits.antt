@@ -12,8 +12,8 @@ use Rattle.std.proofs.lemmas.List.Elements.{All-head, All-map, All-tail}
 use Rattle.std.proofs.lemmas.Option.{get_or_from_slice_get}
 use Rattle.interference.specs.Net.{Net, IsVertex, degree_of, neighbour_of, back_port_of}
 use Rattle.node_api.specs.Program.{Program}
-use Rattle.alpha_core.specs.declared.stamped.Stamped.{Stamped}
-use Rattle.alpha_core.specs.StampedWires.{last_from, last_stamp}
+use Rattle.wires.specs.declared.stamped.Stamped.{Stamped}
+use Rattle.wires.specs.StampedWires.{last_from, last_stamp}
 use Rattle.alpha_core.specs.View.{Alpha}
 use Rattle.alpha_laws.specs.Counts.{events_of_run}
 use Rattle.actor.specs.declared.aside.Aside.{Aside}

@@ -8,8 +8,8 @@ use Rattle.node_api.specs.Program.{Program, last_pulse_on}
 use Rattle.node_api.specs.Laws.{IsProgram}
 use Rattle.alpha_laws.specs.Kept.{NodeKept}
 use Rattle.alpha_laws.proofs.Across.{over}
-use Rattle.alpha_core.specs.declared.stamped.Stamped.{Stamped}
-use Rattle.alpha_core.specs.StampedWires.{wires_of}
+use Rattle.wires.specs.declared.stamped.Stamped.{Stamped}
+use Rattle.wires.specs.StampedWires.{wires_of}
 use Rattle.alpha_core.specs.View.{Alpha}
 use Rattle.actor.specs.declared.aside.Aside.{Aside}
 use Rattle.actor.specs.HasStamps.{HasStamps}

@@ -4,7 +4,7 @@ use Rattle.std.specs.Prelude.{All, Option}
 use Rattle.std.proofs.lemmas.List.{length-append, map-append}
 use Rattle.std.proofs.lemmas.List.Elements.{All-nil, All-push, All-same}
 use Rattle.actor.proofs.Lists.{take_front}
-use Rattle.alpha_core.specs.declared.stamped.Stamped.{Stamped}
+use Rattle.wires.specs.declared.stamped.Stamped.{Stamped}
 use Rattle.link_rule.specs.declared.name.LinkName.{LinkName}
 use Rattle.link_queue.specs.declared.met.Met.{Met}
 use Rattle.link_queue.specs.Ends.{HasMet, held_stamped}

@@ -5,8 +5,8 @@ use Rattle.std.proofs.Math.Path.{transport}
 use Rattle.std.specs.Prelude.{Bool, IsTrue, Option}
 use Rattle.interference.specs.Net.{Net, IsVertex, degree_of, neighbour_of, back_port_of}
 use Rattle.node_api.specs.Program.{Program}
-use Rattle.alpha_core.specs.declared.stamped.Stamped.{Stamped}
-use Rattle.alpha_core.specs.StampedWires.{wires_of}
+use Rattle.wires.specs.declared.stamped.Stamped.{Stamped}
+use Rattle.wires.specs.StampedWires.{wires_of}
 use Rattle.alpha_core.specs.View.{Alpha}
 use Rattle.actor.specs.declared.aside.Aside.{Aside}
 use Rattle.stamps.specs.Keeps.{KeepsStamps}

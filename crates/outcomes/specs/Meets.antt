@@ -1,7 +1,7 @@
 -- Links whose ends have met.
 use Rattle.std.specs.Prelude.{◌≡◌, ◌-◌, List, ◌++◌, All, map, length, take}
 use Rattle.crossbeam_queue.specs.Passes.{view}
-use Rattle.alpha_core.specs.declared.stamped.Stamped.{Stamped}
+use Rattle.wires.specs.declared.stamped.Stamped.{Stamped}
 use Rattle.link_queue.specs.declared.met.Met.{Met}
 use Rattle.link_queue.specs.Ends.{held_stamped}
 use Rattle.gather_laws.specs.Outcome.{History}

@@ -5,7 +5,7 @@ use Rattle.std.proofs.lemmas.List.{get_or-set_other, set_comm}
 use Rattle.interference.specs.Net.{Net, IsNetwork, IsVertex, degree_of, neighbour_of, back_port_of}
 use Rattle.interference.proofs.Neighbours.{at-back_port}
 use Rattle.node_api.specs.Program.{Program}
-use Rattle.alpha_core.specs.declared.wire.Wire.{Wire}
+use Rattle.wires.specs.declared.wire.Wire.{Wire}
 use Rattle.alpha_core.specs.View.{Node, port_at}
 use Rattle.alpha_core.specs.Program.{start_node}
 use Rattle.event_machine.specs.declared.event.Event.{Event}

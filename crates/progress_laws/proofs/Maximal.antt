@@ -9,7 +9,7 @@ use Rattle.alpha_laws.specs.Counts.{events_of_run}
 use Rattle.alpha_laws.proofs.Bounded as nodes
 use Rattle.alpha_laws.proofs.Runs.{Runs}
 use Rattle.alpha_laws.proofs.Whole.{has_ended}
-use Rattle.alpha_core.specs.declared.wire.Wire.{Wire}
+use Rattle.wires.specs.declared.wire.Wire.{Wire}
 use Rattle.event_machine.specs.declared.event.Event.{Event}
 use Rattle.event_machine.specs.declared.refused.StepRefused.{StepRefused}
 use Rattle.event_machine.specs.State.{State, start, node_of, link_at, link_to, sent_of}

@@ -2,7 +2,7 @@
 use Rattle.std.specs.Prelude.{ℕ, Option, Some, None, List, [], flat_map}
 use Rattle.interference.specs.Net.{Net, neighbours, port_to}
 use Rattle.node_api.specs.Boxes.{at_port}
-use Rattle.alpha_core.specs.declared.wire.Wire.TheVariants.{Payload}
+use Rattle.wires.specs.declared.wire.Wire.TheVariants.{Payload}
 use Rattle.entries.specs.declared.entry.Entry.TheVariants.{Put}
 use Rattle.entries.specs.Rows.{vertex_row}
 use Rattle.wire_texts.specs.PayloadTexts.{PayloadTexts}

@@ -6,12 +6,12 @@ ghost use Rattle.node_api.specs.Run.{outbox_at};
 ghost use Rattle.wire_texts.specs.PayloadTexts.{payload_texts};
 ghost use Rattle.round_texts.specs.PutsText.{puts_text};
 
-use alpha_core::Wire;
 use entries::{Entry, Row};
 use program_texts::ProgramText;
 use std::alloc::AllocError;
 use sync_rounds::Rounds;
 use transcripts::push_row;
+use wires::Wire;
 
 /// Appends what a vertex sends at the pulse, as entries of a transcript, by ascending neighbour.
 ///

@@ -7,11 +7,11 @@ use Rattle.std.proofs.lemmas.List.{append-nil, get_or_append_left, get_or_push, 
 use Rattle.interference.specs.Net.{Net, IsNetwork, IsVertex, degree_of, neighbour_of, neighbours, port_to}
 use Rattle.interference.proofs.Members.{place_of-is}
 use Rattle.interference.proofs.Neighbours.{port_to-is}
-use Rattle.alpha_core.specs.declared.stamped.Stamped.{Stamped}
-use Rattle.alpha_core.specs.declared.wire.Wire.{Wire}
+use Rattle.wires.specs.declared.stamped.Stamped.{Stamped}
+use Rattle.wires.specs.declared.wire.Wire.{Wire}
 use Rattle.entries.specs.declared.entry.Entry.{Entry}
 use Rattle.entries.specs.declared.entry.Entry.TheVariants.{Pulse, Put, Take}
-use Rattle.alpha_core.specs.StampedWires.{stamped, stamps_of}
+use Rattle.wires.specs.StampedWires.{stamped, stamps_of}
 use Rattle.entries.specs.declared.rows.StampedEntry.{StampedEntry}
 use Rattle.entries.specs.Rows.{stamped_entry}
 use Rattle.stamps.specs.Stamps.{AreStamped, counter_of, next_stamp, put_if, put_in, taken_in}

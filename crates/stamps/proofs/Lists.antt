@@ -3,12 +3,12 @@ use Rattle.std.proofs.Common.{◌≡◌, ℕ, ◌≤◌, ◌==◌, false, List, 
 use Rattle.std.specs.Prelude.{Bool, ◌&&◌, ◌⊎◌, All}
 use Rattle.std.proofs.lemmas.Bool.{cases_Bool, cases_eq, eq-eqb, ne_eqb}
 use Rattle.std.proofs.lemmas.List.Elements.{All-head, All-tail}
-use Rattle.alpha_core.specs.declared.stamped.Stamped.{Stamped}
-use Rattle.alpha_core.specs.declared.wire.Wire.{Wire}
+use Rattle.wires.specs.declared.stamped.Stamped.{Stamped}
+use Rattle.wires.specs.declared.wire.Wire.{Wire}
 use Rattle.entries.specs.declared.entry.Entry.{Entry}
 use Rattle.entries.specs.declared.entry.Entry.TheVariants.{Pulse, Put, Take}
 use Rattle.entries.specs.declared.rows.StampedRow.{StampedRow}
-use Rattle.alpha_core.specs.StampedWires.{stamped}
+use Rattle.wires.specs.StampedWires.{stamped}
 use Rattle.entries.specs.Rows.{stamped_entry, stamped_row}
 use Rattle.stamps.specs.Stamps.{put_if, put_in, taken_if, taken_in}
 use Rattle.stamps.specs.Merged.{Precedes, entries_at, puts_at, takes_at}

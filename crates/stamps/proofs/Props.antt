@@ -2,7 +2,7 @@
 use Rattle.std.specs.Prelude.{ℕ, List}
 use Rattle.std.proofs.Props.{props}
 use Rattle.interference.specs.Net.{Net}
-use Rattle.alpha_core.specs.declared.stamped.Stamped.{Stamped}
+use Rattle.wires.specs.declared.stamped.Stamped.{Stamped}
 use Rattle.entries.specs.declared.rows.StampedEntry.{StampedEntry}
 use Rattle.stamps.specs.Keeps.{KeepsStamps}
 

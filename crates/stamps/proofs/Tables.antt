@@ -7,11 +7,11 @@ use Rattle.std.specs.declared.vec.Vec.{Vec}
 use Rattle.std.proofs.lemmas.Bool.{cases_eq, cases_order, eq-eqb, ne_eqb}
 use Rattle.std.proofs.lemmas.List.{append-nil, get_or_at, length-append, map-append}
 use Rattle.std.proofs.lemmas.List.Elements.{All-get_or, All-nil, All-push, All-weaker}
-use Rattle.alpha_core.specs.declared.stamped.Stamped.{Stamped}
-use Rattle.alpha_core.specs.declared.wire.Wire.{Wire}
+use Rattle.wires.specs.declared.stamped.Stamped.{Stamped}
+use Rattle.wires.specs.declared.wire.Wire.{Wire}
 use Rattle.entries.specs.declared.entry.Entry.{Entry}
 use Rattle.entries.specs.declared.entry.Entry.TheVariants.{Pulse, Put, Take}
-use Rattle.alpha_core.specs.StampedWires.{stamped, stamps_of}
+use Rattle.wires.specs.StampedWires.{stamped, stamps_of}
 use Rattle.stamps.specs.Stamps.{counter_of, next_stamp, taken_in}
 use Rattle.entries.specs.declared.rows.StampedRow.{StampedRow}
 use Rattle.entries.specs.Rows.{stamped_entry, stamped_row}

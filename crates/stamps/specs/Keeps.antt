@@ -1,8 +1,8 @@
 -- What a node keeps of its stamps.
 use Rattle.std.specs.Prelude.{◌≡◌, ℕ, ◌<◌, ◌≤◌, List, [], ◌∷◌, ◌++◌, length}
 use Rattle.interference.specs.Net.{Net, degree_of, neighbour_of, port_to}
-use Rattle.alpha_core.specs.declared.stamped.Stamped.{Stamped}
-use Rattle.alpha_core.specs.StampedWires.{stamps_of}
+use Rattle.wires.specs.declared.stamped.Stamped.{Stamped}
+use Rattle.wires.specs.StampedWires.{stamps_of}
 use Rattle.entries.specs.declared.rows.StampedEntry.{StampedEntry}
 use Rattle.stamps.specs.Stamps.{AreStamped, counter_of, put_in, taken_in}
 

@@ -1,10 +1,10 @@
 -- The events of a node keep its stamps.
 use Rattle.std.specs.Prelude.{◌≡◌, ℕ, ◌+◌, ◌<◌, max, List, [], ◌∷◌, ◌++◌, length}
 use Rattle.interference.specs.Net.{Net, degree_of, neighbour_of}
-use Rattle.alpha_core.specs.declared.stamped.Stamped.{Stamped}
-use Rattle.alpha_core.specs.declared.wire.Wire.{Wire}
+use Rattle.wires.specs.declared.stamped.Stamped.{Stamped}
+use Rattle.wires.specs.declared.wire.Wire.{Wire}
 use Rattle.entries.specs.declared.entry.Entry.TheVariants.{Pulse, Put, Take}
-use Rattle.alpha_core.specs.StampedWires.{stamped}
+use Rattle.wires.specs.StampedWires.{stamped}
 use Rattle.entries.specs.declared.rows.StampedEntry.{StampedEntry}
 use Rattle.entries.specs.Rows.{stamped_entry}
 use Rattle.stamps.specs.Stamps.{taken_in}

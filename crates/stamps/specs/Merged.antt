@@ -1,12 +1,12 @@
 -- The stamped entries of all nodes in one list.
 use Rattle.std.specs.Prelude.{◌≡◌, ◌⊎◌, ℕ, ◌-◌, ◌<◌, ◌≤◌, ◌==◌, ◌&&◌, if◌then◌else◌, List, [], ◌∷◌, ◌++◌, map}
 use Rattle.std.specs.Prelude.{All, slice_index_or}
-use Rattle.alpha_core.specs.declared.stamped.Stamped.{Stamped}
+use Rattle.wires.specs.declared.stamped.Stamped.{Stamped}
 use Rattle.entries.specs.declared.rows.Row.{Row}
 use Rattle.entries.specs.declared.rows.StampedEntry.{StampedEntry}
 use Rattle.entries.specs.declared.rows.StampedRow.{StampedRow}
 use Rattle.entries.specs.Rows.{without_stamp, without_vertex}
-use Rattle.alpha_core.specs.StampedWires.{stamps_of}
+use Rattle.wires.specs.StampedWires.{stamps_of}
 use Rattle.stamps.specs.Stamps.{next_stamp, put_if, taken_if}
 
 module _ {M : Type 0} where

@@ -6,7 +6,7 @@ use Rattle.std.specs.HashMap.{get, HashMap}
 use Rattle.std.specs.Option.{unwrap_or}
 use Rattle.std.specs.declared.vec.Vec.{Vec}
 use Rattle.stamps.specs.declared.table.StampTable.{StampTable}
-use Rattle.alpha_core.specs.StampedWires.{stamps_of}
+use Rattle.wires.specs.StampedWires.{stamps_of}
 use Rattle.stamps.specs.Stamps.{counter_of}
 use Rattle.entries.specs.declared.rows.StampedRow.{StampedRow}
 use Rattle.entries.specs.Rows.{stamped_row}

@@ -2,7 +2,7 @@
 
 ghost use Rattle.std.specs.Prelude.{ℕ, List};
 ghost use Rattle.interference.specs.Net.{IsNetwork, IsVertex, Net};
-ghost use Rattle.alpha_core.specs.declared.stamped.Stamped.{Stamped};
+ghost use Rattle.wires.specs.declared.stamped.Stamped.{Stamped};
 ghost use Rattle.entries.specs.declared.rows.StampedEntry.{StampedEntry};
 ghost use Rattle.stamps.specs.Keeps.{KeepsStamps};
 ghost use Rattle.stamps.specs.Laws.{EventsKeepStamps};

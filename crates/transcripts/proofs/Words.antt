@@ -14,8 +14,8 @@ use Rattle.std.specs.Str.{IsAscii, all_ascii_digits}
 use Rattle.dimacs_col.proofs.SmallNumbers.{small-decimal}
 use Rattle.dimacs_col.proofs.FieldNumbers.{own}
 use Rattle.dimacs_col.specs.Lines.{number_of}
-use Rattle.alpha_core.specs.declared.wire.Wire.{Wire}
-use Rattle.alpha_core.specs.declared.wire.Wire.TheVariants.{Payload, Ack, Safe, Close}
+use Rattle.wires.specs.declared.wire.Wire.{Wire}
+use Rattle.wires.specs.declared.wire.Wire.TheVariants.{Payload, Ack, Safe, Close}
 use Rattle.entries.specs.declared.entry.Entry.{Entry}
 use Rattle.entries.specs.declared.entry.Entry.TheVariants.{Pulse, Put, Take}
 use Rattle.wire_texts.specs.PayloadTexts.{PayloadTexts}

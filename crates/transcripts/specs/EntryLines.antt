@@ -4,8 +4,8 @@ use Rattle.std.specs.Prelude.{List, [], ◌∷◌, ◌&&◌, codes, if◌then◌
 use Rattle.std.specs.Str.{bytes_eq, is_utf8}
 use Rattle.dimacs_col.specs.Lines.{Line, number_of, small_number}
 use Rattle.number_rows.specs.Names.{is_name}
-use Rattle.alpha_core.specs.declared.wire.Wire.{Wire}
-use Rattle.alpha_core.specs.declared.wire.Wire.TheVariants.{Payload, Ack, Safe, Close}
+use Rattle.wires.specs.declared.wire.Wire.{Wire}
+use Rattle.wires.specs.declared.wire.Wire.TheVariants.{Payload, Ack, Safe, Close}
 use Rattle.entries.specs.declared.entry.Entry.{Entry}
 use Rattle.entries.specs.declared.entry.Entry.TheVariants.{Pulse, Put, Take}
 use Rattle.entries.specs.Rows.{stamped_row, vertex_row}

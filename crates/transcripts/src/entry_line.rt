@@ -6,11 +6,11 @@ ghost use Rattle.transcripts.specs.EntryLines.{pulsed_wire, wire_of, wire_with};
 
 use crate::names::is_name;
 use crate::numbers::wide_number;
-use alpha_core::Wire;
 use dimacs_col::{Fields, small_number};
 use entries::Entry;
 use node_api::PayloadText;
 use std::str::from_utf8;
+use wires::Wire;
 
 // A value, if no field is left.
 fn only<A: Drop>(mut fields: Fields, value: A) -> Option<A>

@@ -9,12 +9,12 @@ ghost use Rattle.wire_texts.specs.WireText.{wire_text};
 ghost use Rattle.wire_texts.specs.WireText;
 
 use crate::line_end::LineEnd;
-use alpha_core::Wire;
 use entries::{Entry, Row, StampedRow};
 use node_api::PayloadText;
 use number_rows::push_numbered;
 use std::alloc::AllocError;
 use wire_texts::push_wire;
+use wires::Wire;
 
 /// Appends the line of an entry, which begins with the vertex of its node.
 ///

@@ -1,8 +1,8 @@
 -- The text of a wire, for payloads that are written by a word and a number.
 use Rattle.std.specs.Prelude.{◌≡◌, ℕ, ◌<◌, ◌^◌, Some, List, ◌++◌, codes}
 use Rattle.number_rows.specs.Row.{numbered}
-use Rattle.alpha_core.specs.declared.wire.Wire.{Wire}
-use Rattle.alpha_core.specs.declared.wire.Wire.TheVariants.{Payload, Ack, Safe, Close}
+use Rattle.wires.specs.declared.wire.Wire.{Wire}
+use Rattle.wires.specs.declared.wire.Wire.TheVariants.{Payload, Ack, Safe, Close}
 use Rattle.wire_texts.specs.PayloadTexts.{PayloadTexts}
 
 module _ {M : Type 0} (payloads : PayloadTexts M) where

@@ -4,10 +4,10 @@ ghost use Rattle.std.specs.Prelude.{◌≡◌, ◌++◌, IfOk};
 ghost use Rattle.wire_texts.specs.PayloadTexts.{payload_texts};
 ghost use Rattle.wire_texts.specs.WireText.{IsReadable, wire_text};
 
-use alpha_core::Wire;
 use node_api::PayloadText;
 use number_rows::push_numbered;
 use std::alloc::AllocError;
+use wires::Wire;
 
 /// Appends a wire, with a space before each of its words.
 ///

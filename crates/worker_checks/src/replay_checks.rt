@@ -5,7 +5,6 @@ ghost use Rattle.std.specs.Prelude.{◌≡◌};
 ghost use Rattle.interference.specs.Net.{count_of};
 
 use crate::runs::pair;
-use alpha_core::Wire;
 use entries::{Entry, Row};
 use event_machine::{NetState, RunRefused};
 use interference::Network;
@@ -13,6 +12,7 @@ use net_core::{ReplayRefused, replay};
 use std::alloc::Global;
 use sync_rounds::{Best, Greatest};
 use transcripts::read_transcript;
+use wires::Wire;
 
 pub const WHOLE: &[u8] =
     b"transcript 1 2\n1 put 2 close\n2 put 1 close\n1 take 2 close\n2 take 1 close\n";

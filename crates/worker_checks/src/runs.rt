@@ -5,7 +5,6 @@ ghost use Rattle.interference.specs.Net.{IsVertex, degree_of, vertices};
 ghost use Rattle.gather_laws.specs.Outcome.{row_in};
 
 use actor::OpenGate;
-use alpha_core::{Stamped, Wire};
 use colour_program::Colouring;
 use colour_rules::{Long, Payload};
 use interference::Network;
@@ -17,6 +16,7 @@ use std::alloc::Global;
 use std::sync::Wait;
 use std::thread::Threads;
 use sync_rounds::Greatest;
+use wires::{Stamped, Wire};
 
 /// More looks than a run of two workers needs that gets on at all.
 pub const BY_TWO: Options = Options {

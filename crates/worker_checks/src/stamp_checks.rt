@@ -4,7 +4,7 @@
 use crate::replay_checks::MERGED;
 use crate::runs::{pair, small};
 use actor::OpenGate;
-use alpha_core::{Counter, StampFull, Wire};
+use alpha_core::{Counter, StampFull};
 use entries::{Entries, Entry, StampedEntry, StampedRow};
 use event_machine::RunRefused;
 use interference::Network;
@@ -18,6 +18,7 @@ use std::sync::Wait;
 use std::thread::Threads;
 use sync_rounds::{Best, Greatest};
 use transcripts::stamped_text;
+use wires::Wire;
 
 type Row = StampedRow<Best>;
 

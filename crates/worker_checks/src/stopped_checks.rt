@@ -7,7 +7,6 @@ ghost use Rattle.gather_laws.specs.Outcome.{row_in};
 
 use crate::runs::{greeted, holds, of_one, run_of_one, triangle};
 use actor::OpenGate;
-use alpha_core::{Stamped, Wire};
 use colour_program::Colouring;
 use colour_rules::Payload;
 use entries::{Entries, Entry, StampedEntry};
@@ -18,6 +17,7 @@ use run_options::Options;
 use std::alloc::Global;
 use std::sync::Wait;
 use std::thread::Threads;
+use wires::{Stamped, Wire};
 
 // A constant has the identifier of a greeting in place of the payload, whose number has a model.
 const FROM_1: Wire<u128> = Wire::Payload(0, 1);

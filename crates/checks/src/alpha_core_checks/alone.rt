@@ -3,10 +3,11 @@
 ghost use Rattle.std.specs.Prelude.{◌≡◌, IfOk, length};
 ghost use Rattle.interference.specs.Net.{IsVertex, degree_of};
 
-use alpha_core::{AlphaNode, AlphaRefused, Wire};
+use alpha_core::{AlphaNode, AlphaRefused};
 use interference::{Memory, Network};
 use node_api::NodeProgram;
 use std::alloc::Global;
+use wires::Wire;
 
 /// What a test does with the node.
 #[derive(Clone, Copy)]

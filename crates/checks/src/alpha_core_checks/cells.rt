@@ -6,11 +6,12 @@ ghost use Rattle.interference.specs.Net.{IsVertex, degree_of};
 
 use crate::alpha_core_checks::alone::{Act, Played, ask, leaf, play, put_next};
 use crate::networks::edge;
-use alpha_core::{AlphaNode, AlphaRefused, Wire};
+use alpha_core::{AlphaNode, AlphaRefused};
 use interference::Network;
 use std::alloc::Global;
 use std::process::Abort;
 use sync_rounds::{Best, Greatest};
+use wires::Wire;
 
 // A legal list of wires for vertex 1 of two, whose last pulse is 3, and its pulses among them.
 static RUN: [Act<Best>; 13] = [

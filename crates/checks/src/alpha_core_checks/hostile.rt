@@ -7,12 +7,13 @@ ghost use Rattle.interference.specs.Net.{IsVertex, degree_of};
 use crate::alpha_core_checks::alone::{Act, Played, leaf, play};
 use crate::networks::edge;
 use crate::samples::Sample;
-use alpha_core::{AlphaNode, AlphaRefused, Wire};
+use alpha_core::{AlphaNode, AlphaRefused};
 use colour_program::Colouring;
 use colour_rules::Payload;
 use interference::Network;
 use node_api::Refused;
 use std::alloc::Global;
+use wires::Wire;
 
 // What comes to a node of a payload, and what it puts of one.
 fn comes(pulse: u32, sample: Sample) -> Act<Payload> {

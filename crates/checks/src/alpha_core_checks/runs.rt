@@ -6,11 +6,12 @@ ghost use Rattle.interference.specs.Net.{IsVertex, degree_of};
 use crate::alpha_core_checks::alone::{Act, Played, ask, leaf, play, put_next};
 use crate::counted::Counted;
 use crate::networks::edge;
-use alpha_core::{AlphaNode, AlphaRefused, Wire};
+use alpha_core::{AlphaNode, AlphaRefused};
 use interference::Network;
 use node_api::NodeProgram;
 use std::alloc::Global;
 use sync_rounds::{Best, Greatest};
+use wires::Wire;
 
 // What comes to a node without pulses, and what it returns: nothing but a close, and after it nothing at all.
 static CLOSING: [Act<Best>; 3] = [

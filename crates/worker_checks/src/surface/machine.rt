@@ -4,7 +4,7 @@ ghost use Rattle.std.specs.Prelude.{◌<◌, ◌^◌, IsTrue, length};
 ghost use Rattle.interference.specs.Net.{IsVertex, degree_of};
 ghost use Rattle.alpha_core.specs.View.{can_pulse, can_take, port_at};
 
-use alpha_core::{AlphaNode, AlphaRefused, Counter, StampFull, Stamped, Wire};
+use alpha_core::{AlphaNode, AlphaRefused, Counter, StampFull};
 use colour_rules::Payload;
 use entries::{Entry, Row, StampedEntry, StampedRow};
 use event_machine::{Event, NetState, RunRefused, StepRefused};
@@ -14,6 +14,7 @@ use net_core::{ReplayRefused, StampedState, WholeRefused, replay, replay_whole, 
 use node_api::NodeProgram;
 use stamps::{order, rising};
 use std::alloc::Global;
+use wires::{Stamped, Wire};
 
 pub fn started<P: NodeProgram>(alloc: Global, net: &Network, v: u32) -> Result<AlphaNode<P>, Memory>
     requires { IsVertex net.now v }

@@ -1,13 +1,13 @@
 //! Calls that may wait: links, workers, and what runs them.
 
 ghost use Rattle.std.specs.Prelude.{◌≡◌, ◌<◌, ◌≤◌, [], ◌∷◌, ◌++◌, length};
-ghost use Rattle.alpha_core.specs.StampedWires.{last_stamp};
+ghost use Rattle.wires.specs.StampedWires.{last_stamp};
 ghost use Rattle.gather_laws.specs.Outcome.{row_in};
 ghost use Rattle.link_rule.specs.Legal.{IsLegalOn, LegalFor};
 ghost use Rattle.link_queue.specs.Ends.{IsPutEndOf, IsTakeEndOf, put_list, put_name, put_stamped, take_name};
 
 use actor::{Gate, OpenGate};
-use alpha_core::{AlphaNode, Stamped};
+use alpha_core::AlphaNode;
 use answers::PlanFault;
 use byte_functions::{plan_bytes, transcript_bytes};
 use colour_rules::Payload;
@@ -22,6 +22,7 @@ use run_options::{Edition, MAX_CAPACITY, Options};
 use std::alloc::Global;
 use std::sync::Wait;
 use std::thread::Threads;
+use wires::Stamped;
 
 pub fn making<P: NodeProgram>(
     alloc: Global,

@@ -1,6 +1,6 @@
 use Rattle.std.proofs.Common.{[], ◌∷◌, ◌++◌, ap, arith, refl, ◌∙◌}
-use Rattle.alpha_core.specs.StampedWires.{last_stamp, wires_of}
-use Rattle.alpha_core.specs.declared.wire.Wire.TheVariants.{Payload, Safe}
+use Rattle.wires.specs.StampedWires.{last_stamp, wires_of}
+use Rattle.wires.specs.declared.wire.Wire.TheVariants.{Payload, Safe}
 use Rattle.checks.proofs.SmallNets.{legal_begin}
 use Rattle.checks.proofs.Rising.{none_put, one_more}
 use Rattle.checks.proofs.link_alone.steps_of.Goals as goal

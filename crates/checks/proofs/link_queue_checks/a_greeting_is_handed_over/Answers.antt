@@ -1,5 +1,5 @@
 use Rattle.std.proofs.Common.{[], ◌∷◌, subst, sym}
-use Rattle.alpha_core.specs.declared.wire.Wire.TheVariants.{Payload, Safe}
+use Rattle.wires.specs.declared.wire.Wire.TheVariants.{Payload, Safe}
 use Rattle.link_rule.specs.Legal.{IsLegalOn, name_of}
 use Rattle.colour_rules.specs.Program.{colouring}
 use Rattle.colour_rules.specs.declared.payload.Payload.TheVariants.{Hello}

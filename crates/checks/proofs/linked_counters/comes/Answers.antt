@@ -1,5 +1,5 @@
 use Rattle.std.proofs.Common.{[], ◌∷◌, ◌++◌, ap, arith, refl}
-use Rattle.alpha_core.specs.declared.wire.Wire.TheVariants.{Payload, Safe}
+use Rattle.wires.specs.declared.wire.Wire.TheVariants.{Payload, Safe}
 use Rattle.checks.proofs.SmallNets.{first_front}
 use Rattle.checks.proofs.Rising.{none_put}
 use Rattle.checks.proofs.linked_counters.comes.Goals as goal

@@ -4,7 +4,7 @@ use Rattle.link_queue.specs.Rule.{Linked}
 use Rattle.link_queue.proofs.Mapped.{mapped_forks}
 use Rattle.link_queue.proofs.Rules.{begins, names, forks, legal_none}
 use Rattle.link_rule.specs.Legal.{IsLegalOn, LegalFor}
-use Rattle.alpha_core.specs.StampedWires.{wires_of}
+use Rattle.wires.specs.StampedWires.{wires_of}
 use Rattle.link_queue.proofs.link.named.Goals as goal
 
 pub ruled-requires-clause-rule : goal.ruled-requires-clause-rule

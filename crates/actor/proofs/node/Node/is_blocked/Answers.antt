@@ -1,6 +1,6 @@
 -- Nothing was put by the end that was asked, so the node is as it was.
 use Rattle.std.proofs.Common.{[], length, refl, sym, ap, inr, arith, ◌∙◌}
-use Rattle.alpha_core.specs.StampedWires.{wires_of}
+use Rattle.wires.specs.StampedWires.{wires_of}
 use Rattle.link_queue.specs.Ends.{put_list, put_stamped}
 use Rattle.actor.proofs.Counting.{counts-still}
 use Rattle.actor.proofs.Keeping.{count_puts, kept-none-put, port_below}

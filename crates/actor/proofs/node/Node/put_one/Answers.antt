@@ -2,7 +2,7 @@
 use Rattle.std.proofs.Common.{[], ◌∷◌, ◌++◌, ◌<◌, ◌^◌, length, inl, inr, refl, sym, ap, ◌∙◌, subst, arith, true≢false}
 use Rattle.std.specs.Prelude.{IsTrue}
 use Rattle.std.proofs.lemmas.Result.{IfOk-from_err}
-use Rattle.alpha_core.specs.StampedWires.{last_stamp, wires_of}
+use Rattle.wires.specs.StampedWires.{last_stamp, wires_of}
 use Rattle.link_queue.specs.Ends.{put_list, put_stamped}
 use Rattle.actor.proofs.Counting.{counts-put, counts-still}
 use Rattle.actor.proofs.Keeping.{count_puts, count_takes, kept-none-put, kept-put, kept-room, last_went, port_below, puts_within}

@@ -2,7 +2,7 @@
 use Rattle.std.proofs.Common.{◌+◌, length, refl, ap, ◌∙◌, sym, subst, arith, true≢false}
 use Rattle.std.specs.Prelude.{IsTrue, max}
 use Rattle.std.proofs.lemmas.Result.{IfOk-from_err}
-use Rattle.alpha_core.specs.StampedWires.{wires_of}
+use Rattle.wires.specs.StampedWires.{wires_of}
 use Rattle.alpha_laws.proofs.PulseAfter.{reaction_pulse}
 use Rattle.link_queue.specs.Ends.{taken_list, taken_stamped}
 use Rattle.actor.proofs.Counting.{counts-still, counts-take}

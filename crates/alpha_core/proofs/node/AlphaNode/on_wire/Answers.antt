@@ -1,7 +1,7 @@
 -- A safe that is due isn't refused (due-taken), and is taken as the definition takes it; what else comes is left to `on_other_wire`.
 use Rattle.std.proofs.Common.{◌≡◌, refl, sym, ap, ◌∙◌, subst}
 use Rattle.std.specs.Prelude.{Ok, Err, MatchResult}
-use Rattle.alpha_core.specs.declared.wire.Wire.TheVariants.{Safe}
+use Rattle.wires.specs.declared.wire.Wire.TheVariants.{Safe}
 use Rattle.alpha_core.specs.View.{port_at}
 use Rattle.alpha_core.specs.Alpha.{reaction}
 use Rattle.alpha_core.proofs.Due.{due-taken}

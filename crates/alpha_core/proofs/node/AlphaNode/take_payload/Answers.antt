@@ -1,7 +1,7 @@
 -- The plan: the port has the payload and then the acknowledgement (acknowledged), as the definition says (payload-takes).
 use Rattle.std.proofs.Common.{◌<◌, length, sym, ap, ◌∙◌, arith}
 use Rattle.std.proofs.lemmas.List.{length-set, get_or-set_same}
-use Rattle.alpha_core.specs.declared.wire.Wire.TheVariants.{Payload, Ack}
+use Rattle.wires.specs.declared.wire.Wire.TheVariants.{Payload, Ack}
 use Rattle.alpha_core.specs.Alpha.{emit, reacts}
 use Rattle.alpha_core.specs.View.{Alpha, new_port, port_at, port_in}
 use Rattle.alpha_core.specs.Followed.{unsaid}

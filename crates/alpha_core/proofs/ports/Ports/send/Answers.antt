@@ -1,6 +1,6 @@
 use Rattle.std.proofs.Common.{ℕ, true, List, length, ap, ◌∙◌, arith}
 use Rattle.std.proofs.lemmas.List.{length-set, get_or-set_same}
-use Rattle.alpha_core.specs.declared.wire.Wire.TheVariants.{Payload}
+use Rattle.wires.specs.declared.wire.Wire.TheVariants.{Payload}
 use Rattle.alpha_core.specs.OutLists.{payloads_out}
 use Rattle.alpha_core.specs.View.{Port, port_in, set_at, new_port}
 use Rattle.alpha_core.specs.Alpha.{emit}

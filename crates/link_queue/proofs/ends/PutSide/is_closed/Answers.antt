@@ -1,8 +1,8 @@
 use Rattle.std.proofs.Common.{sym, subst}
 use Rattle.std.specs.Prelude.{Contains, IsTrue, ◌↔◌}
 use Rattle.crossbeam_queue.specs.Passes.{view}
-use Rattle.alpha_core.specs.declared.wire.Wire.TheVariants.{Close}
-use Rattle.alpha_core.specs.StampedWires.{wires_of}
+use Rattle.wires.specs.declared.wire.Wire.TheVariants.{Close}
+use Rattle.wires.specs.StampedWires.{wires_of}
 use Rattle.link_queue.proofs.Rules.{has_close-finds}
 use Rattle.link_queue.proofs.ends.PutSide.is_closed.Goals as goal
 

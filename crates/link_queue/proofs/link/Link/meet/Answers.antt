@@ -10,7 +10,7 @@ use Rattle.link_queue.proofs.Mapped.{mapped_forks, mapped_learns, mapped_merges}
 use Rattle.link_queue.proofs.Meets.{left_over}
 use Rattle.link_queue.proofs.Rules.{merges, forks, totals}
 use Rattle.std.proofs.lemmas.List.{length-map}
-use Rattle.alpha_core.specs.StampedWires.{wires_of}
+use Rattle.wires.specs.StampedWires.{wires_of}
 use Rattle.link_queue.proofs.link.Link.meet.Goals as goal
 use Rattle.link_queue.proofs.link.Link.meet.Goals.{After-len_as-n}
 

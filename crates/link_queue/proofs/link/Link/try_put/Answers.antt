@@ -1,8 +1,8 @@
 use Rattle.std.proofs.Common.{◌≡◌, refl, [], ◌∷◌, ◌++◌, ap, ◌∙◌, subst, sym}
 use Rattle.std.proofs.lemmas.List.{map-append}
 use Rattle.crossbeam_queue.specs.Passes.{view}
-use Rattle.alpha_core.specs.StampedWires.{wires_of}
-use Rattle.alpha_core.specs.declared.stamped.Stamped.{Stamped}
+use Rattle.wires.specs.StampedWires.{wires_of}
+use Rattle.wires.specs.declared.stamped.Stamped.{Stamped}
 use Rattle.link_rule.specs.Legal.{IsLegalOn, LegalFor}
 use Rattle.link_queue.specs.Queued.{stamped_of}
 use Rattle.link_queue.specs.Rule.{Linked, end_view, has_close}

@@ -1,7 +1,7 @@
 -- Wires with their stamps, and one more at the end.
 use Rattle.std.proofs.Common.{◌≡◌, ℕ, ◌<◌, List, [], ◌∷◌, ◌++◌, refl}
-use Rattle.alpha_core.specs.declared.stamped.Stamped.{Stamped}
-use Rattle.alpha_core.specs.StampedWires.{RiseFrom, last_from}
+use Rattle.wires.specs.declared.stamped.Stamped.{Stamped}
+use Rattle.wires.specs.StampedWires.{RiseFrom, last_from}
 
 module _ {M : Type 0} where
   pub last_more : (s : ℕ) (xs : List (Stamped M)) (x : Stamped M) → last_from s (xs ++ x ∷ []) ≡ x.stamp

@@ -1,0 +1,17 @@
+//! What a link carries: a wire, and a wire with its stamp.
+//!
+//! `alpha_core` says how a node reacts to a wire, `entries` what it writes down of it, `stamps` how stamps rise, and
+//! `link_queue` takes and puts stamped wires.
+//!
+//! ```text
+//! let item = Stamped { stamp: 1, wire: Wire::Payload(0, payload) };
+//! ```
+//!
+//! Limits: none; a stamp and a pulse have their types' ranges.
+#![tactic(auto)]
+
+mod stamped;
+mod wire;
+
+pub use stamped::Stamped;
+pub use wire::Wire;
