@@ -197,8 +197,8 @@ impl<J: Wiring, P: NodeProgram> Node<J, P> {
         }
     }
 
-    // Puts by a port, until nothing is left or an attempt fails. Returns whether it put a wire. Always inlined, as
-    // `put_one`, though it is called twice.
+    // Puts by a port, at most `PUTS` wires, until nothing is left or an attempt fails. Returns whether it put a wire.
+    // Always inlined, as `put_one`, though it is called twice.
     #[inline(always)]
     fn put_some<const ON: bool>(
         &mut self,
