@@ -22,7 +22,7 @@ pub mod laws;
 mod links;
 mod refused;
 mod state;
-mod wires;
+mod wire_list;
 
 pub use event::Event;
 pub use refused::{RunRefused, StepRefused};

@@ -3,7 +3,7 @@
 ghost use Rattle.std.specs.Prelude.{◌≡◌, ◌<◌, IfOk, OnErr, length, replicate, slice_get};
 ghost use Rattle.event_machine.specs.State.{HasLink, empty_links, link_at, no_link, put_one, set_link, take_one};
 
-use crate::wires::Wires;
+use crate::wire_list::Wires;
 use interference::{Memory, Network};
 use std::alloc::Global;
 use std::marker::Model;

@@ -1,6 +1,6 @@
 //! The links and nodes of a run: made, started, and run by the workers of `pool`.
 //!
-//! `making` makes the links, each with its two ends, `wires` and `starting` the nodes with the ends of theirs. `turns`
+//! `making` makes the links, each with its two ends, `wired` and `starting` the nodes with the ends of theirs. `turns`
 //! is a turn as a worker makes it; `run` lets workers run the nodes, and `refusals` says which fault a run has if turns
 //! of its nodes ended early. What a turn leaves is a fact of the node's type (`actor`). `node_pool` calls both
 //! functions, and lets `outcomes` gather what they leave.
@@ -19,7 +19,7 @@ mod refusals;
 mod run;
 mod starting;
 mod turns;
-mod wires;
+mod wired;
 
 pub use making::{Made, make_links};
 pub use run::{Ran, run_made};

@@ -7,7 +7,7 @@ ghost use Rattle.node_runs.specs.News.{AreNewEnds, AreNewOf};
 ghost use Rattle.port_rows.specs.Rows.{rows_of};
 
 use crate::making::PortEnds;
-use crate::wires::{WiredEnds, wired_ends};
+use crate::wired::{WiredEnds, wired_ends};
 use actor::{Node, Wiring};
 use interference::{Memory, Network};
 use node_api::NodeProgram;

@@ -9,9 +9,9 @@ use Rattle.link_queue.specs.Ends.{put_list, taken_list}
 use Rattle.node_runs.specs.News.{AreNewAt}
 use Rattle.node_runs.proofs.Growth.{all_more, both, handed, place_more}
 use Rattle.node_runs.proofs.MadeRows.{same_place}
-use Rattle.node_runs.proofs.wires.wired_ends.Given.{Over}
-use Rattle.node_runs.proofs.wires.wired_ends.Goals.{In-Some, After-back_port-j}
-use Rattle.node_runs.proofs.wires.wired_ends.Goals as goal
+use Rattle.node_runs.proofs.wired.wired_ends.Given.{Over}
+use Rattle.node_runs.proofs.wired.wired_ends.Goals.{In-Some, After-back_port-j}
+use Rattle.node_runs.proofs.wired.wired_ends.Goals as goal
 
 -- the ends of a turn are those of the row at its index
 turn : (g : Over) (c : In-Some g)

@@ -3,7 +3,7 @@ use Rattle.std.specs.Prelude.{All}
 use Rattle.std.specs.List.{range_with_len}
 use Rattle.interference.specs.Net.{back_port_of, neighbour_of}
 use Rattle.link_queue.specs.Ends.{put_list, taken_list}
-use Rattle.node_runs.proofs.wires.wired_ends.Given as goal
+use Rattle.node_runs.proofs.wired.wired_ends.Given as goal
 
 abbrev pub invariant-loop-ends : goal.invariant-loop-ends
 invariant-loop-ends g l = record {
