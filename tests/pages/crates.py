@@ -9,7 +9,7 @@
 - No line is wider than 120 columns in src/ and specs/, and than 160 in proofs/.
 - Files of specs/ have definitions alone: those that import proofs or state a lemma are called `..Laws.antt`, or
   `Props.antt`, and neither another file of specs/ nor a clause takes a word from one of these.
-- Each lemma is named outside its own proof, except those of UNCITED.
+- Each lemma is named outside its own proof.
 - Each crate of crates.txt lists each crate that its own files name, and no other. A crate that the head of a `lib.rt`
   names as a caller ("`answers` calls ..") lists the crate. No file passes a name of another crate on: no `pub use` of a
   lower crate in src/, specs/ or proofs/, and no import by way of one (`below`).
@@ -41,37 +41,6 @@ LAWS = r"specs[./](?:[A-Z]\w+Laws|Props)\b"
 LEMMA = r"^( *)(?:pub )?([^\s:(){}]+) : (?!goal\.).*\n(?:\1 +.*\n)*(?:\1unfolding .*\n)?\1\2[ \n]"
 WORD = r"[^\s(){}\[\],.;:]+"
 CLAUSE = r"^ *(?:ensures|requires) \w* ?(\{(?:[^{}]|\{[^{}]*\})*\})"
-# Lemmas that nothing cites, by crate: each goes when its crate is proved anew.
-UNCITED = {
-    "actor": {"answered", "from_one", "one_of", "wires_put"},
-    "alpha_core": {"few-payloads", "out-change", "safe-count"},
-    "alpha_laws": {"close"},
-    "answers": {"rooted-so"},
-    "colour_base": {"least_from-low"},
-    "deque_rule": {"begins"},
-    "dimacs_col": {"outside-first", "outside-second"},
-    "event_machine": {"reached_start"},
-    "forests": {"roles-are"},
-    "interference": {"count-le", "count-lt", "degree_in-le", "place_more", "starts_from"},
-    "link_rule": {"stops"},
-    "lone_runs": {"stuck_all", "stuck_first", "stuck_none"},
-    "node_runs": {"beside_more", "each_more", "longer", "rows_more"},
-    "outcomes": {"no_rows_met", "none_met"},
-    "port_rows": {"as_long", "slot_found", "slot_same"},
-    "stamps": {"KeepsStamps-prop", "entry_more", "more_stamp"},
-    "transcripts": {"fault-one", "fault-two"},
-    "worker_deques": {
-        "all_moved",
-        "as_many",
-        "but_none",
-        "err_says",
-        "none_moved",
-        "one_moved",
-        "right_more",
-        "right_none",
-        "total-append",
-    },
-}
 
 
 def unfound(path):
@@ -221,7 +190,7 @@ class Crates(Case):
             for name, others in lemmas(text):
                 if (".".join([crate, *place]), name) not in taken and name not in others:
                     uncited[crate].add(name)
-        self.same("lemmas that nothing cites", uncited, UNCITED)
+        self.same("lemmas that nothing cites", dict(uncited), {})
 
     def test_lists(self):
         """What a crate lists, and names that are passed on."""

@@ -27,10 +27,6 @@ below_same i m n e lt = subst (λ k. i < k) e lt
 pub below_as_many : (i m n : ℕ) → m ≡ n → i < n → i < m
 below_as_many i m n e lt = subst (λ k. i < k) (sym e) lt
 
--- What follows from one proof, which it names more than once: so the proof is written out once.
-pub from_one : {A B : Type 0} → A → (A → B) → B
-from_one x f = f x
-
 -- a list that is given place by place
 pub as_long : {A B : Type 0} (f : A → B) (g : ℕ → B) (xs : List A) (n : ℕ) → map f xs ≡ map g (range_with_len 0 n) → length xs ≡ n
 as_long f g xs n e = sym (length-map xs f) ∙ ap (λ l. length l) e ∙ length-map (range_with_len 0 n) g ∙ length-range_with_len 0 n

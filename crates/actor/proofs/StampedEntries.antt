@@ -1,25 +1,15 @@
--- What stamped entries put and took, without stamps.
+-- What stamped entries took, without stamps.
 use Rattle.std.proofs.Common.{◌≡◌, ℕ, ◌==◌, List, [], ◌∷◌, ◌++◌, refl, ap, ⊎_elim}
 use Rattle.std.proofs.lemmas.Bool.{cases_Bool}
 use Rattle.entries.specs.declared.entry.Entry.{Entry}
 use Rattle.entries.specs.declared.entry.Entry.TheVariants.{Pulse, Put, Take}
-use Rattle.actor.specs.Written.{puts_in, takes_in}
+use Rattle.actor.specs.Written.{takes_in}
 use Rattle.wires.specs.StampedWires.{wires_of}
 use Rattle.entries.specs.declared.rows.StampedEntry.{StampedEntry}
 use Rattle.entries.specs.Rows.{bare_of}
-use Rattle.stamps.specs.Stamps.{put_if, put_in, taken_if, taken_in}
+use Rattle.stamps.specs.Stamps.{taken_if, taken_in}
 
 module _ {M : Type 0} where
-  pub wires_put : (entries : List (StampedEntry M)) (w : ℕ) → wires_of (put_in entries w) ≡ puts_in (bare_of entries) w
-  wires_put [] w = refl
-  wires_put (e ∷ entries) w = first e.stamp e.entry (wires_put entries w)
-    where
-      first : (s : ℕ) (entry : Entry M) → wires_of (put_in entries w) ≡ puts_in (bare_of entries) w
-          → wires_of (put_if (λ to. to == w) s entry ++ put_in entries w) ≡ puts_in (entry ∷ bare_of entries) w
-      first s (Pulse p) rest = rest
-      first s (Put to x) rest = ⊎_elim (λ yes. rw yes (ap (λ l. x ∷ l) rest)) (λ no. rw no rest) (cases_Bool (to == w))
-      first s (Take from x) rest = rest
-
   pub wires_taken : (entries : List (StampedEntry M)) (w : ℕ) → wires_of (taken_in entries w) ≡ takes_in (bare_of entries) w
   wires_taken [] w = refl
   wires_taken (e ∷ entries) w = first e.stamp e.entry (wires_taken entries w)

@@ -1,7 +1,7 @@
 -- What one call on an end, or on the node alone, leaves of what a node with its ends keeps.
 use Rattle.std.proofs.Common.{◌≡◌, ℕ, ◌<◌, false, List, [], ◌∷◌, ◌++◌, length, map, drop, set, get_or, sym, ap, ◌∙◌, subst, arith}
 use Rattle.std.proofs.Common.{Some, None, Ok, Err, slice_get}
-use Rattle.std.specs.Prelude.{Option, Result, IsTrue, MatchResult}
+use Rattle.std.specs.Prelude.{Option, Result, IsTrue}
 use Rattle.std.proofs.lemmas.List.{length-map, length-set}
 use Rattle.interference.specs.Net.{Net, IsNetwork, IsVertex, degree_of, neighbour_of}
 use Rattle.node_api.specs.Program.{Program, last_pulse_on}
@@ -96,11 +96,6 @@ module _ {S M R Y : Type 0} (program : Program S M R) (net : Net) (taken : Y →
   refused_is node new ys i x y w aside e last last_is port wire within is more same refused =
       aside_is node new ys i x y w aside port wire within is more same
       (λ why. not_due (last_pulse_on program net) node.view i w e (subst (λ l. reaction l node.view i w ≡ Err e) last_is refused))
-
--- what is so at an answer that no refusal may be
-pub answered : {A B C : Type 0} {P : A → Type 0} {Q : B → Type 0} (r : Result A B) → MatchResult r P Q → ((x : A) → P x → C) → ((e : B) → Q e → ⊥) → C
-answered (Ok x) said good bad = good x said
-answered (Err e) said good bad = absurd (bad e said)
 
 ok_same : {A B : Type 0} (r : Result A B) (x y : A) → r ≡ Ok x → r ≡ Ok y → x ≡ y
 ok_same r x y a b = let e = sym a ∙ b in cc

@@ -22,9 +22,6 @@ module _ {M : Type 0} where
   payloads-append [] w = omega arith
   payloads-append (v ∷ out) w = omega (arith, payloads-append out w)
 
-  safe-count : Wire M → ℕ
-  safe-count w = safes_out (w ∷ [])
-
   safes-cons : (v : Wire M) (out : List (Wire M)) → safes_out (v ∷ out) ≡ safes_out (v ∷ []) + safes_out out
   safes-cons (Payload p x) out = omega arith
   safes-cons (Ack p) out = omega arith

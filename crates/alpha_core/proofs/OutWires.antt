@@ -25,13 +25,6 @@ zip-set (k ∷ ks) [] (suc i) a b = refl
 zip-set (k ∷ ks) (v ∷ vs) zero a b = refl
 zip-set (k ∷ ks) (v ∷ vs) (suc i) a b = ap (λ l. (k, v) ∷ l) (zip-set ks vs i a b)
 
-pub few-payloads : (bares : List BareWire) → payloads_in bares ≤ length bares
-few-payloads [] = omega arith
-few-payloads (Payload pulse ∷ bares) = omega (arith, few-payloads bares)
-few-payloads (Ack pulse ∷ bares) = omega (arith, few-payloads bares)
-few-payloads (Safe pulse ∷ bares) = omega (arith, few-payloads bares)
-few-payloads (Close ∷ bares) = omega (arith, few-payloads bares)
-
 module _ {M : Type 0} where
   pub wires-length : (bares : List BareWire) (payloads : List M) → payloads_in bares ≡ length payloads → length (wires_of bares payloads) ≡ length bares
   wires-length [] payloads whole = refl

@@ -34,9 +34,6 @@ module _ {M : Type 0} {last : ℕ} {own other : ℕ → Option M} {p : ℕ} {sai
   data_is : data_of emitted ≡ rounds own p ++ (payload_wire p (own p) ++ ((if said then Safe p ∷ [] else []) ++ (if nat_eq p last then Close ∷ [] else [])))
   data_is = data_emitted kept ∙ both said (own p) refl
     where
-      close : List (Wire M)
-      close = if nat_eq p last then Close ∷ [] else []
-
       both : (s : Bool) (o : Option M) → own p ≡ o → data_to own (emitted_to last p s o) ≡ rounds own p
           ++ (payload_wire p (own p) ++ ((if s then Safe p ∷ [] else []) ++ (if nat_eq p last then Close ∷ [] else [])))
       both true o e = rw add-one (append_assoc (rounds own p) (payload_wire p (own p) ++ (Safe p ∷ [])) _ ∙

@@ -9,10 +9,6 @@ pub least_from-within : (test : ℕ → Bool) (k n : ℕ) → least_from test k 
 least_from-within test k zero = omega arith
 least_from-within test k (suc n) = let more : least_from test (suc k) n ≤ suc k + n = least_from-within test (suc k) n in grind arith
 
-pub least_from-low : (test : ℕ → Bool) (k n : ℕ) → k ≤ least_from test k n
-least_from-low test k zero = omega arith
-least_from-low test k (suc n) = let more : suc k ≤ least_from test (suc k) n = least_from-low test (suc k) n in grind arith
-
 by_test : (b : Bool) (x y bound : ℕ) (P : ℕ → Type 0) → (b ≡ true → x < bound → P x) → (b ≡ false → y < bound → P y) → (if b then x else y) < bound →
     P (if b then x else y)
 by_test true x y bound P yes_case no_case h = yes_case refl h

@@ -1,5 +1,5 @@
 -- Each step keeps the rule of a deque.
-use Rattle.std.proofs.Common.{◌≡◌, ◌≢◌, ℕ, zero, suc, ◌+◌, ◌-◌, ◌<◌, ◌≤◌, List, [], ◌∷◌, ◌++◌, length, map, reverse, set, sym, refl, ap, ◌∙◌, subst}
+use Rattle.std.proofs.Common.{◌≡◌, ◌≢◌, ℕ, zero, suc, ◌+◌, ◌-◌, ◌<◌, ◌≤◌, List, [], ◌∷◌, ◌++◌, map, reverse, set, sym, refl, ap, ◌∙◌, subst}
 use Rattle.std.proofs.Common.{⊎_elim, arith}
 use Rattle.std.proofs.lemmas.List.{map-append, reverse-append}
 use mathlib.Core.Option as option
@@ -7,7 +7,7 @@ use lib.ListN.{get_elem?}
 use Rattle.crossbeam_deque.specs.Tasks.{Pushes, Takes, Pops, Finds, Forks, Merges}
 use Rattle.crossbeam_deque.proofs.Lists.{at_set, at_snoc}
 use Rattle.deque_rule.specs.declared.ledger.Ledger.{Ledger}
-use Rattle.deque_rule.specs.Ledgers.{ledger, weigh, total, all_shares, IdleIsEmpty, Balanced, KnowsEmpty}
+use Rattle.deque_rule.specs.Ledgers.{ledger, weigh, total, IdleIsEmpty, Balanced, KnowsEmpty}
 
 pub weigh-append : (h : ℕ → ℕ) (xs ys : List ℕ) → weigh h (xs ++ ys) ≡ weigh h xs + weigh h ys
 weigh-append h [] ys = omega arith
@@ -19,10 +19,6 @@ weigh-reverse h (x ∷ xs) =
     let e = weigh-reverse h xs in
     let q = ap (weigh h) (reverse-append (x ∷ []) xs) in
     omega (arith, weigh-append h (reverse xs) (x ∷ []))
-
-pub weigh-one : (xs : List ℕ) → weigh (λ _. 1) xs ≡ length xs
-weigh-one [] = refl
-weigh-one (x ∷ xs) = let e = weigh-one xs in omega arith
 
 pub map_snoc : {A : Type 0} (f : A → ℕ) (items : List A) (x : A) → map f (items ++ x ∷ []) ≡ map f items ++ f x ∷ []
 map_snoc f [] x = refl
@@ -120,17 +116,6 @@ deals pass v more items views b at =
 module _ {A : Type 0} (f : A → ℕ) where
   abbrev pub Held : List A → List Ledger → Type 0
   Held items views = Balanced (map f items) views
-
-  pub begins : Balanced (map f []) (ledger all_shares [] [] ∷ [])
-  begins = record {
-    shares = omega arith;
-    even = λ h. omega arith;
-    idle = λ j u e none. absurd (only j u e none);
-  }
-    where
-      only : (j : ℕ) (u : Ledger) → get_elem? (ledger all_shares [] [] ∷ []) j ≡ option.some u → u.shares ≡ 0 → ⊥
-      only zero u e none = let p : all_shares ≡ u.shares = ap (λ y. y.shares) (option.some-injective (ledger all_shares [] []) u e) in omega arith
-      only (suc j) u e none = option.some-ne-none u (sym e)
 
   pub gives : (pass : ℕ) (v : Ledger) (x : A) → 0 < v.shares
       → Pushes Held pass v (x ∷ []) (λ w. w ≡ ledger v.shares (v.pushed ++ map f (x ∷ [])) v.taken)

@@ -1,5 +1,5 @@
 -- The verdict of a line, from what the reader finds on it.
-use Rattle.std.proofs.Common.{◌≡◌, ◌<◌, ◌≤◌, ◌+◌, ◌++◌, ◌⊎◌, ◌||◌, ◌&&◌, ◌==◌, not, nat_lt, ℕ, Bool, true, false, Option, Some, None, List, [], ◌∷◌, refl, ap}
+use Rattle.std.proofs.Common.{◌≡◌, ◌<◌, ◌≤◌, ◌+◌, ◌++◌, ◌||◌, ◌&&◌, ◌==◌, not, nat_lt, ℕ, Bool, true, false, Option, Some, None, List, [], ◌∷◌, refl, ap}
 use Rattle.std.proofs.Common.{arith, drop}
 use Rattle.std.proofs.lemmas.Bool.Decides.{nat_tests}
 use Rattle.graph_limits.specs.declared.limits.TheConstants.{MAX_NODES, MAX_EDGES, MAX_CHANNEL, MAX_BARS}
@@ -83,12 +83,6 @@ outside-one nodes m v small k bad = grind (arith, nat_tests)
 
 pub inside-one : (nodes m : ℕ) → 0 < m → m ≤ nodes → is_outside nodes m ≡ false
 inside-one nodes m a b = grind (arith, nat_tests)
-
-pub outside-first : (nodes m n v : ℕ) → nodes ≤ MAX_NODES → v ≡ kept m → (v ≡ 0) ⊎ (nodes < v) → (is_outside nodes m || is_outside nodes n) ≡ true
-outside-first nodes m n v small k h = grind (arith, nat_tests)
-
-pub outside-second : (nodes m n w : ℕ) → nodes ≤ MAX_NODES → w ≡ kept n → (w ≡ 0) ⊎ (nodes < w) → (is_outside nodes m || is_outside nodes n) ≡ true
-outside-second nodes m n w small k h = grind (arith, nat_tests)
 
 pub kept-inside : (nodes m v : ℕ) → nodes ≤ MAX_NODES → v ≡ kept m → v ≤ nodes → m ≡ v
 kept-inside nodes m v small k h = grind arith

@@ -31,9 +31,6 @@ module _ {S M E : Type 0} (program : Program S M E) (net : Net) where
       go_on-then k (step program net state first) _ _ _ (λ s. run-append (suc k) before after s)
       ∙ ap (λ n. and_then (go_on k (step program net state first) (λ next. run_from program net (suc k) before next)) (λ s. run_from program net n after s)) e
 
-  pub reached_start : IsReachable program net (start program net)
-  reached_start = ([], refl)
-
   -- a run, and one event more
   pub run_push : (events : List Event) (event : Event) (state next : State S M) → run program net events ≡ Ok state →
       step program net state event ≡ Ok next → run program net (events ++ (event ∷ [])) ≡ Ok next

@@ -1,10 +1,9 @@
 -- The places of identifiers among those above a vertex's own are the numbers of its edges up.
-use Rattle.std.proofs.Common.{◌≡◌, ◌≢◌, ℕ, ◌<◌, Bool, true, false, List, length, get_or, map, refl, ap, sym, ◌∙◌}
+use Rattle.std.proofs.Common.{◌≡◌, ◌≢◌, ℕ, ◌<◌, Bool, true, false, length, get_or, map, refl, ap, sym, ◌∙◌}
 use Rattle.std.specs.Prelude.{if◌then◌else◌, filter, nat_lt}
 use Rattle.std.specs.List.{AllPairs, Contains}
 use Rattle.std.proofs.lemmas.Bool.{ltb-true}
-use Rattle.std.proofs.lemmas.List.{get_or-map, length-map, same_lists}
-use Rattle.std.proofs.lemmas.List.Elements.{Contains-get_or}
+use Rattle.std.proofs.lemmas.List.{get_or-map, length-map}
 use Rattle.interference.specs.Net.{Net, IsNetwork, IsVertex, id_of, neighbours, place_of}
 use Rattle.interference.proofs.Members.{filter-map, place_of-is, place_of-below}
 use Rattle.forests.specs.Order.{in_order}
@@ -44,20 +43,3 @@ module _ (net : Net) (ok : IsNetwork net) (v w : ℕ) (vertex : IsVertex net v) 
       ≡ (if nat_lt (id_of net v) (id_of net w) then role_of net v w else Unknown)
   unfolding role_by role_of
   role_by-is = if-both (nat_lt (id_of net v) (id_of net w)) (number net v w) _ (number net v w) same-number
-
--- what `number_up` writes at a vertex
-pub roles-are : (net : Net) → IsNetwork net → (v : ℕ) → IsVertex net v →
-    map (role_by (id_of net v) (map (id_of net) (neighbours net v))) (map (id_of net) (neighbours net v))
-    ≡ map (λ w. if nat_lt (id_of net v) (id_of net w) then role_of net v w else Unknown) (neighbours net v)
-roles-are net ok v vertex =
-    let own : ℕ = id_of net v in
-    let ws : List ℕ = neighbours net v in
-    let ids : List ℕ = map (id_of net) ws in
-    same_lists _ _ (length-map ids (role_by own ids) ∙ (length-map ws (id_of net) ∙
-    sym (length-map ws (λ w. if nat_lt own (id_of net w) then role_of net v w else Unknown))))
-    (λ k d below.
-    let long : k < length ids = rw (length-map ids (role_by own ids)) at below in
-    let low : k < length ws = rw (length-map ws (id_of net)) at long in
-    get_or-map (role_by own ids) ids k 0 d long ∙ (ap (λ (i : ℕ). role_by own ids i) (get_or-map (id_of net) ws k 0 0 low)
-    ∙ (role_by-is net ok v (get_or ws k 0) vertex (Contains-get_or ws k 0 low) ∙
-    sym (get_or-map (λ w. if nat_lt own (id_of net w) then role_of net v w else Unknown) ws k 0 d low))))

@@ -14,7 +14,6 @@ pub mod BarLists
 pub mod BarRows
 pub mod Made
 pub mod Greatest
-pub mod Counts
 pub mod Sums
 pub mod PortSums
 pub mod TwoEnds

@@ -1,5 +1,5 @@
 -- The place of a number in a list.
-use Rattle.std.proofs.Common.{◌≡◌, ◌≢◌, ℕ, zero, suc, ◌+◌, ◌<◌, ◌≤◌, List, [], ◌∷◌, length, get_or, arith}
+use Rattle.std.proofs.Common.{◌≡◌, ℕ, zero, suc, ◌<◌, ◌≤◌, List, [], ◌∷◌, length, get_or, arith}
 use Rattle.std.proofs.lemmas.Bool.Decides.{nat_tests}
 use Rattle.interference.specs.Net.{place_of}
 
@@ -7,9 +7,3 @@ pub place_found : (v : ℕ) (xs : List ℕ) (k : ℕ) → k < length xs → get_
 place_found v [] k h e = absurd (omega arith)
 place_found v (y ∷ ys) zero h e = grind (arith, nat_tests)
 place_found v (y ∷ ys) (suc k) h e = let more : place_of v ys ≤ k = place_found v ys k (omega arith) e in grind (arith, nat_tests)
-
-pub place_more : (v : ℕ) (xs : List ℕ) (k : ℕ) → k < length xs → k ≤ place_of v xs → get_or xs k 0 ≢ v → k + 1 ≤ place_of v xs
-place_more v [] k h low ne = absurd (omega arith)
-place_more v (y ∷ ys) zero h low ne = grind (arith, nat_tests)
-place_more v (y ∷ ys) (suc k) h low ne =
-    let more : k ≤ place_of v ys → k + 1 ≤ place_of v ys = λ l. place_more v ys k (omega arith) l ne in grind (arith, nat_tests)

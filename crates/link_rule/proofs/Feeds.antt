@@ -1,5 +1,5 @@
 -- A check fed one wire more.
-use Rattle.std.proofs.Common.{◌≡◌, ℕ, ◌+◌, ◌<◌, ◌≤◌, Bool, true, false, List, [], ◌∷◌, ◌++◌, take, drop, refl, sym, ap, ◌∙◌, arith, subst}
+use Rattle.std.proofs.Common.{◌≡◌, ℕ, ◌+◌, ◌<◌, ◌≤◌, Bool, true, false, List, [], ◌∷◌, ◌++◌, refl, sym, ap, ◌∙◌, arith, subst}
 use Rattle.std.proofs.Common.{◌⊎◌, ⊎_elim, append-nil, lt-ltb}
 use Rattle.std.specs.Prelude.{Contains, IsTrue, ◌↔◌, ◌&&◌, not, MatchBool}
 use Rattle.std.proofs.lemmas.List.Elements.{Contains-append_left, Contains-push}
@@ -10,11 +10,11 @@ use Rattle.alpha_core.specs.Wires.{acks_of, payloads_of, safes_of}
 use Rattle.alpha_core.proofs.Wires.{acks-append, payloads-append}
 use Rattle.link_rule.specs.Order.{MayFollow, IsInOrder}
 use Rattle.link_rule.specs.Progress.{Progress, HasCome, WasFed, at_start, may_come, goes_on, advanced, after_wire}
-use Rattle.std.proofs.lemmas.List.{map-append, take-append-drop}
+use Rattle.std.proofs.lemmas.List.{map-append}
 use Rattle.wires.specs.declared.stamped.Stamped.{Stamped}
 use Rattle.wires.specs.StampedWires.{StampsRise, wires_of}
 use Rattle.wires.proofs.StampedWires.{last_more, rise_last, rise_more}
-use Rattle.link_rule.proofs.Orders.{contains_nil, contains_snoc, order-front, order-more, order-last, order-nil, safes-append}
+use Rattle.link_rule.proofs.Orders.{contains_nil, contains_snoc, order-more, order-last, order-nil, safes-append}
 
 new_come : {M : Type 0} (last : ℕ) → HasCome {M = M} (at_start last) []
 new_come {M} last = record {
@@ -142,12 +142,6 @@ module _ {M : Type 0} (p : Progress) (ws : List (Wire M)) (fed : HasCome p ws) w
       MatchBool b (HasCome now (ws ++ w ∷ [])) (IsInOrder p.last (ws ++ w ∷ []) → ⊥)
   feeds w true now e f = subst (λ n. HasCome n (ws ++ w ∷ [])) (sym (f ∙ rw (sym e) refl)) (fed_true w (sym e))
   feeds w false now e f = λ h. let yes = may-goes w h in absurd cc
-
--- a list in which some wire doesn't go on isn't in order
-pub stops : {M : Type 0} (last i : ℕ) (wires : List (Wire M)) (w : Wire M) → take (i + 1) wires ≡ take i wires ++ w ∷ [] →
-    (IsInOrder last (take i wires ++ w ∷ []) → ⊥) → IsInOrder last wires → ⊥
-stops last i wires w e broken h = broken (subst (λ l. IsInOrder last l) e (order-front last (take (i + 1) wires) (drop (i + 1) wires)
-    (subst (λ l. IsInOrder last l) (sym (take-append-drop (i + 1) wires)) h)))
 
 -- what has come says nothing of stamps
 restamped : {M : Type 0} (p : Progress) (s : ℕ) (ws : List (Wire M)) → HasCome p ws → HasCome record p { stamp = s } ws

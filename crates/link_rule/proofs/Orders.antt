@@ -1,5 +1,5 @@
 -- Lists in order: their beginnings, and one wire more.
-use Rattle.std.proofs.Common.{◌≡◌, ℕ, suc, zero, ◌+◌, ◌<◌, ◌≤◌, List, [], ◌∷◌, ◌++◌, refl, sym, ap, ◌∙◌, arith, subst, ◌⊎◌, inl, inr, ⊎_elim, append_assoc}
+use Rattle.std.proofs.Common.{◌≡◌, ℕ, suc, zero, ◌+◌, List, [], ◌∷◌, ◌++◌, refl, sym, ap, arith, subst, ◌⊎◌, inl, inr, ⊎_elim}
 use Rattle.std.specs.Prelude.{Contains}
 use Rattle.std.proofs.lemmas.List.Elements.{Contains-append_cases}
 use Rattle.wires.specs.declared.wire.Wire.{Wire}
@@ -35,9 +35,6 @@ module _ {A : Type 0} where
       more (before_end rest p) = let same : x ≡ b = cc in before_end rest (rw (same, p) refl)
 
 module _ {M : Type 0} (top : ℕ) where
-  pub order-front : (front rest : List (Wire M)) → IsInOrder top (front ++ rest) → IsInOrder top front
-  order-front front rest h before w after e = h before w (after ++ rest) (ap (λ l. l ++ rest) e ∙ append_assoc before (w ∷ after) rest)
-
   pub order-more : (ws : List (Wire M)) (w : Wire M) → IsInOrder top ws → (Contains ws Close → ⊥) → MayFollow top ws w → IsInOrder top (ws ++ w ∷ [])
   order-more ws w h open' may before v after e = go (split_of ws before after w v e)
     where

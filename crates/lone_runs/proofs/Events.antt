@@ -4,7 +4,7 @@ use Rattle.std.proofs.Common.{inr}
 use Rattle.std.specs.Prelude.{Bool, ◌||◌}
 use Rattle.std.proofs.lemmas.Bool.{cases_order}
 use Rattle.std.proofs.lemmas.List.{length-append}
-use Rattle.interference.specs.Net.{Net, IsNetwork, IsVertex, count_of, degree_of}
+use Rattle.interference.specs.Net.{Net, IsNetwork, IsVertex, count_of}
 use Rattle.node_api.specs.Program.{Program}
 use Rattle.node_api.specs.Laws.{IsProgram}
 use Rattle.alpha_laws.specs.Counts.{events_of_run}
@@ -98,11 +98,6 @@ pub one_of : (i n : ℕ) → i < n + 1 → (i < n) ⊎ (i ≡ n)
 one_of i n lt = ⊎_elim (λ e. inr e) (λ side. ⊎_elim (λ below. inl below) (λ above. absurd (omega (arith, lt, above))) side) (cases_order i n)
 
 module _ {S M E : Type 0} (program : Program S M E) (at : NetView S M) where
-  pub stuck_first : (v : ℕ) → (Possible program at.net at.state (Pulse v) → ⊥) → StuckBefore program at v 0
-  stuck_first v never (Pulse u) is below can = never (subst (λ w. Possible program at.net at.state (Pulse w)) is can)
-  stuck_first v never (Put u i) is below can = omega (arith, below)
-  stuck_first v never (Take u i) is below can = omega (arith, below)
-
   pub stuck_more : (v n : ℕ) → StuckBefore program at v n → (Possible program at.net at.state (Take v n) → ⊥)
       → (Possible program at.net at.state (Put v n) → ⊥) → StuckBefore program at v (n + 1)
   stuck_more v n stuck take put (Pulse u) is below can = stuck (Pulse u) is tt can
@@ -113,25 +108,10 @@ module _ {S M E : Type 0} (program : Program S M E) (at : NetView S M) where
       (λ e. take (subst (λ j. Possible program at.net at.state (Take v j)) e (subst (λ w. Possible program at.net at.state (Take w i)) is can)))
       (one_of i n below)
 
-  pub stuck_all : (v n : ℕ) → degree_of at.net v ≤ n → StuckBefore program at v n → (event : Event) → vertex_of event ≡ v
-      → Possible program at.net at.state event → ⊥
-  stuck_all v n all stuck (Pulse u) is can = stuck (Pulse u) is tt can
-  stuck_all v n all stuck (Put u i) is can = stuck (Put u i) is (below u i is can.0.1) can
-    where
-      below : (u i : ℕ) → u ≡ v → i < degree_of at.net u → i < n
-      below u i is lt = let lt' = subst (λ w. i < degree_of at.net w) is lt in omega (arith, lt', all)
-  stuck_all v n all stuck (Take u i) is can = stuck (Take u i) is (below u i is can.0.1) can
-    where
-      below : (u i : ℕ) → u ≡ v → i < degree_of at.net u → i < n
-      below u i is lt = let lt' = subst (λ w. i < degree_of at.net w) is lt in omega (arith, lt', all)
-
   pub there : (event : Event) → Possible program at.net at.state event → IsVertex at.net (vertex_of event)
   there (Pulse v) can = can.0
   there (Put v i) can = can.0.0
   there (Take v i) can = can.0.0
-
-  pub stuck_none : StuckTo program at 0
-  stuck_none event le can = let low = (there event can).0 in omega (arith, le, low)
 
   pub stuck_next : (v : ℕ) → StuckTo program at v → ((event : Event) → vertex_of event ≡ v + 1 → Possible program at.net at.state event → ⊥)
       → StuckTo program at (v + 1)

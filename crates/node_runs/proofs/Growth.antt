@@ -3,7 +3,6 @@ use Rattle.std.proofs.Common.{◌≡◌, ℕ, zero, suc, ◌+◌, ◌-◌, ◌<�
 use Rattle.std.proofs.Common.{Some, slice_get, ◌⊎◌, inl, inr, ⊎_elim}
 use Rattle.std.specs.Prelude.{All}
 use Rattle.std.specs.List.{range_with_len}
-use Rattle.std.proofs.lemmas.Bool.{cases_eq}
 use Rattle.std.proofs.lemmas.List.{length-map, length_push, map-append}
 use Rattle.std.proofs.lemmas.List.Elements.{All-nil, All-push}
 use Rattle.std.proofs.lemmas.Option.{slice_get-get_or}
@@ -37,14 +36,6 @@ module _ {A : Type 0} where
   pushed (z ∷ xs) x zero y is = inl is
   pushed (z ∷ xs) x (suc i) y is = ⊎_elim (λ old. inl old) (λ new. inr (omega (arith, new.0), new.1)) (pushed xs x i y is)
 
-  pub longer : (xs new : List A) (x : A) (n : ℕ) → new ≡ xs ++ x ∷ [] → length xs ≡ n → length new ≡ n + 1
-  longer xs new x n more long = omega (arith, ap (λ l. length l) more, length_push xs x, long)
-
-  pub each_more : (Q : A → Type 0) (xs new : List A) (x : A) → new ≡ xs ++ x ∷ [] → Q x
-      → ((i : ℕ) (y : A) → slice_get xs i ≡ Some y → Q y) → (i : ℕ) (y : A) → slice_get new i ≡ Some y → Q y
-  each_more Q xs new x more q each i y at =
-      ⊎_elim (λ old. each i y old) (λ here. subst Q here.1 q) (pushed xs x i y (sym (ap (λ l. slice_get l i) more) ∙ at))
-
 -- the thing that a loop over a list has come to
 pub handed : {A : Type 0} (xs : List A) (i k : ℕ) (x : A) → i ≡ k → (k < length xs) × (x ≡ get_or xs k x) → slice_get xs i ≡ Some x
 handed xs i k x at turn = ap (λ j. slice_get xs j) at ∙ slice_get-get_or xs k x turn.0 ∙ ap (λ y. Some y) (sym turn.1)
@@ -62,48 +53,6 @@ pub place_more : {E D : Type 0} (f : E → D) (g : ℕ → D) (all new : List E)
 place_more f g all new x n more is so_far =
     read_more f all new x more ∙ ap (λ l. l ++ f x ∷ []) so_far
     ∙ ap (λ d. map g (range_with_len 0 n) ++ d ∷ []) is ∙ sym (range_next g n)
-
--- two lists side by side
-pub beside_more : {A B : Type 0} (R : ℕ → A → B → Type 0) (xs xs' : List A) (ys ys' : List B) (a : A) (b : B) (n : ℕ)
-    → length xs ≡ n → length ys ≡ n → xs' ≡ xs ++ a ∷ [] → ys' ≡ ys ++ b ∷ [] → R n a b
-    → ((i : ℕ) (x : A) (y : B) → slice_get xs i ≡ Some x → slice_get ys i ≡ Some y → R i x y)
-    → (i : ℕ) (x : A) (y : B) → slice_get xs' i ≡ Some x → slice_get ys' i ≡ Some y → R i x y
-beside_more R xs xs' ys ys' a b n long_a long_b more_a more_b r each i x y at_a at_b =
-    let in_a = pushed xs a i x (sym (ap (λ l. slice_get l i) more_a) ∙ at_a) in
-    let in_b = pushed ys b i y (sym (ap (λ l. slice_get l i) more_b) ∙ at_b) in
-    ⊎_elim
-    (λ old_a. ⊎_elim
-    (λ old_b. each i x y old_a old_b)
-    (λ new_b. let lt = below xs i x old_a in absurd (omega (arith, lt, new_b.0, long_a, long_b)))
-    in_b)
-    (λ new_a. ⊎_elim
-    (λ old_b. let lt = below ys i y old_b in absurd (omega (arith, lt, new_a.0, long_a, long_b)))
-    (λ new_b. let at : n ≡ i = omega (arith, new_a.0, long_a) in
-    subst (λ k. R k x y) at (subst (λ z. R n z y) new_a.1 (subst (λ z. R n a z) new_b.1 r)))
-    in_b)
-    in_a
-
--- rows of three kinds, vertex by vertex
-module _ {A B C : Type 0} (Q : ℕ → List A → List B → List C → Type 0) where
-  same : (v u : ℕ) (a a' : List A) (b b' : List B) (c c' : List C) → v ≡ u → a' ≡ a → b' ≡ b → c' ≡ c → Q v a b c → Q u a' b' c'
-  same v u a a' b b' c c' at is_a is_b is_c q =
-      subst (λ k. Q k a' b' c') at (subst (λ z. Q v z b' c') (sym is_a) (subst (λ z. Q v a z c') (sym is_b) (subst (λ z. Q v a b z) (sym is_c) q)))
-
-  pub rows_more : (xs xs' : List (List A)) (ys ys' : List (List B)) (zs zs' : List (List C)) (a : List A) (b : List B) (c : List C) (v : ℕ)
-      → length xs ≡ v → length ys ≡ v → length zs ≡ v → xs' ≡ xs ++ a ∷ [] → ys' ≡ ys ++ b ∷ [] → zs' ≡ zs ++ c ∷ [] → Q (v + 1) a b c
-      → ((u : ℕ) → 1 ≤ u → u ≤ v → Q u (row_at xs u) (row_at ys u) (row_at zs u))
-      → (u : ℕ) → 1 ≤ u → u ≤ v + 1 → Q u (row_at xs' u) (row_at ys' u) (row_at zs' u)
-  rows_more xs xs' ys ys' zs zs' a b c v long_a long_b long_c more_a more_b more_c q rows u low le = ⊎_elim
-      (λ here. same (v + 1) u a (row_at xs' u) b (row_at ys' u) c (row_at zs' u) (sym here)
-      (ap (λ l. row_at l u) more_a ∙ at_new xs a [] (u - 1) (omega (arith, here, long_a)))
-      (ap (λ l. row_at l u) more_b ∙ at_new ys b [] (u - 1) (omega (arith, here, long_b)))
-      (ap (λ l. row_at l u) more_c ∙ at_new zs c [] (u - 1) (omega (arith, here, long_c))) q)
-      (λ ne. let old : u ≤ v = omega arith in
-      same u u (row_at xs u) (row_at xs' u) (row_at ys u) (row_at ys' u) (row_at zs u) (row_at zs' u) refl
-      (ap (λ l. row_at l u) more_a ∙ at_old xs (a ∷ []) (u - 1) [] (omega (arith, low, old, long_a)))
-      (ap (λ l. row_at l u) more_b ∙ at_old ys (b ∷ []) (u - 1) [] (omega (arith, low, old, long_b)))
-      (ap (λ l. row_at l u) more_c ∙ at_old zs (c ∷ []) (u - 1) [] (omega (arith, low, old, long_c))) (rows u low old))
-      (cases_eq u (v + 1))
 
 -- rows of which the last, that of vertex n, is taken off
 module _ {R A : Type 0} (f : R → List A) (Q : ℕ → List A → Type 0) (rows left : List R) (row : R) (n m : ℕ) (next : n ≡ m + 1)

@@ -2,7 +2,7 @@
 use Rattle.std.proofs.Common.{◌≡◌, ◌-◌, List, [], ◌∷◌, ◌++◌, length, map, take, sym, ap, ◌∙◌, arith}
 use Rattle.std.specs.Prelude.{All, Option}
 use Rattle.std.proofs.lemmas.List.{length-append, map-append}
-use Rattle.std.proofs.lemmas.List.Elements.{All-nil, All-push, All-same}
+use Rattle.std.proofs.lemmas.List.Elements.{All-push, All-same}
 use Rattle.actor.proofs.Lists.{take_front}
 use Rattle.wires.specs.declared.stamped.Stamped.{Stamped}
 use Rattle.link_rule.specs.declared.name.LinkName.{LinkName}
@@ -19,13 +19,6 @@ module _ {T : Type 0} where
       omega (arith, ap (λ l. length l) all, length-append taken (held_stamped met)) in
       ap (λ n. take n (put_of met)) long ∙ ap (λ l. take (length taken) l) all ∙ take_front taken (held_stamped met)
 
-  pub none_met : (mets : List (Met T)) → mets ≡ [] → AreMet mets [] []
-  none_met mets none = record {
-    puts_are = ap (map put_of) none;
-    takens_are = ap (map taken_of) none;
-    splits = All-same (λ met. put_of met ≡ taken_of met ++ held_stamped met) mets [] none (All-nil (λ met. put_of met ≡ taken_of met ++ held_stamped met));
-  }
-
   pub one_met : (mets new : List (Met T)) (puts takens puts' takens' : List (List (Stamped T))) (met : Met T) (name : Option LinkName)
       (put taken : List (Stamped T)) → new ≡ mets ++ met ∷ [] → puts' ≡ puts ++ put ∷ [] → takens' ≡ takens ++ taken ∷ []
       → HasMet met name put taken → AreMet mets puts takens → AreMet new puts' takens'
@@ -40,14 +33,6 @@ module _ {T : Type 0} where
         splits = All-same (λ m. put_of m ≡ taken_of m ++ held_stamped m) new (mets ++ met ∷ []) pushed
             (All-push (λ m. put_of m ≡ taken_of m ++ held_stamped m) mets met are.splits split);
       }
-
-  pub no_rows_met : (rows : List (List (Met T))) → rows ≡ [] → RowsAreMet rows [] []
-  no_rows_met rows none = record {
-    puts_are = ap (map (λ mets. map put_of mets)) none;
-    takens_are = ap (map (λ mets. map taken_of mets)) none;
-    splits = All-same (λ mets. All (λ met. put_of met ≡ taken_of met ++ held_stamped met) mets) rows [] none
-        (All-nil (λ mets. All (λ met. put_of met ≡ taken_of met ++ held_stamped met) mets));
-  }
 
   pub one_row_met : (rows new : List (List (Met T))) (puts takens puts' takens' : List (List (List (Stamped T)))) (mets : List (Met T))
       (put taken : List (List (Stamped T))) → new ≡ rows ++ mets ∷ [] → puts' ≡ puts ++ put ∷ [] → takens' ≡ takens ++ taken ∷ []

@@ -109,10 +109,6 @@ module _ (net : Net) where
       }
 
     module _ {E B : Type 0} (ends : A → List E) (place : E → B) (g : ℕ → ℕ → B) (are : (a : A) → map place (ends a) ≡ row_by g (vertex_of a)) where
-      pub as_long : (a : A) → length (ends a) ≡ degree_of net (vertex_of a)
-      as_long a = sym (length-map (ends a) place) ∙ ap (λ l. length l) (are a) ∙ length-map (range_with_len 0 (degree_of net (vertex_of a))) (g (vertex_of a))
-          ∙ length-range_with_len 0 (degree_of net (vertex_of a))
-
       pub by_nodes : map (λ row. map place row) (map ends nodes) ≡ table_by g
       by_nodes = map-map (λ row. map place row) ends nodes ∙ map_same (λ a. map place (ends a)) (λ a. row_by g (vertex_of a)) are nodes
           ∙ sym (map-map (row_by g) vertex_of nodes) ∙ ap (map (row_by g)) order

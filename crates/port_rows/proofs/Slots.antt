@@ -2,15 +2,11 @@
 use Rattle.std.proofs.Common.{◌≡◌, ℕ, ◌-◌, ◌<◌, ◌≤◌, List, [], map, length, get_or, set, sym, ap, ◌∙◌, arith, ⊎_elim}
 use Rattle.std.specs.Prelude.{Option, None}
 use Rattle.std.proofs.lemmas.Bool.{cases_eq}
-use Rattle.std.proofs.lemmas.List.{get_or-set_same, get_or-set_other, length-set, get_or_default, get_or-map, map-set}
+use Rattle.std.proofs.lemmas.List.{get_or-set_same, get_or-set_other, length-set, get_or-map, map-set}
 use Rattle.interference.specs.Net.{Net}
 use Rattle.port_rows.specs.Rows.{row_at, slot_at, set_slot, HasShape}
 
 module _ {A : Type 0} (slots : List (List (Option A))) (v i : ℕ) (x : Option A) (low : 1 ≤ v) (in_rows : v - 1 < length slots) where
-  pub slot_same : i < length (row_at slots v) → slot_at (set_slot slots v i x) v i ≡ x
-  slot_same in_row = ap (λ row. get_or row i None) (get_or-set_same slots (v - 1) (set (row_at slots v) i x) [] in_rows)
-      ∙ get_or-set_same (row_at slots v) i x None in_row
-
   pub slot_other : (u j : ℕ) → 1 ≤ u → (u ≡ v → j ≡ i → ⊥) → slot_at (set_slot slots v i x) u j ≡ slot_at slots u j
   slot_other u j low' apart = ⊎_elim
       (λ same. let ne : j ≡ i → ⊥ = apart same in
@@ -45,9 +41,6 @@ module _ {R A : Type 0} (f : R → List (Option A)) (rows : List R) (v i : ℕ) 
     (in_row : i < length (f row)) (row_is : row ≡ get_or rows (v - 1) row) (slot_is : slot ≡ get_or (f row) i slot) where
   row_in : f row ≡ row_at (map f rows) v
   row_in = row_read f rows v row in_rows row_is
-
-  pub slot_found : slot ≡ slot_at (map f rows) v i
-  slot_found = slot_is ∙ get_or_default (f row) i slot None in_row ∙ ap (λ l. get_or l i None) row_in
 
   pub slot_written : (row' : R) (slot' : Option A) → f row' ≡ set (f row) i slot' → map f (set rows (v - 1) row') ≡ set_slot (map f rows) v i slot'
   slot_written row' slot' is =

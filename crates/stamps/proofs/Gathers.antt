@@ -3,21 +3,9 @@ use Rattle.std.proofs.Common.{◌≡◌, ℕ, suc, ◌+◌, ◌<◌, ◌≤◌, 
 use Rattle.std.proofs.lemmas.List.{append-nil, length-map, length-take-le, map-append}
 use Rattle.std.proofs.Math.Seq.{take-suc}
 use Rattle.entries.specs.declared.rows.StampedEntry.{StampedEntry}
-use Rattle.entries.specs.declared.rows.StampedRow.{StampedRow}
-use Rattle.entries.specs.Rows.{stamped_row}
 use Rattle.stamps.specs.Gathered.{rows_from, with_vertex}
 
 module _ {M : Type 0} where
-  pub entry_more : (rows : List (StampedRow M)) (v : ℕ) (entries : List (StampedEntry M)) (i : ℕ) (e : StampedEntry M)
-      → i < length entries → e ≡ get_or entries i e
-      → (rows ++ with_vertex v (take i entries)) ++ ((stamped_row e.stamp v e.entry) ∷ []) ≡ rows ++ with_vertex v (take (i + 1) entries)
-  entry_more rows v entries i e lt is =
-      let more : suc i ≡ i + 1 = omega arith in
-      append_assoc rows (with_vertex v (take i entries)) ((stamped_row e.stamp v e.entry) ∷ [])
-      ∙ ap (λ l. rows ++ l) (sym (map-append (λ x. (stamped_row x.stamp v x.entry)) (take i entries) (e ∷ [])) ∙ ap (λ l. with_vertex v l)
-      (sym (take-suc entries i e lt ∙ ap (λ x. take i entries ++ (x ∷ [])) (sym is)))
-      ∙ ap (λ k. with_vertex v (take k entries)) more)
-
   rows_behind : (v : ℕ) (lists : List (List (StampedEntry M))) (list : List (StampedEntry M))
       → rows_from v (lists ++ (list ∷ [])) ≡ rows_from v lists ++ with_vertex (v + length lists) list
   rows_behind v [] list = let e : v ≡ v + 0 = omega arith in append-nil (with_vertex v list) ∙ ap (λ k. with_vertex k list) e

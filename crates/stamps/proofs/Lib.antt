@@ -2,7 +2,6 @@ pub mod Lists
 pub mod Appends
 pub mod Local
 pub mod Keeps
-pub mod Props
 pub mod Gathers
 pub mod Unique
 pub mod Sorts

@@ -6,12 +6,10 @@ use Rattle.std.specs.List.{filter}
 use Rattle.std.specs.Str.{bytes_eq}
 use Rattle.dimacs_col.specs.Lines.{Line, has_fields}
 use Rattle.transcripts.specs.Behind.{AreStampedEntryLines, entry_lines, network_lines, reading_behind, transcript_lines}
-use Rattle.transcripts.specs.Editions.{AnyTranscript, One, Two, any_from, any_named_from, any_reading_behind, as_one, as_two, begins_edition, is_edition}
+use Rattle.transcripts.specs.Editions.{One, Two, any_from, any_named_from, any_reading_behind, as_one, as_two, begins_edition, is_edition}
 use Rattle.transcripts.specs.EntryLines.{header_of, nodes_in, row_of, stamped_row_of}
-use Rattle.transcripts.specs.Reading.{IsFaultOf, IsNamedText, IsStampedText, IsTranscriptText, StampedTranscript, Transcript, entries_from, named_from}
+use Rattle.transcripts.specs.Reading.{IsNamedText, IsStampedText, IsTranscriptText, StampedTranscript, Transcript, entries_from, named_from}
 use Rattle.transcripts.specs.Reading.{stamped_from}
-use Rattle.transcripts.specs.declared.fault.TextFault.{TextFault}
-use Rattle.transcripts.specs.declared.fault.TextFault.TheVariants.{Memory, Syntax}
 use Rattle.transcripts.proofs.EntryNumbers.{entries-have-lines}
 use Rattle.transcripts.proofs.LinesBehind.{nothing-behind}
 use Rattle.transcripts.proofs.Texts.{texts-are-read-from}
@@ -45,17 +43,6 @@ module _ {M : Type 0} (payload_of : List ℕ → ℕ → Option M) (n : ℕ) (li
 
   any-other : is_edition (codes "3") lines ≡ false → any_named_from payload_of n lines ≡ any_from payload_of n lines
   any-other e = rw e refl
-
--- a fault of the one is one of the other
-pub fault-two : {M : Type 0} (reading : Result (StampedTranscript M) ℕ) (any : Result (AnyTranscript M) ℕ) (fault : TextFault) → any ≡ as_two reading →
-    IsFaultOf reading fault → IsFaultOf any fault
-fault-two reading any Memory e is = tt
-fault-two reading any (Syntax n) e is = e ∙ ap as_two is
-
-pub fault-one : {M : Type 0} (reading : Result (Transcript M) ℕ) (any : Result (AnyTranscript M) ℕ) (fault : TextFault) → any ≡ as_one reading →
-    IsFaultOf reading fault → IsFaultOf any fault
-fault-one reading any Memory e is = tt
-fault-one reading any (Syntax n) e is = e ∙ ap as_one is
 
 -- ---- a transcript of an edition is read as one
 and-right : (a b : Bool) → (a && b) ≡ true → b ≡ true

@@ -1,13 +1,11 @@
 -- What weighs as the numbers below n has each of them.
-use Rattle.std.proofs.Common.{◌≡◌, ◌≢◌, ℕ, zero, suc, ◌+◌, ◌<◌, ◌≤◌, Bool, true, false, List, [], ◌∷◌, ◌++◌, length, map, refl, sym, ap, subst, ◌∙◌}
+use Rattle.std.proofs.Common.{◌≡◌, ◌≢◌, ℕ, zero, suc, ◌+◌, ◌<◌, ◌≤◌, Bool, true, false, List, [], ◌∷◌, refl, sym}
 use Rattle.std.proofs.Common.{⊎_elim, arith, eqb}
-use Rattle.std.specs.Prelude.{Contains, Result, Ok, Err, IfOk, IfErr}
+use Rattle.std.specs.Prelude.{Contains, Result, Ok, Err, IfOk}
 use Rattle.std.specs.List.{range_with_len}
 use Rattle.std.proofs.lemmas.Bool.Decides.{eqb_tells}
-use Rattle.std.proofs.lemmas.List.FromFn.{length-range_with_len}
 use Rattle.worker_deques.specs.Places.{AreAllBelow}
 use Rattle.deque_rule.specs.Ledgers.{weigh, AreSame}
-use Rattle.deque_rule.proofs.Rule.{weigh-one, weigh-append, map_snoc}
 
 abbrev bit : Bool → ℕ
 bit true = 1
@@ -62,11 +60,6 @@ range_has a (suc n) k low high = ⊎_elim (λ (s : _ × (a ≡ k)). (0, omega ar
     later : (a k : ℕ) → a ≤ k → a ≢ k → a + 1 ≤ k
     later a k le ne = omega arith
 
-pub as_many : (xs : List ℕ) (n : ℕ) → AreSame xs (range_with_len 0 n) → length xs ≡ n
-as_many xs n same =
-    let e = same (λ _. 1) in
-    omega (arith, weigh-one xs, weigh-one (range_with_len 0 n), length-range_with_len 0 n)
-
 -- numbers that are the same as those below n are all numbers below n
 pub all_below : (xs : List ℕ) (n count : ℕ) → count ≡ n → AreSame xs (range_with_len 0 n) → AreAllBelow count xs
 all_below xs n count is same = record {
@@ -74,30 +67,7 @@ all_below xs n count is same = record {
   all = λ k lt. same_has xs (range_with_len 0 n) k same (range_has 0 n k (omega arith) (omega arith));
 }
 
--- one thing after another goes from a list to another
-module _ {A B : Type 0} (f : A → ℕ) (g : B → ℕ) (all : List ℕ) where
-  pub none_moved : (xs : List A) (ys : List B) → ys ≡ [] → AreSame (map f xs) all → AreSame (map f xs ++ map g ys) all
-  none_moved xs ys none same h =
-      let e = ap (λ l. weigh h (map g l)) none in
-      omega (arith, weigh-append h (map f xs) (map g ys), same h)
-
-  pub one_moved : (xs rest : List A) (ys new : List B) (x : A) (y : B) → xs ≡ rest ++ x ∷ [] → new ≡ ys ++ y ∷ [] → g y ≡ f x
-      → AreSame (map f xs ++ map g ys) all → AreSame (map f rest ++ map g new) all
-  one_moved xs rest ys new x y out in_ is same h =
-      let e = ap (λ l. weigh h (map f l)) out ∙ ap (weigh h) (map_snoc f rest x) ∙ weigh-append h (map f rest) (f x ∷ []) in
-      let d = ap (λ l. weigh h (map g l)) in_ ∙ ap (weigh h) (map_snoc g ys y) ∙ weigh-append h (map g ys) (g y ∷ []) in
-      let s : h (g y) ≡ h (f x) = ap h is in
-      omega (arith, weigh-append h (map f xs) (map g ys), weigh-append h (map f rest) (map g new), same h)
-
-  pub all_moved : (xs : List A) (ys : List B) → xs ≡ [] → AreSame (map f xs ++ map g ys) all → AreSame (map g ys) all
-  all_moved xs ys none same = subst (λ l. AreSame (map f l ++ map g ys) all) none same
-
 -- what follows from what a good answer says
 pub ok_says : {A B : Type 0} {P Q : A → Type 0} (r : Result A B) → ((x : A) → P x → Q x) → IfOk r P → IfOk r Q
 ok_says (Ok x) f said = f x said
 ok_says (Err e) f said = said
-
--- what follows from what a fault says
-pub err_says : {A B : Type 0} {P Q : B → Type 0} (r : Result A B) → ((x : B) → P x → Q x) → IfErr r P → IfErr r Q
-err_says (Ok x) f said = said
-err_says (Err e) f said = f e said

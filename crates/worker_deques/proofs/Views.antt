@@ -33,10 +33,6 @@ total_zero f see (x ∷ xs) all =
     let r = total_zero f see xs (All-tail (λ x. f (see x) ≡ 0) x xs all) in
     omega arith
 
-pub total-append : (f : Ledger → ℕ) (xs ys : List Ledger) → total f (xs ++ ys) ≡ total f xs + total f ys
-total-append f [] ys = omega arith
-total-append f (x ∷ xs) ys = let r = total-append f xs ys in omega arith
-
 -- the sum after a change of one
 pub total_change : {A : Type 0} (f : Ledger → ℕ) (see : A → Ledger) (xs : List A) (i : ℕ) (x y : A) → i < length xs → x ≡ get_or xs i x
     → total f (map see (set xs i y)) + f (see x) ≡ total f (map see xs) + f (see y)
