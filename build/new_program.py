@@ -44,8 +44,20 @@ def renamed(text, model, name):
     return text.replace(title, name.title()).replace(crate, name).replace(words, name)
 
 
+def add_test(name, top, model):
+    """Writes the model's test, a module of `checks`, as one of the copy."""
+    source = os.path.join(top, "crates", name, "src")
+    test, root = f"crates/checks/src/{model[0]}_checks.rt", os.path.join(source, "lib.rt")
+    with open(os.path.join(TOP, test), encoding="utf-8") as text:
+        own = renamed(text.read(), model, name).replace(f"use {name}::", "use crate::")
+        write(os.path.join(source, "tests.rt"), own)
+    with open(root, encoding="utf-8") as text:
+        write(root, text.read().replace("mod texts;", "#[cfg(test)]\nmod tests;\nmod texts;"))
+
+
 def copy(name, top, model=MODEL):
-    """Writes the crate, of which nothing is there before, and its line of crates.txt, after the model's."""
+    """Writes the crate, of which nothing is there before, and its line of crates.txt, after the model's.
+    Its test makes rounds, so the line has `sync_rounds`, too."""
     if not re.fullmatch("[a-z]{1,20}", name):
         raise Wrong(f"{name}: a program's name is one word of at most 20 small letters, a to z")
     if os.path.exists(os.path.join(top, "crates", name)) or name == "colouring":
@@ -56,10 +68,11 @@ def copy(name, top, model=MODEL):
             to = renamed(os.path.relpath(path, source), model, name)
             with open(path, encoding="utf-8") as text:
                 write(os.path.join(top, "crates", name, to), renamed(text.read(), model, name))
+    add_test(name, top, model)
     path = os.path.join(top, "crates.txt")
     with open(path, encoding="utf-8") as text:
         line = lines_of(top)[model[0]]
-        write(path, text.read().replace(line, f"{line}\n{renamed(line, model, name)}"))
+        write(path, text.read().replace(line, f"{line}\n{renamed(line, model, name)} sync_rounds"))
 
 
 def main():

@@ -22,17 +22,21 @@ class NewProgram(Case):
         shutil.copy(os.path.join(TOP, "crates.txt"), self.folder)
         before = lines_of(self.folder)
         for model, name, needs in (
-            (MODEL, "echoes", "sync_rounds"),
+            (MODEL, "echoes", "program_texts"),
             (SEQUEL, "dominating", "followed"),
         ):
             copy(name, self.folder, model)
             parts = (os.path.join(TOP, "crates", model[0], part) for part in PARTS)
             made = files_in(os.path.join(self.folder, "crates", name))
-            self.same(f"{name}: files", len(made), sum(len(files_in(part)) for part in parts))
+            copied = sum(len(files_in(part)) for part in parts)
+            self.same(f"{name}: files, and its test", len(made), copied + 1)
             texts = "".join(path + text_in(path) for path in made)
+            test = f"use crate::{name.title()};"
+            self.note(f"{name}: its test", "mod tests;" in texts and test in texts)
             self.same(f"{name}: names", [word for word in model if word in texts], [])
             lines = lines_of(self.folder)
-            self.note(f"{name}: its line", needs in lines.pop(name), lines)
+            line = lines.pop(name)
+            self.note(f"{name}: its line", needs in line and "sync_rounds" in line, line)
         del lines["echoes"]
         self.same("the other lines", lines, before)
 

@@ -29,6 +29,8 @@ mod forests_checks;
 #[cfg(test)]
 mod heard;
 #[cfg(test)]
+mod independent_set_checks;
+#[cfg(test)]
 mod link_alone;
 #[cfg(test)]
 mod link_queue_checks;
@@ -50,6 +52,8 @@ mod pool_checks;
 mod samples;
 #[cfg(test)]
 mod shift_down_checks;
+#[cfg(test)]
+mod silent_checks;
 #[cfg(test)]
 mod sync_rounds_checks;
 #[cfg(test)]

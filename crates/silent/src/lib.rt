@@ -13,8 +13,6 @@
 pub mod laws;
 mod node;
 mod payload;
-#[cfg(test)]
-mod tests;
 mod texts;
 
 pub use node::Silent;

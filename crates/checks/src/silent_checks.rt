@@ -1,7 +1,7 @@
 //! A worked run: the expected numbers are by hand.
 
-use crate::node::Silent;
 use interference::{Network, bars_fit, edges_fit};
+use silent::Silent;
 use std::alloc::{AllocGlobal, Global};
 use sync_rounds::run_rounds;
 
