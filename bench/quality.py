@@ -8,7 +8,7 @@ other; our nodes know their neighbours alone. Largest first (D. J. A. Welsh and 
 chromatic number of a graph, 1967) and greedy by number take the nodes in a fixed order. They are those of networkx,
 which has to be installed.
 
-The plan is that of the slow definitions, which `forestplan plain` prints, too. After 1, 2, 4 and 8 passes its classes
+The plan is that of the slow definitions, which `forestplan plain` prints, too. After 1 to 64 passes its classes
 have chosen anew, in the orders of the definitions, as `forestplay rounds --program recolouring --passes N` has it."""
 import argparse
 import sys
@@ -20,7 +20,7 @@ from lab.network import Network, order
 from lab.networks import kinds
 
 # After how many passes the channels are counted.
-PASSES = (1, 2, 4, 8)
+PASSES = (1, 2, 4, 8, 16, 32, 64)
 HEADS = (
     *("network", "nodes", "edges", "most", "plan"),
     *(f"{passes} passes" for passes in PASSES),
