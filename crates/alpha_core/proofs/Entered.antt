@@ -4,8 +4,8 @@ use Rattle.std.proofs.Common.{refl, sym, ap, ◌∙◌, arith, subst}
 use Rattle.std.specs.Prelude.{IsSome}
 use Rattle.std.proofs.lemmas.Bool.{and_parts, not-true}
 use Rattle.std.proofs.lemmas.List.{get_or-map, get_or-replicate, length-map, same_lists}
-use Rattle.node_api.specs.Boxes.{at_port, FilledPorts}
-use Rattle.node_api.proofs.Slots.{some_or_none}
+use Rattle.node_api.specs.Boxes.{at_port, nothing, FilledPorts}
+use Rattle.node_api.proofs.Slots.{at_port-nothing, some_or_none}
 use Rattle.wires.specs.declared.wire.Wire.TheVariants.{Payload, Close}
 use Rattle.alpha_core.specs.View.{Port, none_waits}
 use Rattle.alpha_core.specs.Alpha.{emit, enters, enter_all}
@@ -22,7 +22,8 @@ quiet-at [] k d h lt = absurd (omega arith)
 quiet-at (port ∷ ports) zero d h lt = (and_parts _ _ h).0
 quiet-at (port ∷ ports) (suc k) d h lt = quiet-at ports k d (and_parts _ _ h).1 (omega arith)
 
--- What all ports are once a node has entered a pulse: at the last one, if it sends one payload everywhere, and if it sends at some ports.
+-- What all ports are once a node has entered a pulse: at the last one, if it sends nothing, if it sends one payload everywhere, and if it sends at some
+-- ports.
 module _ {M : Type 0} (last p : ℕ) (old : List (Port M)) where
   pub all-closed : (out : List (Option M)) → p ≡ last → none_waits old ≡ true → map (λ port. emit Close port) old ≡ enter_all last p out old
   all-closed out e none =
@@ -32,6 +33,13 @@ module _ {M : Type 0} (last p : ℕ) (old : List (Port M)) where
       ∙ ap (λ b. emit Close (record (get_or old k d) { waits = b })) (not-true (get_or old k d).waits (quiet-at old k d none lt))
       ∙ enters-last last p (get_or old k d) (get_or out k None) e
       ∙ sym (enter_all-at last p out old k d lt))
+
+  pub none-sent : (n : ℕ) → (p ≡ last → ⊥) → none_waits old ≡ true → old ≡ enter_all last p (nothing n) old
+  none-sent n ne none =
+      same_lists _ _ (sym (enter_all-length last p (nothing n) old)) (λ k d lt.
+      sym (enters-quiet last p (get_or old k d) ne (quiet-at old k d none lt))
+      ∙ ap (λ o. enters last p o (get_or old k d)) (sym (at_port-nothing n k))
+      ∙ sym (enter_all-at last p (nothing n) old k d lt))
 
   pub all-sent : (x : M) (new : List (Port M)) (n : ℕ) → (p ≡ last → ⊥) → ChangedUpTo (λ k port. emitted p (Some x) port) old new n → length old ≤ n
       → new ≡ enter_all last p (replicate (length old) (Some x)) old
