@@ -42,8 +42,8 @@ impl Colouring {
         self.node.colour()
     }
 
-    // A pulse at which there may be something to do. Never inlined, so that an engine's loop has nothing of it
-    // but the call.
+    // A pulse of which the node hasn't only to hear. Never inlined, so that an engine's loop has nothing of it but the
+    // call.
     #[inline(never)]
     fn take_pulse(
         &mut self,
@@ -56,9 +56,6 @@ impl Colouring {
         ensures answer { Matches result (next self.old pulse inbox.now.slots) (self.new, out.new) }
         ensures refused { OnErr result ((self.new ≡ self.old) × (out.new ≡ out.old)) }
     {
-        if self.node.hear(self.idle, pulse, inbox) {
-            return Ok(());
-        }
         self.idle = self.node.pulse(pulse, inbox, out)?;
         Ok(())
     }
@@ -106,7 +103,7 @@ impl NodeProgram for Colouring {
         inbox: &mut Inbox<Payload>,
         out: &mut Outbox<Payload>,
     ) -> Result<(), Refused> {
-        if self.idle.contains(pulse) && !inbox.has_next() {
+        if self.node.hear(self.idle, pulse, inbox) {
             return Ok(());
         }
         self.take_pulse(pulse, inbox, out)

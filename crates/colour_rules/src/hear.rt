@@ -17,8 +17,8 @@ use crate::ports::is_merged;
 use node_api::{Inbox, Reader};
 
 impl ColourNode {
-    /// A pulse at which the node only takes in what came, which is one of `idle`; nothing is sent, and the
-    /// pulses in which it waits stay the same. Returns false, and leaves the node as it was, if the pulse isn't
+    /// A pulse at which the node only takes in what came, if anything did, which is one of `idle`; nothing is sent, and
+    /// the pulses in which it waits stay the same. Returns false, and leaves the node as it was, if the pulse isn't
     /// one of them or something came that may not come: then `pulse` says what is refused.
     pub fn hear(&mut self, idle: IdlePulses, pulse: u32, inbox: &Inbox<Payload>) -> bool
         requires waits { IsWaiting self.old idle }
@@ -28,13 +28,18 @@ impl ColourNode {
         ensures refused { result ≡ false → self.new ≡ self.old }
         ensures sizes { (ports self.new ≡ ports self.old) × (self.new.sizes ≡ self.old.sizes) }
     {
-        if !idle.contains(pulse) || !inbox.reader().has_next() {
+        if !idle.contains(pulse) {
             return false;
+        }
+        if !inbox.reader().has_next() {
+            return true;
         }
         self.hear_all(idle.forest, inbox)
     }
 
-    // Takes in what came, which is something, if it may come at each step of a forest after the first.
+    // Takes in what came, which is something, if it may come at each step of a forest after the first. Never inlined,
+    // so that an engine's loop has nothing of it but the call.
+    #[inline(never)]
     fn hear_all(&mut self, forest: u16, inbox: &Inbox<Payload>) -> bool
         requires ports { length inbox.now.slots ≡ ports self.old }
         requires more { HasFrom inbox.now.slots 0 }
