@@ -54,8 +54,3 @@ pub marks_in-read_set : (n : ℕ) (words : List ℕ) (k x : ℕ) → x ≡ get_o
     marks_in n (set words (k / 64) (bit_or x (1 * 2 ^ (k % 64) % 2 ^ 64))) ≡ set (marks_in n words) k true
 marks_in-read_set n words k x is below inside =
     ap (λ w. marks_in n (set words (k / 64) (bit_or w (1 * 2 ^ (k % 64) % 2 ^ 64)))) is ∙ marks_in-set n words k below inside
-
--- a list of zeros
-pub all-zeros : (words : List ℕ) (n : ℕ) → length words ≡ n → ((k d : ℕ) → k < n → get_or words k d ≡ 0) → words ≡ replicate n 0
-all-zeros words n size each =
-    same_lists _ _ (size ∙ sym (length-replicate n 0)) (λ k d h. each k d (omega (arith, size)) ∙ sym (get_or-replicate n k 0 d (omega (arith, size))))

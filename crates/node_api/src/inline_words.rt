@@ -63,9 +63,20 @@ impl InlineWords {
     pub(crate) fn clear(&mut self)
         ensures zeros { self.new ≡ replicate (length self.old) 0 }
     {
-        for i in 0..self.more.len() {
-            self.more[i] = 0;
+        match self.more.len() {
+            0 => (),
+            // A word by itself, as one of a loop takes three times the instructions.
+            1 => self.more[0] = 0,
+            _ => clear_all(&mut self.more),
         }
         self.first = 0;
     }
+}
+
+// Makes all words 0. Never inlined, since most marks have at most two words.
+#[inline(never)]
+fn clear_all(words: &mut [u64])
+    ensures zeros { words.new ≡ replicate (length words.old) 0 }
+{
+    words.fill(0);
 }
