@@ -6,23 +6,6 @@ use Rattle.alpha_core.proofs.Kept.{inside, marks-set, next-counted, now-counted,
 use Rattle.alpha_core.proofs.KeptFlags.{count-fits}
 use Rattle.alpha_core.proofs.marks.MarkList.take_safe.Goals as goal
 
-pub index-kept-requires : goal.index-kept-requires
-index-kept-requires c =
-    let a = c.self.inside in
-    omega (arith, inside a.pulse a.kept.items c.args.self.now c.self.view_is c.args.port c.requires.port, a.kept.ok.0)
-
-pub overflow_add-kept : goal.overflow_add-kept
-overflow_add-kept c =
-    let a = c.self.inside in
-    omega (
-      arith,
-      safes-seen a.pulse a.kept.items c.args.self.now c.self.view_is c.args.port c.index-kept.result.now c.index-kept.ensures
-          c.requires.port c.self.invariant.in_step,
-      c.requires.next,
-      c.requires.room,
-      ap (λ v. v.pulse) c.self.view_is,
-    )
-
 pub index_mut-requires : goal.index_mut-requires
 index_mut-requires c =
     let a = c.self.inside in
@@ -41,39 +24,39 @@ overflow_add-self-in-Next c =
 pub invariant_of-self : goal.invariant_of-self
 invariant_of-self c =
     let a = c.self.inside in
-    let o = c.index-kept.result.now in
-    now-counted a.pulse a.kept.items c.args.self.now c.self.view_is c.args.port o c.index-kept.ensures c.requires.port c.self.invariant
-    (safes-seen a.pulse a.kept.items c.args.self.now c.self.view_is c.args.port o c.index-kept.ensures c.requires.port c.self.invariant.in_step
+    let o = c.index_mut.result.now in
+    now-counted a.pulse a.kept.items c.args.self.now c.self.view_is c.args.port o c.index_mut.ensures.value c.requires.port c.self.invariant
+    (safes-seen a.pulse a.kept.items c.args.self.now c.self.view_is c.args.port o c.index_mut.ensures.value c.requires.port c.self.invariant.in_step
     ∙ ap (λ n. a.pulse + n) (c.requires.next ∙ ap (λ w. safes_before w) c.in-Now.is))
 
 pub returns-in-Now : goal.returns-in-Now
 returns-in-Now c =
     let a = c.self.inside in
-    let o = c.index-kept.result.now in
+    let o = c.index_mut.result.now in
     let at =
-    safes-seen a.pulse a.kept.items c.args.self.now c.self.view_is c.args.port o c.index-kept.ensures c.requires.port c.self.invariant.in_step
+    safes-seen a.pulse a.kept.items c.args.self.now c.self.view_is c.args.port o c.index_mut.ensures.value c.requires.port c.self.invariant.in_step
     ∙ ap (λ n. a.pulse + n) c.requires.next in
     record {
-      set = marks-set a.pulse a.kept.items c.args.self.now c.self.view_is c.args.port o (one_more o) c.index-kept.ensures c.requires.port
+      set = marks-set a.pulse a.kept.items c.args.self.now c.self.view_is c.args.port o (one_more o) c.index_mut.ensures.value c.requires.port
           (λ m. mark_safe c.args.when m) (safe-taken a.pulse o c.args.when at);
     }
 
 pub invariant_of-self-in-Next : goal.invariant_of-self-in-Next
 invariant_of-self-in-Next c =
     let a = c.self.inside in
-    let o = c.index-kept.result.now in
-    next-counted a.pulse a.kept.items c.args.self.now c.self.view_is c.args.port o c.index-kept.ensures c.requires.port c.self.invariant
-    (safes-seen a.pulse a.kept.items c.args.self.now c.self.view_is c.args.port o c.index-kept.ensures c.requires.port c.self.invariant.in_step
+    let o = c.index_mut.result.now in
+    next-counted a.pulse a.kept.items c.args.self.now c.self.view_is c.args.port o c.index_mut.ensures.value c.requires.port c.self.invariant
+    (safes-seen a.pulse a.kept.items c.args.self.now c.self.view_is c.args.port o c.index_mut.ensures.value c.requires.port c.self.invariant.in_step
     ∙ ap (λ n. a.pulse + n) (c.requires.next ∙ ap (λ w. safes_before w) c.in-Next.is))
 
 pub returns-in-Next : goal.returns-in-Next
 returns-in-Next c =
     let a = c.self.inside in
-    let o = c.index-kept.result.now in
+    let o = c.index_mut.result.now in
     let at =
-    safes-seen a.pulse a.kept.items c.args.self.now c.self.view_is c.args.port o c.index-kept.ensures c.requires.port c.self.invariant.in_step
+    safes-seen a.pulse a.kept.items c.args.self.now c.self.view_is c.args.port o c.index_mut.ensures.value c.requires.port c.self.invariant.in_step
     ∙ ap (λ n. a.pulse + n) c.requires.next in
     record {
-      set = marks-set a.pulse a.kept.items c.args.self.now c.self.view_is c.args.port o (one_more o) c.index-kept.ensures c.requires.port
+      set = marks-set a.pulse a.kept.items c.args.self.now c.self.view_is c.args.port o (one_more o) c.index_mut.ensures.value c.requires.port
           (λ m. mark_safe c.args.when m) (safe-taken a.pulse o c.args.when at);
     }
