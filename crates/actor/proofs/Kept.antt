@@ -10,9 +10,9 @@ use Rattle.alpha_core.specs.declared.refused.AlphaRefused.{AlphaRefused}
 use Rattle.alpha_core.specs.View.{View, Node, port_at}
 use Rattle.alpha_core.specs.Table.{is_due, refusal_of}
 use Rattle.alpha_core.specs.Alpha.{reaction, reacts, unless_refused}
-use Rattle.alpha_core.specs.Program.{IsLegal, sends}
+use Rattle.link_rule.specs.Sent.{IsLegal, sends}
 use Rattle.alpha_core.proofs.Due.{due-taken}
-use Rattle.alpha_core.proofs.Wires.{legal-front}
+use Rattle.wires.proofs.Wires.{legal-front}
 use Rattle.alpha_laws.specs.Kept.{KeptAt, NodeKept}
 use Rattle.alpha_laws.proofs.Lawful.{legal_emitted}
 use Rattle.link_rule.specs.declared.name.LinkName.{LinkName}

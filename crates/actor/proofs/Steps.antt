@@ -11,7 +11,7 @@ use Rattle.alpha_core.specs.declared.refused.AlphaRefused.{AlphaRefused}
 use Rattle.alpha_core.specs.View.{Node, port_at, can_pulse}
 use Rattle.alpha_core.specs.Table.{is_due}
 use Rattle.alpha_core.specs.Alpha.{reaction, pulse, put_done}
-use Rattle.alpha_core.specs.Program.{IsLegal}
+use Rattle.link_rule.specs.Sent.{IsLegal}
 use Rattle.alpha_laws.specs.Kept.{NodeKept}
 use Rattle.alpha_laws.proofs.NodeLaws.{puts_keep, takes_keep, pulses_keep}
 use Rattle.alpha_laws.proofs.Runs.{runs}

@@ -7,7 +7,7 @@ use Rattle.wires.specs.declared.wire.Wire.{Wire}
 use Rattle.wires.specs.declared.wire.Wire.TheVariants.{Payload, Ack, Safe, Close}
 use Rattle.alpha_core.specs.OutLists.{PayloadFits, payload_of, payloads_out, safes_out}
 use Rattle.alpha_core.specs.Followed.{unsaid, AreFollowed, AllFollowed, AllFew}
-use Rattle.alpha_core.specs.Streams.{payload_wire}
+use Rattle.wires.specs.Streams.{payload_wire}
 use Rattle.alpha_core.specs.View.{Port, View, new_port, all_out_within, none_waits}
 use Rattle.alpha_core.specs.Alpha.{emit, advances, enter_all, entering}
 

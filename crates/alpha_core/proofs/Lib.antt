@@ -1,4 +1,3 @@
-pub mod Wires
 pub mod Due
 pub mod Cells
 mod Reacting

@@ -5,11 +5,11 @@
 //!
 //! What a node keeps is `Node` of `specs/View.antt`: its program's state and a view, with a record for each
 //! port. How it reacts is `reaction` and `pulse` of `specs/Alpha.antt`, by the 36 cells of
-//! `specs/Table.antt`. What the synchronous run sends over a link is `stream` of `specs/Streams.antt`, and
-//! `Legal` lists of wires are those that begin it.
+//! `specs/Table.antt`. What the synchronous run sends over a link is `stream` of `wires`, and `Legal` lists are
+//! those that begin it.
 //!
-//! `alpha_laws` proves what such nodes keep of their links, `event_machine` plays a network of them event by
-//! event, and `link_rule` and `link_queue` carry their wires.
+//! `alpha_laws` proves what such nodes keep of their links, `event_machine` plays a network of them event by event, and
+//! `actor` puts their wires on links.
 //!
 //! ```text
 //! let mut node: AlphaNode<Colouring> = AlphaNode::start(alloc, &net, v)?;

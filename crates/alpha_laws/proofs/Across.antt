@@ -6,7 +6,7 @@ use Rattle.node_api.specs.Program.{Program, last_pulse_on}
 use Rattle.wires.specs.declared.wire.Wire.{Wire}
 use Rattle.alpha_core.specs.View.{Node, port_at}
 use Rattle.alpha_core.specs.Table.{is_due}
-use Rattle.alpha_core.specs.Program.{sends}
+use Rattle.link_rule.specs.Sent.{sends}
 use Rattle.alpha_laws.specs.Simulates.{taken_over, emitted_at}
 use Rattle.alpha_laws.proofs.Runs.{Runs}
 use Rattle.alpha_laws.proofs.Edge as edge

@@ -14,9 +14,9 @@ use Rattle.interference.proofs.Sums.{sum_by-same, sum_by-const}
 use Rattle.interference.proofs.TwoEnds.{ports-swapped, degrees-are_twice_edges}
 use Rattle.node_api.specs.Program.{Program, last_pulse_on}
 use Rattle.wires.specs.declared.wire.Wire.{Wire}
-use Rattle.alpha_core.specs.Streams.{sent_pulses}
+use Rattle.wires.specs.Streams.{sent_pulses}
 use Rattle.alpha_core.specs.View.{Node, is_halted, port_at}
-use Rattle.alpha_core.specs.Program.{sends}
+use Rattle.link_rule.specs.Sent.{sends}
 use Rattle.alpha_laws.specs.Counts.{events_made, events_of_run, wires_of_run}
 use Rattle.alpha_laws.specs.Simulates.{Simulates, taken_over}
 use Rattle.alpha_laws.specs.Progress.{CanMove, IsWhole, Splits}

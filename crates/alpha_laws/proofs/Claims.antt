@@ -9,11 +9,11 @@ use Rattle.node_api.specs.Boxes.{at_port}
 use Rattle.node_api.specs.Program.{Program, last_pulse_on}
 use Rattle.node_api.specs.Run.{outbox_at, inbox_at}
 use Rattle.wires.specs.declared.wire.Wire.{Wire}
-use Rattle.alpha_core.specs.Wires.{payload_at}
-use Rattle.alpha_core.specs.Streams.{Legal}
+use Rattle.wires.specs.Wires.{payload_at}
+use Rattle.wires.specs.Streams.{Legal}
 use Rattle.alpha_core.specs.View.{Node, port_at}
-use Rattle.alpha_core.specs.Program.{sends}
-use Rattle.alpha_core.proofs.Wires.{legal-front, begins_from}
+use Rattle.link_rule.specs.Sent.{sends}
+use Rattle.wires.proofs.Wires.{legal-front, begins_from}
 use Rattle.alpha_laws.specs.Simulates.{Simulates, taken_over, emitted_at, heard_at, IsCompleteOn}
 use Rattle.alpha_laws.proofs.EachPort.{none_from, out_from}
 use Rattle.alpha_laws.proofs.Lawful.{legal_emitted}

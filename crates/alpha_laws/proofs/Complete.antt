@@ -4,9 +4,9 @@ use Rattle.std.proofs.Common.{◌≡◌, ℕ, zero, suc, ◌+◌, List, [], ◌�
 use Rattle.std.proofs.lemmas.List.{length-append}
 use Rattle.wires.specs.declared.wire.Wire.{Wire}
 use Rattle.wires.specs.declared.wire.Wire.TheVariants.{Payload, Ack, Safe, Close}
-use Rattle.alpha_core.specs.Wires.{data_of, acks_of, payloads_of}
-use Rattle.alpha_core.specs.Streams.{payload_wire, sent_pulse, rounds, sent_pulses}
-use Rattle.alpha_core.proofs.Wires.{payloads-append}
+use Rattle.wires.specs.Wires.{data_of, acks_of, payloads_of}
+use Rattle.wires.specs.Streams.{payload_wire, sent_pulse, rounds, sent_pulses}
+use Rattle.wires.proofs.Wires.{payloads-append}
 use Rattle.alpha_laws.specs.Simulates.{IsComplete}
 
 module _ {M : Type 0} where

@@ -8,8 +8,8 @@ use Rattle.interference.proofs.PortSums.{ports-same, ports-add, ports-const}
 use Rattle.interference.proofs.TwoEnds.{ports-swapped, degrees-are_twice_edges}
 use Rattle.node_api.specs.Program.{Program, last_pulse_on}
 use Rattle.wires.specs.declared.wire.Wire.{Wire}
-use Rattle.alpha_core.specs.Streams.{sent_pulses}
-use Rattle.alpha_core.specs.Program.{sends}
+use Rattle.wires.specs.Streams.{sent_pulses}
+use Rattle.link_rule.specs.Sent.{sends}
 use Rattle.alpha_laws.specs.Simulates.{IsCompleteOn}
 use Rattle.alpha_laws.specs.Counts.{wires_on, payloads_on, payloads_sent, CompleteListsAreCounted}
 use Rattle.alpha_laws.proofs.Complete.{complete-payloads, length-complete}

@@ -2,13 +2,13 @@
 use Rattle.std.proofs.Common.{◌≡◌, ℕ, suc, ◌+◌, ◌*◌, ◌≤◌, Bool, true, false, List, [], ◌∷◌, ◌++◌, Option, Some, None, length, refl, sym, ap, ◌∙◌, append_assoc}
 use Rattle.std.proofs.Common.{append-nil, arith, subst}
 use Rattle.std.specs.Prelude.{is_some, if◌then◌else◌}
-use Rattle.alpha_core.proofs.Wires.{payloads-append}
+use Rattle.wires.proofs.Wires.{payloads-append}
 use Rattle.wires.specs.declared.wire.Wire.{Wire}
 use Rattle.wires.specs.declared.wire.Wire.TheVariants.{Payload, Ack, Safe, Close}
-use Rattle.alpha_core.specs.Wires.{acks_of, payloads_of}
-use Rattle.alpha_core.specs.Streams.{sent_pulse, sent_pulses}
+use Rattle.wires.specs.Wires.{acks_of, payloads_of}
+use Rattle.wires.specs.Streams.{sent_pulse, sent_pulses}
 use Rattle.alpha_core.specs.View.{bit}
-use Rattle.alpha_core.specs.Program.{sends}
+use Rattle.link_rule.specs.Sent.{sends}
 use Rattle.alpha_laws.specs.Position.{Position, move, moves, Allows, Follows}
 
 -- how far: two for each safe, and one for the payload after them

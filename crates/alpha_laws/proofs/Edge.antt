@@ -4,10 +4,10 @@ use Rattle.std.proofs.Common.{append-nil, length-append, arith, ⊎_elim, ne_eqb
 use Rattle.std.specs.Prelude.{is_some, if◌then◌else◌, nat_eq}
 use Rattle.std.proofs.lemmas.Bool.{cases_eq, false_from_ne_true}
 use Rattle.wires.specs.declared.wire.Wire.{Wire}
-use Rattle.alpha_core.specs.Wires.{acks_of, payloads_of}
-use Rattle.alpha_core.specs.Streams.{sent_pulse, sent_pulses}
+use Rattle.wires.specs.Wires.{acks_of, payloads_of}
+use Rattle.wires.specs.Streams.{sent_pulse, sent_pulses}
 use Rattle.alpha_core.specs.View.{Port, bit, safes_at}
-use Rattle.alpha_core.proofs.Wires.{acks-append, payloads-append}
+use Rattle.wires.proofs.Wires.{acks-append, payloads-append}
 use Rattle.alpha_laws.proofs.Slots.{bit_le}
 use Rattle.alpha_laws.proofs.Cursor.{place, payloads_to, moves-append, place-grows, follows-rest, payloads_to-grows, length-counts}
 use Rattle.alpha_laws.specs.Position.{start_at, moves, Follows}

@@ -4,11 +4,11 @@ use Rattle.std.specs.Prelude.{is_some, if◌then◌else◌}
 use Rattle.std.proofs.lemmas.Bool.{and_parts}
 use Rattle.wires.specs.declared.wire.Wire.{Wire}
 use Rattle.wires.specs.declared.wire.Wire.TheVariants.{Safe}
-use Rattle.alpha_core.specs.Wires.{acks_of}
-use Rattle.alpha_core.specs.Streams.{sent_pulses}
+use Rattle.wires.specs.Wires.{acks_of}
+use Rattle.wires.specs.Streams.{sent_pulses}
 use Rattle.alpha_core.specs.View.{Port, bit, new_port}
 use Rattle.alpha_core.specs.Alpha.{advances, entry, enters}
-use Rattle.alpha_core.proofs.Wires.{acks-append}
+use Rattle.wires.proofs.Wires.{acks-append}
 use Rattle.alpha_laws.proofs.Cursor.{moves-append, follows-more}
 use Rattle.alpha_laws.proofs.Kept.{same_at, entered_at}
 use Rattle.alpha_laws.proofs.Slots.{bit_le, unpaid}

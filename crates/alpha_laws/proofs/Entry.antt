@@ -2,8 +2,8 @@
 use Rattle.std.proofs.Common.{not, ◌&&◌, ◌≡◌, ℕ, ◌+◌, ◌<◌, ◌≤◌, false, [], Option, Some, None, refl, ap, ◌∙◌, arith, ⊎_elim, ne_eqb, eq-eqb}
 use Rattle.std.specs.Prelude.{is_some, if◌then◌else◌, nat_eq}
 use Rattle.std.proofs.lemmas.Bool.{cases_Bool, cases_eq}
-use Rattle.alpha_core.specs.Wires.{acks_of}
-use Rattle.alpha_core.specs.Streams.{sent_pulse, payload_wire}
+use Rattle.wires.specs.Wires.{acks_of}
+use Rattle.wires.specs.Streams.{sent_pulse, payload_wire}
 use Rattle.alpha_core.specs.Alpha.{entry}
 use Rattle.alpha_laws.proofs.Kept.{same_at, entered_at}
 use Rattle.alpha_laws.specs.Position.{moves, Follows}

@@ -4,9 +4,9 @@ use Rattle.std.specs.Prelude.{is_some, Contains}
 use Rattle.std.proofs.lemmas.Bool.{cases_lt}
 use Rattle.std.proofs.lemmas.List.Elements.{Contains-append_left}
 use Rattle.wires.specs.declared.wire.Wire.{Wire}
-use Rattle.alpha_core.specs.Wires.{acks_of, payload_at}
+use Rattle.wires.specs.Wires.{acks_of, payload_at}
 use Rattle.alpha_core.specs.View.{Port, bit}
-use Rattle.alpha_core.proofs.Wires.{acks-append}
+use Rattle.wires.proofs.Wires.{acks-append}
 use Rattle.alpha_laws.proofs.Cursor.{place, payloads_to-grows}
 use Rattle.alpha_laws.proofs.Across.{whole'}
 use Rattle.alpha_laws.proofs.Passed.{at-passed, at-early}

@@ -5,10 +5,10 @@ use Rattle.std.specs.Prelude.{is_some, nat_eq}
 use Rattle.std.proofs.lemmas.Bool.{cases_eq, cases_Bool, eqb-true}
 use Rattle.wires.specs.declared.wire.Wire.{Wire}
 use Rattle.wires.specs.declared.wire.Wire.TheVariants.{Safe, Close}
-use Rattle.alpha_core.specs.Wires.{data_of, acks_of}
-use Rattle.alpha_core.specs.Streams.{sent_pulse, sent_pulses, payload_wire, rounds, stream, Legal}
+use Rattle.wires.specs.Wires.{data_of, acks_of}
+use Rattle.wires.specs.Streams.{sent_pulse, sent_pulses, payload_wire, rounds, stream, Legal}
 use Rattle.alpha_core.specs.View.{Port}
-use Rattle.alpha_core.proofs.Wires.{begins_from}
+use Rattle.wires.proofs.Wires.{begins_from}
 use Rattle.alpha_laws.proofs.Cursor.{payloads_to, moves-append, follows-rest, closed-ends, payloads_to-grows}
 use Rattle.alpha_laws.specs.Position.{Position, start_at, move, moves, Follows}
 use Rattle.alpha_laws.specs.Kept.{emitted_to, taken_to, PortKept}

@@ -36,3 +36,4 @@ pub mod Short
 pub mod Sums
 pub mod Bounded
 pub mod PulseAfter
+pub mod Legals

@@ -6,8 +6,8 @@ use Rattle.std.proofs.lemmas.Bool.{cases_eq}
 use Rattle.std.proofs.lemmas.List.Elements.{Contains-append_left, Contains-append_right, Contains-append_cases}
 use Rattle.wires.specs.declared.wire.Wire.{Wire}
 use Rattle.wires.specs.declared.wire.Wire.TheVariants.{Payload, Ack, Safe, Close}
-use Rattle.alpha_core.specs.Wires.{safes_of}
-use Rattle.alpha_core.specs.Streams.{sent_pulse, sent_pulses}
+use Rattle.wires.specs.Wires.{safes_of}
+use Rattle.wires.specs.Streams.{sent_pulse, sent_pulses}
 use Rattle.alpha_core.specs.View.{bit}
 use Rattle.alpha_laws.proofs.Cursor.{place, payloads_to}
 use Rattle.alpha_laws.specs.Position.{Position, move, moves, Follows}

@@ -6,12 +6,12 @@ use Rattle.std.proofs.lemmas.Bool.{cases_Bool, and_parts, eqb-true, ltb-true, no
 use Rattle.std.proofs.lemmas.List.{append_cancel_left}
 use Rattle.wires.specs.declared.wire.Wire.{Wire}
 use Rattle.wires.specs.declared.wire.Wire.TheVariants.{Payload, Ack, Safe, Close}
-use Rattle.alpha_core.specs.Wires.{data_of}
-use Rattle.alpha_core.specs.Streams.{payload_wire, rounds, stream, Legal}
+use Rattle.wires.specs.Wires.{data_of}
+use Rattle.wires.specs.Streams.{payload_wire, rounds, stream, Legal}
 use Rattle.alpha_core.specs.View.{Port, safes_at, is_paid}
 use Rattle.alpha_core.specs.Table.{is_due}
 use Rattle.alpha_core.proofs.Due.{paid-is}
-use Rattle.alpha_core.proofs.Wires.{begins_rest, data-append}
+use Rattle.wires.proofs.Wires.{begins_rest, data-append}
 use Rattle.alpha_laws.proofs.Shown.{data_to, data_to-grows, start_is, rounds_begin}
 use Rattle.alpha_laws.proofs.Lawful.{place_taken}
 use Rattle.alpha_laws.specs.Position.{Position, start_at, Allows}

@@ -6,12 +6,12 @@ use Rattle.std.proofs.lemmas.Bool.{cases_eq, eqb-true}
 use Rattle.std.proofs.lemmas.List.{append_cancel_left}
 use Rattle.wires.specs.declared.wire.Wire.{Wire}
 use Rattle.wires.specs.declared.wire.Wire.TheVariants.{Payload, Ack, Safe, Close}
-use Rattle.alpha_core.specs.Wires.{acks_of, payloads_of}
-use Rattle.alpha_core.specs.Streams.{sent_pulse, sent_pulses}
+use Rattle.wires.specs.Wires.{acks_of, payloads_of}
+use Rattle.wires.specs.Streams.{sent_pulse, sent_pulses}
 use Rattle.alpha_core.specs.View.{Port, bit, safes_at, is_paid}
 use Rattle.alpha_core.specs.Table.{horizon, is_due}
 use Rattle.alpha_core.proofs.Due.{paid-is}
-use Rattle.alpha_core.proofs.Wires.{acks-append, payloads-append}
+use Rattle.wires.proofs.Wires.{acks-append, payloads-append}
 use Rattle.alpha_laws.proofs.Cursor.{place, place-grows, closed-ends}
 use Rattle.alpha_laws.proofs.Slots.{bit_le}
 use Rattle.alpha_laws.proofs.Edge.{rest_goes, rest_ends, place_most, tells, near'}

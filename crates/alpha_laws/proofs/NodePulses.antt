@@ -12,7 +12,7 @@ use Rattle.node_api.specs.Program.{own_of, Program, last_pulse_on}
 use Rattle.wires.specs.declared.wire.Wire.{Wire}
 use Rattle.alpha_core.specs.View.{Port, Node, all_safe, new_port, can_pulse, port_at, inbox_of}
 use Rattle.alpha_core.specs.Alpha.{advances, entry, enters, enter_all, entering, started}
-use Rattle.alpha_core.specs.Program.{sends}
+use Rattle.link_rule.specs.Sent.{sends}
 use Rattle.alpha_laws.proofs.Runs.{Runs}
 use Rattle.alpha_laws.proofs.NodeKept.{kept_out, inside, settles_kept, settles_speaks, settles_pulse}
 use Rattle.alpha_core.proofs.PortLists.{enter_all-length, enter_all-at}

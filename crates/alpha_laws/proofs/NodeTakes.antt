@@ -10,7 +10,7 @@ use Rattle.wires.specs.declared.wire.Wire.TheVariants.{Payload, Ack, Safe, Close
 use Rattle.alpha_core.specs.View.{Port, Node, new_port, port_at, set_port}
 use Rattle.alpha_core.specs.Table.{is_due}
 use Rattle.alpha_core.specs.Alpha.{takes, put_done, reacts}
-use Rattle.alpha_core.specs.Program.{sends}
+use Rattle.link_rule.specs.Sent.{sends}
 use Rattle.alpha_laws.proofs.NodeKept.{kept_out, inside, settles_kept, settles_speaks, settles_pulse, port_changes, none_waits-set}
 use Rattle.alpha_laws.proofs.TakesDue.{takes_kept}
 use Rattle.alpha_laws.specs.Position.{Allows}

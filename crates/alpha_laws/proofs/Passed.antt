@@ -5,7 +5,7 @@ use Rattle.std.proofs.lemmas.Bool.{cases_eq}
 use Rattle.std.specs.Prelude.{is_some}
 use Rattle.wires.specs.declared.wire.Wire.{Wire}
 use Rattle.wires.specs.declared.wire.Wire.TheVariants.{Payload, Ack, Safe, Close}
-use Rattle.alpha_core.specs.Wires.{payload_at}
+use Rattle.wires.specs.Wires.{payload_at}
 use Rattle.alpha_core.specs.View.{bit}
 use Rattle.alpha_laws.proofs.Cursor.{place, place-grows, place-step}
 use Rattle.alpha_laws.specs.Position.{Position, move, moves, Follows}

@@ -6,8 +6,8 @@ use Rattle.std.proofs.lemmas.Bool.{cases_lt, cases_Bool}
 use Rattle.std.proofs.lemmas.List.Elements.{Contains-append_left, Contains-append_right}
 use Rattle.wires.specs.declared.wire.Wire.{Wire}
 use Rattle.wires.specs.declared.wire.Wire.TheVariants.{Safe, Close}
-use Rattle.alpha_core.specs.Wires.{data_of, acks_of}
-use Rattle.alpha_core.specs.Streams.{sent_pulse, sent_pulses, payload_wire, rounds, Legal}
+use Rattle.wires.specs.Wires.{data_of, acks_of}
+use Rattle.wires.specs.Streams.{sent_pulse, sent_pulses, payload_wire, rounds, Legal}
 use Rattle.alpha_core.specs.View.{Port, bit}
 use Rattle.alpha_laws.specs.Fits.{PortFits}
 use Rattle.alpha_laws.proofs.Shown.{data_to}

@@ -11,9 +11,9 @@ use Rattle.interference.specs.Net.{Net, IsNetwork, IsVertex, degree_of, neighbou
 use Rattle.node_api.specs.Program.{Program, last_pulse_on}
 use Rattle.wires.specs.declared.wire.Wire.{Wire}
 use Rattle.wires.specs.declared.wire.Wire.TheVariants.{Close}
-use Rattle.alpha_core.specs.Wires.{acks_of, payloads_of, safes_of}
+use Rattle.wires.specs.Wires.{acks_of, payloads_of, safes_of}
 use Rattle.alpha_core.specs.View.{Node, bit, port_at, can_pulse, is_drained}
-use Rattle.alpha_core.specs.Program.{sends}
+use Rattle.link_rule.specs.Sent.{sends}
 use Rattle.alpha_laws.specs.Fits.{PortFits}
 use Rattle.alpha_laws.specs.Simulates.{Simulates, taken_over}
 use Rattle.alpha_laws.proofs.Across.{over}

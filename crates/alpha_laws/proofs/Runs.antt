@@ -7,7 +7,7 @@ use Rattle.node_api.specs.Program.{Program, last_pulse_on}
 use Rattle.node_api.specs.Run.{node_at, state_at, outbox_at, inbox_at, after}
 use Rattle.node_api.specs.Laws.{IsProgram}
 use Rattle.node_api.proofs.Runs.{node_at-more}
-use Rattle.alpha_core.specs.Program.{sends}
+use Rattle.link_rule.specs.Sent.{sends}
 
 -- A program's run: its outboxes are what goes to the neighbours by port, nothing is sent at the last
 -- pulse, and nothing is refused before.

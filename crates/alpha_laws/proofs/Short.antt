@@ -3,9 +3,9 @@ use Rattle.std.proofs.Common.{ℕ, zero, suc, ◌+◌, ◌*◌, ◌≤◌, List,
 use Rattle.std.proofs.lemmas.List.{length-append}
 use Rattle.wires.specs.declared.wire.Wire.{Wire}
 use Rattle.wires.specs.declared.wire.Wire.TheVariants.{Close}
-use Rattle.alpha_core.specs.Wires.{data_of, acks_of}
-use Rattle.alpha_core.specs.Streams.{rounds, stream, sent_pulse, sent_pulses, Legal}
-use Rattle.alpha_core.proofs.Wires.{begins_rest}
+use Rattle.wires.specs.Wires.{data_of, acks_of}
+use Rattle.wires.specs.Streams.{rounds, stream, sent_pulse, sent_pulses, Legal}
+use Rattle.wires.proofs.Wires.{begins_rest}
 use Rattle.alpha_laws.proofs.Complete.{data_and_acks, length-rounds}
 
 module _ {M : Type 0} where

@@ -5,10 +5,10 @@ use Rattle.std.specs.Prelude.{is_some, if◌then◌else◌}
 use Rattle.std.proofs.lemmas.Bool.{cases_eq}
 use Rattle.wires.specs.declared.wire.Wire.{Wire}
 use Rattle.wires.specs.declared.wire.Wire.TheVariants.{Payload, Ack, Safe, Close}
-use Rattle.alpha_core.specs.Wires.{data_of}
-use Rattle.alpha_core.specs.Streams.{sent_pulse, sent_pulses, payload_wire, rounds}
-use Rattle.alpha_core.proofs.Wires.{data-append}
-use Rattle.alpha_core.specs.Program.{sends}
+use Rattle.wires.specs.Wires.{data_of}
+use Rattle.wires.specs.Streams.{sent_pulse, sent_pulses, payload_wire, rounds}
+use Rattle.wires.proofs.Wires.{data-append}
+use Rattle.link_rule.specs.Sent.{sends}
 use Rattle.alpha_laws.specs.Position.{Position, start_at, move, moves, Allows, Follows}
 
 -- a list is the beginning of another, with the rest of it at hand

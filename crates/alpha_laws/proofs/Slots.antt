@@ -4,7 +4,7 @@ use Rattle.std.specs.Prelude.{is_some}
 use Rattle.std.proofs.lemmas.Bool.{cases_eq, false_from_ne_true}
 use Rattle.wires.specs.declared.wire.Wire.{Wire}
 use Rattle.wires.specs.declared.wire.Wire.TheVariants.{Payload, Ack, Safe, Close}
-use Rattle.alpha_core.specs.Wires.{payload_at}
+use Rattle.wires.specs.Wires.{payload_at}
 use Rattle.alpha_core.specs.View.{Port, bit, safes_at}
 use Rattle.alpha_laws.proofs.Cursor.{moves-append, follows-more}
 use Rattle.alpha_laws.proofs.Passed.{at-early}

@@ -3,9 +3,9 @@ use Rattle.std.proofs.Common.{◌≡◌, ℕ, suc, Bool, true, false, List, [], 
 use Rattle.std.specs.Prelude.{is_some}
 use Rattle.wires.specs.declared.wire.Wire.{Wire}
 use Rattle.wires.specs.declared.wire.Wire.TheVariants.{Ack, Safe, Close}
-use Rattle.alpha_core.specs.Streams.{sent_pulse, sent_pulses}
+use Rattle.wires.specs.Streams.{sent_pulse, sent_pulses}
 use Rattle.alpha_core.specs.View.{Port}
-use Rattle.alpha_core.proofs.Wires.{acks-append, payloads-append}
+use Rattle.wires.proofs.Wires.{acks-append, payloads-append}
 use Rattle.alpha_laws.proofs.Kept.{same_at}
 use Rattle.alpha_laws.proofs.Slots.{slot_kept, no_early_safe, no_early, more_taken, more_at}
 use Rattle.alpha_laws.specs.Position.{Allows}

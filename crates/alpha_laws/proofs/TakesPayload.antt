@@ -4,7 +4,7 @@ use Rattle.wires.specs.declared.wire.Wire.{Wire}
 use Rattle.wires.specs.declared.wire.Wire.TheVariants.{Payload, Ack}
 use Rattle.alpha_core.specs.View.{Port}
 use Rattle.alpha_core.specs.Alpha.{emit}
-use Rattle.alpha_core.proofs.Wires.{acks-append, payloads-append}
+use Rattle.wires.proofs.Wires.{acks-append, payloads-append}
 use Rattle.alpha_laws.proofs.Cursor.{moves-append, follows-more}
 use Rattle.alpha_laws.proofs.Kept.{same_at}
 use Rattle.alpha_laws.proofs.Slots.{slot_kept, slot_filled, other_slot, unpaid, more_taken, more_at}

@@ -6,10 +6,10 @@ use Rattle.std.proofs.lemmas.Bool.{eq-eqb, ne_eqb}
 use Rattle.std.proofs.lemmas.List.Elements.{Contains-append_left, Contains-append_right}
 use Rattle.wires.specs.declared.wire.Wire.{Wire}
 use Rattle.wires.specs.declared.wire.Wire.TheVariants.{Payload, Ack, Safe, Close}
-use Rattle.alpha_core.specs.Wires.{data_of, payloads_of, payload_at, safes_of}
-use Rattle.alpha_core.specs.Streams.{payload_wire, rounds, stream}
+use Rattle.wires.specs.Wires.{data_of, payloads_of, payload_at, safes_of}
+use Rattle.wires.specs.Streams.{payload_wire, rounds, stream}
 use Rattle.alpha_core.specs.View.{bit}
-use Rattle.alpha_core.proofs.Wires.{payloads-append}
+use Rattle.wires.proofs.Wires.{payloads-append}
 use Rattle.alpha_laws.specs.Fits.{stream_up_to}
 use Rattle.alpha_laws.proofs.Listed.{contains_cons, contains_more}
 

@@ -11,9 +11,9 @@ use Rattle.interference.proofs.Neighbours.{at-back_port}
 use Rattle.node_api.specs.Program.{Program, last_pulse_on}
 use Rattle.node_api.specs.Run.{state_at, last_state}
 use Rattle.wires.specs.declared.wire.Wire.{Wire}
-use Rattle.alpha_core.specs.Wires.{safes_of}
+use Rattle.wires.specs.Wires.{safes_of}
 use Rattle.alpha_core.specs.View.{Node, Port, bit, new_port, port_at}
-use Rattle.alpha_core.specs.Program.{sends}
+use Rattle.link_rule.specs.Sent.{sends}
 use Rattle.alpha_laws.specs.Simulates.{Simulates, IsCompleteOn, taken_over}
 use Rattle.alpha_laws.specs.Progress.{HasEnded, IsWhole, Splits, end_node, end_port}
 use Rattle.alpha_laws.proofs.EachPort.{closed_at, out_at}

@@ -4,9 +4,9 @@ use Rattle.interference.specs.Net.{Net, IsVertex, count_of, vertices, degree_of,
 use Rattle.interference.specs.Counts.{sum_over_ports, edge_count_of}
 use Rattle.node_api.specs.Program.{Program, last_pulse_on}
 use Rattle.wires.specs.declared.wire.Wire.{Wire}
-use Rattle.alpha_core.specs.Wires.{payloads_of}
-use Rattle.alpha_core.specs.Streams.{sent_pulses}
-use Rattle.alpha_core.specs.Program.{sends, IsLegal}
+use Rattle.wires.specs.Wires.{payloads_of}
+use Rattle.wires.specs.Streams.{sent_pulses}
+use Rattle.link_rule.specs.Sent.{sends, IsLegal}
 use Rattle.alpha_core.specs.View.{Node}
 use Rattle.alpha_laws.specs.Simulates.{IsCompleteOn, taken_over}
 

@@ -6,10 +6,10 @@ use Rattle.node_api.specs.Program.{Program, last_pulse_on}
 use Rattle.node_api.specs.Run.{state_at}
 use Rattle.wires.specs.declared.wire.Wire.{Wire}
 use Rattle.wires.specs.declared.wire.Wire.TheVariants.{Safe, Close}
-use Rattle.alpha_core.specs.Wires.{data_of, acks_of, payloads_of, payload_at, safes_of}
-use Rattle.alpha_core.specs.Streams.{payload_wire, rounds, Legal}
+use Rattle.wires.specs.Wires.{data_of, acks_of, payloads_of, payload_at, safes_of}
+use Rattle.wires.specs.Streams.{payload_wire, rounds, Legal}
 use Rattle.alpha_core.specs.View.{Port, Node, safes_at, none_waits, port_at}
-use Rattle.alpha_core.specs.Program.{sends}
+use Rattle.link_rule.specs.Sent.{sends}
 
 -- what stands of the stream of one direction while its sender is at pulse p: all of the pulses before, the payload of p
 -- if there is one, then the safe of p exactly if it was said, then Close exactly if p is the last pulse

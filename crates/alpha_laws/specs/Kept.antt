@@ -7,10 +7,10 @@ use Rattle.interference.specs.Net.{Net, IsVertex, degree_of, neighbour_of}
 use Rattle.node_api.specs.Program.{Program, last_pulse_on}
 use Rattle.node_api.specs.Run.{state_at}
 use Rattle.wires.specs.declared.wire.Wire.{Wire}
-use Rattle.alpha_core.specs.Wires.{acks_of, payloads_of, payload_at}
-use Rattle.alpha_core.specs.Streams.{sent_pulse, sent_pulses}
+use Rattle.wires.specs.Wires.{acks_of, payloads_of, payload_at}
+use Rattle.wires.specs.Streams.{sent_pulse, sent_pulses}
 use Rattle.alpha_core.specs.View.{Port, View, Node, bit, safes_at, none_waits, port_at}
-use Rattle.alpha_core.specs.Program.{sends}
+use Rattle.link_rule.specs.Sent.{sends}
 use Rattle.alpha_laws.specs.Position.{Position, start_at, moves, Follows}
 use Rattle.alpha_laws.specs.Simulates.{taken_over}
 

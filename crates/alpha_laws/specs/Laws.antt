@@ -6,7 +6,8 @@ use Rattle.node_api.specs.Laws.{IsProgram}
 use Rattle.wires.specs.declared.wire.Wire.{Wire}
 use Rattle.alpha_core.specs.View.{View, Node, port_at, can_pulse}
 use Rattle.alpha_core.specs.Alpha.{reaction, pulse, put_done}
-use Rattle.alpha_core.specs.Program.{start_node, IsLegal}
+use Rattle.alpha_core.specs.Program.{start_node}
+use Rattle.link_rule.specs.Sent.{IsLegal}
 use Rattle.alpha_laws.specs.Kept.{NodeKept, AllKept}
 use Rattle.alpha_laws.specs.Simulates.{Simulates}
 

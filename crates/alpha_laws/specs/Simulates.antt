@@ -7,11 +7,11 @@ use Rattle.node_api.specs.Program.{Program, last_pulse_on}
 use Rattle.node_api.specs.Run.{inbox_at}
 use Rattle.wires.specs.declared.wire.Wire.{Wire}
 use Rattle.wires.specs.declared.wire.Wire.TheVariants.{Safe, Close}
-use Rattle.alpha_core.specs.Wires.{data_of, acks_of, payload_at}
-use Rattle.alpha_core.specs.Streams.{Begins, sent_pulses, stream}
+use Rattle.wires.specs.Wires.{data_of, acks_of, payload_at}
+use Rattle.wires.specs.Streams.{Begins, sent_pulses, stream}
 use Rattle.alpha_core.specs.View.{Node, port_at, inbox_of, can_take, can_pulse}
 use Rattle.alpha_core.specs.Alpha.{reaction, pulse}
-use Rattle.alpha_core.specs.Program.{sends}
+use Rattle.link_rule.specs.Sent.{sends}
 use Rattle.alpha_laws.specs.Fits.{NodeFits}
 
 -- what was taken from the link out of v by port i, at its other end

@@ -1,11 +1,16 @@
 //! What holds of nodes under synchroniser alpha. Each law is a function that does nothing: its contract
 //! is the law.
 
+ghost use Rattle.std.specs.Prelude.{◌≡◌, ◌++◌, [], ℕ, List, Option, Contains};
 ghost use Rattle.interference.specs.Net.{IsNetwork, Net};
 ghost use Rattle.node_api.specs.Program.{Program};
+ghost use Rattle.wires.specs.Streams.{Legal};
+ghost use Rattle.wires.specs.declared.wire.Wire.{Wire};
+ghost use Rattle.link_rule.specs.Order.{IsInOrder};
 ghost use Rattle.alpha_laws.specs.Counts.{CompleteListsAreCounted, LegalListsAreShort};
 ghost use Rattle.alpha_laws.specs.Laws.{KeptSimulate, OnEveryNetwork, PulsesKeep, PutsKeep, StartsKeep, TakesKeep};
 ghost use Rattle.alpha_laws.specs.Progress.{EventsAreBounded, SomeNodeCanMove, WholeNetworksHaveEnded};
+ghost use Rattle.alpha_laws.specs.Simulates.{IsComplete};
 
 /// Each event of a node by itself leaves what it keeps of its links.
 pub fn each_event_keeps_the_links<S, M, E>()
@@ -48,4 +53,22 @@ pub fn events_are_bounded<S, M, E>()
 /// left at its ports: it is the same node whatever the order of the events was. And the list of each link is complete.
 pub fn whole_networks_have_ended<S, M, E>()
     ensures law { (program : Program S M E) → OnEveryNetwork program (WholeNetworksHaveEnded program) }
+{}
+
+/// Every legal list is in order.
+pub fn legal_lists_are_in_order<M>()
+    ensures { (last : ℕ) (sends answers : ℕ → Option M) (wires : List (Wire M))
+        → Legal last sends answers wires → IsInOrder last wires }
+{}
+
+/// A legal list with a close is complete: it has the whole stream and every acknowledgement that is due.
+pub fn close_completes<M>()
+    ensures { (last : ℕ) (sends answers : ℕ → Option M) (wires : List (Wire M))
+        → Legal last sends answers wires → Contains wires Wire.Close → IsComplete last sends answers wires }
+{}
+
+/// Nothing follows a close: a legal list that goes on after one goes on by nothing.
+pub fn nothing_follows_close<M>()
+    ensures { (last : ℕ) (sends answers : ℕ → Option M) (wires rest : List (Wire M))
+        → Legal last sends answers (wires ++ rest) → Contains wires Wire.Close → rest ≡ [] }
 {}

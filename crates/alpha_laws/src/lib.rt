@@ -6,7 +6,7 @@
 //! `specs/Fits.antt` says when one node fits the lists of its links. `PortKept` of `specs/Kept.antt` is what
 //! each node keeps by itself. `event_machine` and `progress_laws` cite the laws for lists of events, `gather_laws` for
 //! outcomes of worker threads. `specs/Counts.antt` counts wires and events; `specs/Progress.antt` says what such nodes
-//! can still do, and where they end.
+//! can still do, and where they end. The last three laws are of legal lists alone.
 //!
 //! ```text
 //! alpha_laws::laws::kept_links_simulate::<S, M, E>(); // brings the law into a proof

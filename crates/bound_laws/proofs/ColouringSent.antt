@@ -24,7 +24,7 @@ use Rattle.colour_laws.proofs.Runs.{merge_goes, work_stands}
 use Rattle.colour_laws.proofs.Stands.{HoldsAfter, stand_next}
 use Rattle.colour_laws.proofs.Starts.{oriented_node, oriented_stand, seeded, tells_one}
 use Rattle.colour_laws.specs.Colours.{colours_after}
-use Rattle.alpha_core.specs.Program.{sends}
+use Rattle.link_rule.specs.Sent.{sends}
 use Rattle.bound_laws.proofs.Sent.{at-most, no-less, none-more, once, over, quiet, sent_below}
 
 module _ (net : Net) (ok : IsNetwork net) where

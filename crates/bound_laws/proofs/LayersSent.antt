@@ -9,7 +9,7 @@ use Rattle.node_api.specs.Run.{after, inbox_from, node_at, sent_at}
 use Rattle.node_api.specs.declared.program.Refused.{Refused}
 use Rattle.node_api.proofs.Runs.{node_at-more, node_at-none}
 use Rattle.node_api.proofs.Slots.{at_port-nothing}
-use Rattle.alpha_core.specs.Streams.{sent_pulse}
+use Rattle.wires.specs.Streams.{sent_pulse}
 use Rattle.layers.specs.declared.hops.Hops.{Hops}
 use Rattle.layers.specs.declared.layer.Layer.{Layer}
 use Rattle.layers.specs.declared.layer.Layer.TheVariants.{Away, Root, Unreached}

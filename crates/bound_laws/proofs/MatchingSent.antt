@@ -10,7 +10,7 @@ use Rattle.interference.specs.Net.{IsEdge, IsNetwork, IsVertex, Net, forest_coun
 use Rattle.interference.proofs.Neighbours.{at-port_to, port_to-below}
 use Rattle.node_api.specs.Boxes.{at_port}
 use Rattle.node_api.specs.Program.{last_pulse_on}
-use Rattle.alpha_core.specs.Program.{sends}
+use Rattle.link_rule.specs.Sent.{sends}
 use Rattle.forests.specs.Forests.{number, role_of}
 use Rattle.forests.specs.declared.numbering.Role.TheVariants.{Up}
 use Rattle.forests.proofs.Ends.{up-role}

@@ -10,7 +10,7 @@ use Rattle.node_api.specs.Boxes.{at_port}
 use Rattle.node_api.specs.Program.{last_pulse_on, sizes_of}
 use Rattle.node_api.specs.Run.{inbox_from}
 use Rattle.node_api.proofs.Slots.{at_port-nothing}
-use Rattle.alpha_core.specs.Program.{sends}
+use Rattle.link_rule.specs.Sent.{sends}
 use Rattle.colour_rules.specs.Node.{Node, ports}
 use Rattle.followed.specs.Followed.{Both}
 use Rattle.recolouring.specs.Knowing.{Recoloured, Wire, colour_after, entering, has_bars, is_turn, place, ready, recolouring, recolours, sweeps}

@@ -10,8 +10,8 @@ use Rattle.interference.proofs.PortSums.{ports-add, ports-const}
 use Rattle.interference.proofs.TwoEnds.{degrees-are_twice_edges, ports-swapped}
 use Rattle.std.proofs.lemmas.List.Elements.{Contains-get_or}
 use Rattle.node_api.specs.Program.{Program, last_pulse_on}
-use Rattle.alpha_core.specs.Program.{sends}
-use Rattle.alpha_core.specs.Streams.{sent_pulse, sent_pulses}
+use Rattle.link_rule.specs.Sent.{sends}
+use Rattle.wires.specs.Streams.{sent_pulse, sent_pulses}
 use Rattle.alpha_laws.proofs.Sums.{ports-below}
 use Rattle.alpha_laws.specs.Counts.{payloads_sent}
 

@@ -5,8 +5,8 @@ use Rattle.interference.specs.Net.{IsEdge, IsNetwork, Net, forest_count_of}
 use Rattle.node_api.specs.Program.{sizes_of}
 use Rattle.forests.specs.Forests.{number}
 use Rattle.interference.proofs.Neighbours.{both-ways, neighbour-is_vertex}
-use Rattle.alpha_core.specs.Program.{sends}
-use Rattle.alpha_core.specs.Streams.{sent_pulse}
+use Rattle.link_rule.specs.Sent.{sends}
+use Rattle.wires.specs.Streams.{sent_pulse}
 use Rattle.colour_rules.specs.declared.payload.Payload.{Payload}
 use Rattle.colour_rules.specs.Node.{Node, steps}
 use Rattle.colour_rules.specs.Program.{colouring}

@@ -12,7 +12,7 @@ use Rattle.node_api.specs.Boxes.{at_port}
 use Rattle.node_api.specs.Program.{last_pulse_on}
 use Rattle.node_api.specs.Run.{inbox_from, last_state}
 use Rattle.node_api.proofs.Slots.{at_port-nothing}
-use Rattle.alpha_core.specs.Program.{sends}
+use Rattle.link_rule.specs.Sent.{sends}
 use Rattle.colour_rules.specs.Node.{Node, ports}
 use Rattle.followed.specs.Followed.{Both}
 use Rattle.independent_set.specs.Knowing.{Member, Wire, came, classes, independent_set, joins, told}

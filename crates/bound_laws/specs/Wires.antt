@@ -3,8 +3,8 @@ use Rattle.std.specs.Prelude.{◌≡◌, ℕ, ◌+◌, ◌*◌, ◌≤◌, Bool,
 use Rattle.interference.specs.Counts.{edge_count_of}
 use Rattle.interference.specs.Net.{IsEdge, Net}
 use Rattle.node_api.specs.Program.{Program, last_pulse_on}
-use Rattle.alpha_core.specs.Program.{sends}
-use Rattle.alpha_core.specs.Streams.{sent_pulses}
+use Rattle.link_rule.specs.Sent.{sends}
+use Rattle.wires.specs.Streams.{sent_pulses}
 use Rattle.gather_laws.specs.Counts.{wires_put}
 use Rattle.gather_laws.specs.Outcome.{IsOutcome, Outcome, is_whole}
 

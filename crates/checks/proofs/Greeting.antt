@@ -3,7 +3,7 @@ use Rattle.std.proofs.Common.{◌≡◌, [], ◌∷◌, Some, refl, arith}
 use Rattle.node_api.specs.Program.{last_pulse_on}
 use Rattle.node_api.specs.Run.{node_at}
 use Rattle.wires.specs.declared.wire.Wire.TheVariants.{Payload, Safe}
-use Rattle.alpha_core.specs.Program.{sends}
+use Rattle.link_rule.specs.Sent.{sends}
 use Rattle.link_rule.specs.Legal.{IsLegalOn, name_of}
 use Rattle.colour_rules.specs.Program.{colouring}
 use Rattle.colour_rules.specs.declared.payload.Payload.TheVariants.{Hello}

@@ -7,9 +7,9 @@ use Rattle.node_api.specs.Program.{Program}
 use Rattle.node_api.specs.Run.{node_at}
 use Rattle.wires.specs.declared.wire.Wire.{Wire}
 use Rattle.wires.specs.declared.wire.Wire.TheVariants.{Payload, Safe, Close}
-use Rattle.alpha_core.specs.Streams.{rounds, stream, Legal}
-use Rattle.alpha_core.specs.Program.{sends}
-use Rattle.alpha_core.proofs.Wires.{begins_from, legal-front}
+use Rattle.wires.specs.Streams.{rounds, stream, Legal}
+use Rattle.link_rule.specs.Sent.{sends}
+use Rattle.wires.proofs.Wires.{begins_from, legal-front}
 use Rattle.alpha_laws.proofs.Shown.{rounds_begin}
 use Rattle.link_rule.specs.declared.name.LinkName.{LinkName}
 use Rattle.link_rule.specs.Legal.{IsLegalOn, LegalFor, name_of}

@@ -8,7 +8,7 @@ use Rattle.interference.specs.Net.{Net, IsNetwork, count_of}
 use Rattle.interference.specs.Counts.{sum_over_ports}
 use Rattle.node_api.specs.Program.{Program}
 use Rattle.wires.specs.StampedWires.{wires_of}
-use Rattle.alpha_core.specs.Wires.{payloads_of}
+use Rattle.wires.specs.Wires.{payloads_of}
 use Rattle.alpha_laws.proofs.Counts.{lists_counted}
 use Rattle.alpha_laws.proofs.Sums.{by_ports}
 use Rattle.gather_laws.specs.Outcome.{History, Outcome, IsOutcome, is_whole, link_in, no_history, put_by}

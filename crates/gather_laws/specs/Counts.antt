@@ -4,7 +4,7 @@ use Rattle.interference.specs.Net.{Net}
 use Rattle.interference.specs.Counts.{edge_count_of}
 use Rattle.node_api.specs.Program.{Program, last_pulse_on}
 use Rattle.wires.specs.StampedWires.{wires_of}
-use Rattle.alpha_core.specs.Wires.{payloads_of}
+use Rattle.wires.specs.Wires.{payloads_of}
 use Rattle.alpha_laws.specs.Counts.{payloads_sent}
 use Rattle.gather_laws.specs.Outcome.{Outcome, IsOutcome, is_whole}
 

@@ -3,7 +3,7 @@ use Rattle.std.specs.Prelude.{◌≡◌, ℕ, ◌<◌, ◌≤◌, List, ◌++◌
 use Rattle.interference.specs.Net.{Net, IsVertex, degree_of, neighbour_of, back_port_of}
 use Rattle.node_api.specs.Program.{Program}
 use Rattle.alpha_core.specs.View.{Node}
-use Rattle.alpha_core.specs.Streams.{Begins}
+use Rattle.wires.specs.Streams.{Begins}
 use Rattle.wires.specs.StampedWires.{wires_of}
 use Rattle.wires.specs.declared.stamped.Stamped.{Stamped}
 use Rattle.wires.specs.declared.wire.Wire.{Wire}

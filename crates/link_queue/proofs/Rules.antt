@@ -15,7 +15,7 @@ use Rattle.wires.specs.declared.wire.Wire.TheVariants.{Payload, Ack, Safe, Close
 use Rattle.link_rule.specs.declared.name.LinkName.{LinkName}
 use Rattle.link_queue.specs.declared.view.EndView.{EndView}
 use Rattle.node_api.specs.Program.{Program}
-use Rattle.alpha_core.proofs.Wires.{legal-front}
+use Rattle.wires.proofs.Wires.{legal-front}
 use Rattle.link_rule.proofs.Orders.{contains_nil, contains_one}
 use Rattle.link_rule.specs.Legal.{IsLegalOn, LegalFor}
 use Rattle.wires.specs.StampedWires.{StampsRise, last_stamp, wires_of}

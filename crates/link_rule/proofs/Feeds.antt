@@ -6,8 +6,8 @@ use Rattle.std.proofs.lemmas.List.Elements.{Contains-append_left, Contains-push}
 use Rattle.std.proofs.lemmas.Bool.{eqb-true, eq-eqb, ltb-true, leb-true, le-leb, and_parts, and_from}
 use Rattle.wires.specs.declared.wire.Wire.{Wire}
 use Rattle.wires.specs.declared.wire.Wire.TheVariants.{Payload, Ack, Safe, Close}
-use Rattle.alpha_core.specs.Wires.{acks_of, payloads_of, safes_of}
-use Rattle.alpha_core.proofs.Wires.{acks-append, payloads-append}
+use Rattle.wires.specs.Wires.{acks_of, payloads_of, safes_of}
+use Rattle.wires.proofs.Wires.{acks-append, payloads-append}
 use Rattle.link_rule.specs.Order.{MayFollow, IsInOrder}
 use Rattle.link_rule.specs.Progress.{Progress, HasCome, WasFed, at_start, may_come, goes_on, advanced, after_wire}
 use Rattle.std.proofs.lemmas.List.{map-append}

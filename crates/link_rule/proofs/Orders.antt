@@ -4,7 +4,7 @@ use Rattle.std.specs.Prelude.{Contains}
 use Rattle.std.proofs.lemmas.List.Elements.{Contains-append_cases}
 use Rattle.wires.specs.declared.wire.Wire.{Wire}
 use Rattle.wires.specs.declared.wire.Wire.TheVariants.{Payload, Ack, Safe, Close}
-use Rattle.alpha_core.specs.Wires.{safes_of}
+use Rattle.wires.specs.Wires.{safes_of}
 use Rattle.link_rule.specs.Order.{MayFollow, IsInOrder}
 
 module _ {A : Type 0} where

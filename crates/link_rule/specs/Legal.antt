@@ -2,7 +2,7 @@
 use Rattle.std.specs.Prelude.{◌≡◌, ℕ, List, Option, Some}
 use Rattle.interference.specs.Net.{Net, neighbour_of}
 use Rattle.wires.specs.declared.wire.Wire.{Wire}
-use Rattle.alpha_core.specs.Program.{IsLegal}
+use Rattle.link_rule.specs.Sent.{IsLegal}
 use Rattle.node_api.specs.Program.{Program}
 use Rattle.link_rule.specs.declared.name.LinkName.{LinkName}
 

@@ -1,3 +1,4 @@
+pub mod Sent
 pub mod Order
 pub mod Legal
 pub mod Progress

@@ -2,7 +2,7 @@
 use Rattle.std.specs.Prelude.{◌≡◌, ℕ, ◌<◌, List, ◌∷◌, ◌++◌, Contains}
 use Rattle.wires.specs.declared.wire.Wire.{Wire}
 use Rattle.wires.specs.declared.wire.Wire.TheVariants.{Payload, Ack, Safe, Close}
-use Rattle.alpha_core.specs.Wires.{acks_of, payloads_of, safes_of}
+use Rattle.wires.specs.Wires.{acks_of, payloads_of, safes_of}
 
 -- What a wire may be that comes after these. The pulse of a safe, and of a payload, is the number of
 -- safes before it, and there is one payload of a pulse at most; the pulses of acknowledgements rise; all

@@ -5,7 +5,7 @@ use Rattle.wires.specs.StampedWires.{StampsRise, last_stamp, wires_of}
 use Rattle.wires.specs.declared.stamped.Stamped.{Stamped}
 use Rattle.wires.specs.declared.wire.Wire.{Wire}
 use Rattle.wires.specs.declared.wire.Wire.TheVariants.{Payload, Ack, Safe, Close}
-use Rattle.alpha_core.specs.Wires.{acks_of, payloads_of, safes_of}
+use Rattle.wires.specs.Wires.{acks_of, payloads_of, safes_of}
 use Rattle.link_rule.specs.Order.{IsInOrder}
 
 -- The last pulse; how many safes came; whether a payload came after the last of them; one more than the pulse of

@@ -10,8 +10,8 @@ use Rattle.interference.specs.declared.limits.TheConstants.{MAX_DEGREE}
 use Rattle.interference.specs.Net.{Net, IsNetwork, count_of, degree_of, neighbour_of, neighbours, vertices}
 use Rattle.interference.specs.Counts.{edge_count_of, sum_over_ports}
 use Rattle.interference.proofs.Neighbours.{degree-within, greatest_degree-within}
-use Rattle.alpha_core.specs.Program.{sends}
-use Rattle.alpha_core.specs.Streams.{sent_pulse, sent_pulses}
+use Rattle.link_rule.specs.Sent.{sends}
+use Rattle.wires.specs.Streams.{sent_pulse, sent_pulses}
 use Rattle.node_api.specs.Program.{Program, last_pulse_on}
 use Rattle.alpha_laws.specs.Counts.{events_of_run, payloads_sent}
 

@@ -1,1 +1,2 @@
 pub mod StampedWires
+pub mod Wires

@@ -1,1 +1,3 @@
 pub mod StampedWires
+pub mod Wires
+pub mod Streams

@@ -1,4 +1,5 @@
-//! What a link carries: a wire, and a wire with its stamp.
+//! What a link carries: a wire, and a wire with its stamp. What is read off a list of wires is in `specs/Wires.antt`,
+//! and which lists are legal in `specs/Streams.antt`.
 //!
 //! `alpha_core` says how a node reacts to a wire, `entries` what it writes down of it, `stamps` how stamps rise, and
 //! `link_queue` takes and puts stamped wires.

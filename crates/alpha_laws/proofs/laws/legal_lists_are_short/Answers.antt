@@ -1,5 +1,5 @@
 use Rattle.node_api.specs.Program.{last_pulse_on}
-use Rattle.alpha_core.specs.Program.{sends}
+use Rattle.link_rule.specs.Sent.{sends}
 use Rattle.alpha_laws.proofs.Short.{short}
 use Rattle.alpha_laws.proofs.laws.legal_lists_are_short.Goals as goal
 

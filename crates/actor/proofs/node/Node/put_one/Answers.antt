@@ -9,7 +9,7 @@ use Rattle.actor.proofs.Keeping.{count_puts, count_takes, kept-none-put, kept-pu
 use Rattle.actor.proofs.Lists.{same_all, get_map, at_place, below_as_many}
 use Rattle.actor.proofs.Kept.{may_put, legal_by_name}
 use Rattle.interference.specs.Net.{degree_of, neighbour_of}
-use Rattle.alpha_core.specs.Program.{IsLegal}
+use Rattle.link_rule.specs.Sent.{IsLegal}
 use Rattle.actor.specs.HasStamps.{aside_stamp}
 use Rattle.actor.proofs.Refusals.{first_there, next_above, past_greater, full_counter}
 use Rattle.actor.proofs.Stepping.{stepped-did, stepped-full, stepped-memory, stepped-not}

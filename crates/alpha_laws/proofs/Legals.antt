@@ -5,9 +5,9 @@ use Rattle.std.specs.Prelude.{Contains, is_some, ◌↔◌}
 use Rattle.alpha_laws.proofs.Claims.{has_split}
 use Rattle.wires.specs.declared.wire.Wire.{Wire}
 use Rattle.wires.specs.declared.wire.Wire.TheVariants.{Payload, Ack, Safe, Close}
-use Rattle.alpha_core.specs.Wires.{data_of, acks_of, payloads_of, safes_of}
-use Rattle.alpha_core.specs.Streams.{payload_wire, sent_pulse, rounds, stream, sent_pulses, Legal}
-use Rattle.alpha_core.proofs.Wires.{acks-append, begins_rest, data-append, legal-front}
+use Rattle.wires.specs.Wires.{data_of, acks_of, payloads_of, safes_of}
+use Rattle.wires.specs.Streams.{payload_wire, sent_pulse, rounds, stream, sent_pulses, Legal}
+use Rattle.wires.proofs.Wires.{acks-append, begins_rest, data-append, legal-front}
 use Rattle.alpha_laws.specs.Position.{Position, move, moves, start_at, Allows, Follows}
 use Rattle.alpha_laws.proofs.Complete.{data-payloads}
 use Rattle.alpha_laws.proofs.Cursor.{moves-append, follows-front, follows-rest, follows-more, payloads_to-grows}
