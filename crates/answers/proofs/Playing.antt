@@ -14,7 +14,7 @@ use Rattle.event_texts.specs.Reading.{Script, script_of}
 use Rattle.event_texts.specs.StateText.{state_text}
 use Rattle.event_texts.specs.declared.fault.EventFault.{EventFault}
 use Rattle.program_texts.specs.Texts.{ProgramTexts}
-use Rattle.wire_texts.specs.PayloadTexts.{PayloadTexts}
+use Rattle.program_texts.specs.PayloadTexts.{PayloadTexts}
 use Rattle.answers.specs.Answers.{IsFaultOfText, LinesReadAs, ReadsAs, network_with}
 use Rattle.answers.specs.EventAnswers.{AreInStep, IsEventsAnswer, IsFaultOfEventLines, IsFaultOfEvents, IsStateReached}
 use Rattle.answers.specs.declared.fault.PlanFault.{PlanFault}

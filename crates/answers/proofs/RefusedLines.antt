@@ -17,7 +17,7 @@ use Rattle.transcripts.specs.EntryLines.{row_of}
 use Rattle.transcripts.specs.Reading.{Transcript}
 use Rattle.transcripts.proofs.Either.{read-one-behind}
 use Rattle.transcripts.proofs.EntryNumbers.{entries-have-lines}
-use Rattle.wire_texts.specs.PayloadTexts.{PayloadTexts}
+use Rattle.program_texts.specs.PayloadTexts.{PayloadTexts}
 use Rattle.answers.specs.ReplayAnswers.{HasLineOf, IsFaultOfEntry, IsFaultOfTranscript, IsRefusal, IsRefusalOfEntry, StopsThere}
 use Rattle.answers.specs.ReplayAnswers.{fault_at, index_of, transcript_in, words_text}
 use Rattle.answers.specs.declared.replaying.ReplayFault.{ReplayFault}

@@ -12,7 +12,7 @@ use Rattle.event_texts.specs.StateText.{state_text}
 use Rattle.transcripts.specs.Behind.{AreNetworkLines, network_lines, transcript_word}
 use Rattle.transcripts.specs.Editions.{One, Two}
 use Rattle.program_texts.specs.Texts.{ProgramTexts}
-use Rattle.wire_texts.specs.PayloadTexts.{PayloadTexts}
+use Rattle.program_texts.specs.PayloadTexts.{PayloadTexts}
 use Rattle.answers.specs.Answers.{IsFaultOfText, LinesReadAs, ReadsAs, network_with}
 use Rattle.answers.specs.EventAnswers.{AreInStep}
 use Rattle.answers.specs.Settings.{OfSet}

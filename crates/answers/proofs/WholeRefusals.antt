@@ -21,7 +21,7 @@ use Rattle.entries.specs.Rows.{without_stamp}
 use Rattle.entries.specs.declared.rows.Row.{Row}
 use Rattle.entries.specs.declared.rows.StampedRow.{StampedRow}
 use Rattle.transcripts.proofs.Either.{stamped-have-lines}
-use Rattle.wire_texts.specs.PayloadTexts.{PayloadTexts}
+use Rattle.program_texts.specs.PayloadTexts.{PayloadTexts}
 use Rattle.answers.specs.ReplayAnswers.{HasLine, IsFaultOfStamped, IsFaultOfTranscript, IsRefusalOfEntry, IsRefusalOfStampedEntry}
 use Rattle.answers.specs.ReplayAnswers.{IsStampedLine, IsStampedRefusal, bare_rows}
 use Rattle.answers.specs.ReplayAnswers.{SaysWhyNot, StopsThere, fault_at, first_line_in, line_at, transcript_in}

@@ -15,7 +15,7 @@ use Rattle.event_texts.specs.Reading.{Script, script_of}
 use Rattle.event_texts.specs.StateText.{state_text}
 use Rattle.event_texts.specs.declared.fault.EventFault.{EventFault}
 use Rattle.program_texts.specs.Texts.{ProgramTexts}
-use Rattle.wire_texts.specs.PayloadTexts.{PayloadTexts}
+use Rattle.program_texts.specs.PayloadTexts.{PayloadTexts}
 use Rattle.answers.specs.Answers.{LinesReadAs}
 use Rattle.answers.specs.Settings.{LacksRoot, OfSet}
 use Rattle.answers.specs.declared.fault.PlanFault.{PlanFault}

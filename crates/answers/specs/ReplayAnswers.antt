@@ -29,7 +29,7 @@ use Rattle.entries.specs.declared.rows.StampedRow.{StampedRow}
 use Rattle.transcripts.specs.declared.fault.TextFault.{TextFault}
 use Rattle.transcripts.specs.declared.fault.TextFault.TheVariants as text
 use Rattle.program_texts.specs.Texts.{ProgramTexts}
-use Rattle.wire_texts.specs.PayloadTexts.{PayloadTexts}
+use Rattle.program_texts.specs.PayloadTexts.{PayloadTexts}
 use Rattle.answers.specs.Answers.{LinesReadAs}
 use Rattle.answers.specs.EventAnswers.{AreInStep}
 use Rattle.answers.specs.Settings.{LacksRoot, OfSet}

@@ -5,7 +5,7 @@ use Rattle.node_api.specs.Program.{Program}
 use Rattle.node_api.specs.Run.{last_state}
 use Rattle.program_texts.specs.Texts.{ProgramTexts}
 use Rattle.round_texts.specs.RoundsText.{rounds_text}
-use Rattle.wire_texts.specs.PayloadTexts.{PayloadTexts}
+use Rattle.program_texts.specs.PayloadTexts.{PayloadTexts}
 use Rattle.answers.specs.Answers.{ReadsAs}
 use Rattle.answers.specs.Settings.{OfSet}
 use Rattle.answers.specs.declared.setting.Setting.{Setting}

@@ -1,7 +1,7 @@
 //! The state that events lead to.
 
 ghost use Rattle.std.specs.Prelude.{IfOk, IfErr};
-ghost use Rattle.wire_texts.specs.PayloadTexts.{payload_texts};
+ghost use Rattle.program_texts.specs.PayloadTexts.{payload_texts};
 ghost use Rattle.answers.specs.EventAnswers.{IsEventsAnswer, IsFaultOfEvents};
 
 use crate::answer::network_of_text;

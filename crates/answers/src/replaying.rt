@@ -7,7 +7,7 @@ ghost use Rattle.net_core.specs.Replays.{IsReplay};
 ghost use Rattle.net_core.specs.Whole.{IsWholeReplay};
 ghost use Rattle.transcripts.specs.Behind.{transcript_lines};
 ghost use Rattle.transcripts.specs.Editions.{One, Two};
-ghost use Rattle.wire_texts.specs.PayloadTexts.{payload_texts};
+ghost use Rattle.program_texts.specs.PayloadTexts.{payload_texts};
 ghost use Rattle.answers.specs.ReplayAnswers.{IsFaultOfReplay, IsFaultOfTranscript, IsReplayAnswer, IsReplayed};
 ghost use Rattle.answers.specs.ReplayAnswers.{IsFaultOfEntry, IsFaultOfName, IsFaultOfStamped, IsOfProgram};
 ghost use Rattle.answers.specs.ReplayAnswers.{SaysWhyNot, StopsThere};

@@ -1,7 +1,7 @@
 //! The rounds of a network, pulse by pulse.
 
 ghost use Rattle.std.specs.Prelude.{IfOk, IfErr};
-ghost use Rattle.wire_texts.specs.PayloadTexts.{payload_texts};
+ghost use Rattle.program_texts.specs.PayloadTexts.{payload_texts};
 ghost use Rattle.answers.specs.Answers.{IsFaultOfText};
 ghost use Rattle.answers.specs.RoundAnswers.{IsRoundsAnswer};
 

@@ -14,7 +14,7 @@ use Rattle.entries.specs.declared.rows.StampedEntry.{StampedEntry}
 use Rattle.stamps.specs.Stamps.{Rises}
 use Rattle.entries.specs.declared.rows.StampedRow.{StampedRow}
 use Rattle.stamps.specs.Merged.{AreOrdered, IsMerge, Precedes, entries_at, list_of}
-use Rattle.wire_texts.specs.PayloadTexts.{PayloadTexts}
+use Rattle.program_texts.specs.PayloadTexts.{PayloadTexts}
 use Rattle.transcripts.specs.TranscriptText.{stamped_row_text, text_of}
 use Rattle.byte_functions.specs.Merge.{IsTaken, NoneLeft}
 use Rattle.stamps.proofs.Growing.{ordered_push}

@@ -1,5 +1,5 @@
 -- The texts of the payloads of the colouring.
-use Rattle.wire_texts.specs.PayloadTexts.{PayloadTexts}
+use Rattle.program_texts.specs.PayloadTexts.{PayloadTexts}
 use Rattle.colour_rules.specs.Words.{number_in, payload_from, word_in}
 use Rattle.colour_rules.specs.declared.payload.Payload.{Payload}
 

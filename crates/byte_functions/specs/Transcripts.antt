@@ -7,7 +7,7 @@ use Rattle.node_api.specs.Program.{Program}
 use Rattle.entries.specs.declared.rows.Row.{Row}
 use Rattle.program_texts.specs.Texts.{ProgramTexts}
 use Rattle.transcripts.specs.TranscriptText.{named_edition, stamped_row_text, text_of, transcript_of}
-use Rattle.wire_texts.specs.PayloadTexts.{PayloadTexts}
+use Rattle.program_texts.specs.PayloadTexts.{PayloadTexts}
 use Rattle.answers.specs.Answers.{ReadsAs}
 use Rattle.answers.specs.Settings.{OfSet}
 use Rattle.answers.specs.declared.setting.Setting.{Setting}

@@ -5,7 +5,7 @@ ghost use Rattle.colour_rules.specs.Program.{colouring};
 ghost use Rattle.run_options.specs.Ranges.{AreInRange};
 ghost use Rattle.outcomes.specs.Gathers.{gathered_of};
 ghost use Rattle.stamps.specs.Stamps.{Rises};
-ghost use Rattle.wire_texts.specs.PayloadTexts.{payload_texts};
+ghost use Rattle.program_texts.specs.PayloadTexts.{payload_texts};
 ghost use Rattle.byte_functions.specs.Payloads.{colouring_payloads};
 ghost use Rattle.byte_functions.specs.Transcripts.{IsProgramTranscript, IsTextIn, IsTranscriptAnswer, entries_text};
 ghost use Rattle.byte_functions.specs.Transcripts.{stamped_edition};

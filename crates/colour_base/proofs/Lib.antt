@@ -1,3 +1,4 @@
 pub mod LeastLemmas
 pub mod LeastKnown
 pub mod TestLemmas
+pub mod Words

@@ -1,7 +1,15 @@
 //! What the steps of the colouring share: the least number that passes a test, and proper
 //! colourings of a rooted forest. `cole_vishkin`, `shift_down` and `forest_merge` use it.
 //!
-//! It has definitions and two laws, and nothing to run.
+//! It has sets of numbers as bits in words of 64, too, as `forest_merge` keeps sets of colours, and `node_api` the
+//! marks of an inbox: whether a bit is set (`has_bit` of `specs/Words.antt`), and what setting one does
+//! (`proofs/Words.antt`).
+//!
+//! ```text
+//! words[place / 64] |= 1 << (place % 64);      // `has_bit-set`: adds `place`, and no other
+//! ```
+//!
+//! It has definitions, lemmas and two laws, and nothing to run.
 #![tactic(auto)]
 
 ghost use Rattle.colour_base.specs.Forest.{IsProper};

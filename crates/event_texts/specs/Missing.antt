@@ -13,8 +13,8 @@ use Rattle.event_machine.specs.Step.{has_port, is_vertex}
 use Rattle.event_texts.specs.declared.missing.Lack.{Lack}
 use Rattle.event_texts.specs.declared.missing.Lack.TheVariants.{Ack, Safe}
 use Rattle.number_rows.specs.Row.{numbered}
-use Rattle.wire_texts.specs.PayloadTexts.{PayloadTexts}
-use Rattle.wire_texts.specs.WireText.{wire_text}
+use Rattle.program_texts.specs.PayloadTexts.{PayloadTexts}
+use Rattle.program_texts.specs.WireText.{wire_text}
 
 -- a port at which a wire of the node's pulse is still to come: its payload's acknowledgement, or the neighbour's safe
 abbrev pub lacks : {M : Type 0} → Lack → Port M → Bool

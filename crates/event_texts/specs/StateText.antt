@@ -7,8 +7,8 @@ use Rattle.alpha_core.specs.View.{Node, is_halted}
 use Rattle.event_machine.specs.State.{Link, State, link_at, node_of}
 use Rattle.program_texts.specs.Texts.{ProgramTexts}
 use Rattle.number_rows.specs.Row.{numbered}
-use Rattle.wire_texts.specs.PayloadTexts.{PayloadTexts}
-use Rattle.wire_texts.specs.WireText.{wire_text}
+use Rattle.program_texts.specs.PayloadTexts.{PayloadTexts}
+use Rattle.program_texts.specs.WireText.{wire_text}
 
 -- at the last pulse, the result of the node
 abbrev pub result_text : {S M : Type 0} → ProgramTexts S → Net → ℕ → ℕ → Node S M → List ℕ

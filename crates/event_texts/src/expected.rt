@@ -2,14 +2,14 @@
 
 ghost use Rattle.std.specs.Prelude.{◌≡◌, ◌++◌, IfOk};
 ghost use Rattle.event_texts.specs.Missing.{expected_text, expected_wire};
-ghost use Rattle.wire_texts.specs.PayloadTexts.{payload_texts};
+ghost use Rattle.program_texts.specs.PayloadTexts.{payload_texts};
 
 use crate::missing::{has_port, is_vertex};
 use event_machine::{Event, NetState};
 use node_api::{NodeProgram, PayloadText};
 use number_rows::push_numbered;
+use program_texts::push_wire;
 use std::alloc::{AllocError, Global};
-use wire_texts::push_wire;
 use wires::Wire;
 
 // A wire, if there is one, as the one that was expected.

@@ -5,16 +5,15 @@ ghost use Rattle.interference.specs.Net.{IsVertex, degree_of, neighbour_of};
 ghost use Rattle.node_api.specs.Program.{last_pulse_on};
 ghost use Rattle.event_machine.specs.State.{link_at, node_of};
 ghost use Rattle.event_texts.specs.StateText.{link_text, links_text, node_text, state_text};
-ghost use Rattle.wire_texts.specs.PayloadTexts.{payload_texts};
-ghost use Rattle.wire_texts.specs.WireText.{wire_text};
+ghost use Rattle.program_texts.specs.PayloadTexts.{payload_texts};
+ghost use Rattle.program_texts.specs.WireText.{wire_text};
 
 use event_machine::NetState;
 use interference::Memory;
 use node_api::{NodeProgram, PayloadText};
 use number_rows::push_numbered;
-use program_texts::ProgramText;
+use program_texts::{ProgramText, push_wire};
 use std::alloc::{AllocError, Global};
-use wire_texts::push_wire;
 use wires::Wire;
 
 // Appends the line of a vertex's node.

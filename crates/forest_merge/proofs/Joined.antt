@@ -6,7 +6,7 @@ use native.Mathlib.Decide.{dec_lt}
 use Prim.{yes, no}
 use Rattle.std.specs.Int.{bit_at}
 use Rattle.std.proofs.lemmas.Nat.Bits.{bit_at_or, bit_at-lt}
-use Rattle.bit_sets.specs.Words.{has_bit}
+use Rattle.colour_base.specs.Words.{has_bit}
 
 max_one : (x y : ℕ) → x < 2 → y < 2 → (max x y == 1) ≡ ((x == 1) || (y == 1))
 max_one zero zero a b = refl

@@ -2,7 +2,7 @@
 
 ghost use Rattle.std.specs.Prelude.{◌≡◌, ◌++◌, IfOk, IfErr};
 ghost use Rattle.transcripts.specs.TranscriptText.{first_line_of, stamped_row_text, text_of};
-ghost use Rattle.wire_texts.specs.PayloadTexts.{payload_texts};
+ghost use Rattle.program_texts.specs.PayloadTexts.{payload_texts};
 ghost use Rattle.answers.specs.Answers.{IsFaultOfText};
 ghost use Rattle.byte_functions.specs.Transcripts.{stamped_edition};
 ghost use Rattle.lone_answers.specs.Transcripts.{IsLoneTranscript};

@@ -6,8 +6,8 @@ use Rattle.std.specs.Prelude.{min}
 use Rattle.std.proofs.lemmas.Nat.Bits.{bit_at-lt, bit_at-trailing_zeros, bit_at-zero, bit_at_and, bit_at_mask_below, bit_at_mask_inside, ones_shl}
 use native.Mathlib.Decide.{dec_lt}
 use Prim.{yes, no}
-use Rattle.bit_sets.specs.Words.{has_bit}
-use Rattle.bit_sets.proofs.Words.{has_bit-word}
+use Rattle.colour_base.specs.Words.{has_bit}
+use Rattle.colour_base.proofs.Words.{has_bit-word}
 
 -- What is left of a word, of which only the places from `from` on count.
 pub record IsRest (words : List ℕ) (from word rest : ℕ) : Type 0 where

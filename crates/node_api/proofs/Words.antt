@@ -6,8 +6,8 @@ use Rattle.std.proofs.lemmas.Bool.{cases_eq}
 use Rattle.std.proofs.lemmas.Bool.Decides.{nat_tests}
 use Rattle.std.proofs.lemmas.List.{same_lists, get_or-replicate, get_or-set_other, get_or-set_same, length-replicate, length-set}
 use Rattle.std.proofs.lemmas.List.FromFn.{get_or-map-range_with_len, length-map-range_with_len}
-use Rattle.bit_sets.specs.Words.{has_bit}
-use Rattle.bit_sets.proofs.Words.{has_bit-set, no_bit}
+use Rattle.colour_base.specs.Words.{has_bit}
+use Rattle.colour_base.proofs.Words.{has_bit-set, no_bit}
 use Rattle.node_api.specs.Marks.{marks_in}
 
 pub length-marks_in : (n : ℕ) (words : List ℕ) → length (marks_in n words) ≡ n

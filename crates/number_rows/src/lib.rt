@@ -1,5 +1,5 @@
 //! Numbers as decimal text, appended to bytes. `channel_plan` and `answers` write their texts of many rows with
-//! `push_row`, and `wire_texts`, `transcripts` and the programs of nodes a number after words with `push_numbered`.
+//! `push_row`, and `program_texts`, `transcripts` and the programs of nodes a number after words with `push_numbered`.
 //!
 //! ```
 //! push_row(&mut text, &[0, 1, 2])?;          // appends "0 1 2" and a line feed

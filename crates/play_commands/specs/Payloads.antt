@@ -1,6 +1,6 @@
 -- The texts of the payloads of each program beside the colouring.
 use Rattle.std.specs.Prelude.{codes}
-use Rattle.wire_texts.specs.PayloadTexts.{PayloadTexts}
+use Rattle.program_texts.specs.PayloadTexts.{PayloadTexts}
 use Rattle.byte_functions.specs.Payloads.{colouring_payloads}
 use Rattle.followed.specs.Said.{of_either, read_first}
 use Rattle.followed.specs.declared.said.Said.{Said}

@@ -4,7 +4,7 @@ use Rattle.program_texts.specs.Texts.{ProgramTexts}
 use Rattle.node_api.specs.Program.{Program}
 use Rattle.run_options.specs.declared.Edition.TheVariants as edition
 use Rattle.byte_functions.specs.Ends.{IsEndsAnswer}
-use Rattle.wire_texts.specs.PayloadTexts.{PayloadTexts}
+use Rattle.program_texts.specs.PayloadTexts.{PayloadTexts}
 use Rattle.byte_functions.specs.Payloads.{colouring_payloads}
 use Rattle.byte_functions.specs.Transcripts.{IsProgramTranscript}
 use Rattle.byte_functions.specs.Workers.{IsFaultOfWorkers}

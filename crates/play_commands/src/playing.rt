@@ -4,7 +4,7 @@ ghost use Rattle.std.specs.Prelude.{IfOk, IfErr, Ok, Err};
 ghost use Rattle.command_line.specs.Asked.{IsPlayInRange};
 ghost use Rattle.layers.specs.Layering.{layering};
 ghost use Rattle.layers.specs.Texts.{layers_texts_from};
-ghost use Rattle.wire_texts.specs.PayloadTexts.{payload_texts};
+ghost use Rattle.program_texts.specs.PayloadTexts.{payload_texts};
 ghost use Rattle.play_commands.specs.Payloads.{layers_payloads};
 ghost use Rattle.play_commands.specs.Plays.{MayPlay, MayPlayNamed, layers_root};
 

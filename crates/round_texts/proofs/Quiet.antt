@@ -3,7 +3,7 @@ use Rattle.std.proofs.Common.{◌≡◌, ◌∙◌, ◌++◌, ℕ, zero, suc, Li
 use Rattle.std.specs.List.{flat_map}
 use Rattle.interference.specs.Net.{Net, neighbours, port_to}
 use Rattle.node_api.specs.Boxes.{at_port, nothing}
-use Rattle.wire_texts.specs.PayloadTexts.{PayloadTexts}
+use Rattle.program_texts.specs.PayloadTexts.{PayloadTexts}
 use Rattle.round_texts.specs.PutsText.{put_text, puts_text}
 
 none_at : {M : Type 0} (n i : ℕ) → get_or {A = Option M} (replicate n None) i None ≡ None

@@ -5,7 +5,7 @@ use Rattle.node_api.specs.Boxes.{at_port}
 use Rattle.wires.specs.declared.wire.Wire.TheVariants.{Payload}
 use Rattle.entries.specs.declared.entry.Entry.TheVariants.{Put}
 use Rattle.entries.specs.Rows.{vertex_row}
-use Rattle.wire_texts.specs.PayloadTexts.{PayloadTexts}
+use Rattle.program_texts.specs.PayloadTexts.{PayloadTexts}
 use Rattle.transcripts.specs.TranscriptText.{row_text}
 
 module _ {M : Type 0} (payloads : PayloadTexts M) where

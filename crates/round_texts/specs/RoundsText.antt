@@ -6,7 +6,7 @@ use Rattle.node_api.specs.Program.{Program, last_pulse_on}
 use Rattle.node_api.specs.Run.{outbox_at, state_at}
 use Rattle.program_texts.specs.Texts.{ProgramTexts}
 use Rattle.number_rows.specs.Row.{numbered}
-use Rattle.wire_texts.specs.PayloadTexts.{PayloadTexts}
+use Rattle.program_texts.specs.PayloadTexts.{PayloadTexts}
 use Rattle.round_texts.specs.PutsText.{puts_text}
 
 -- `pulse P`, and the program's words for it

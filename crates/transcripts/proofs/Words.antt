@@ -18,10 +18,10 @@ use Rattle.wires.specs.declared.wire.Wire.{Wire}
 use Rattle.wires.specs.declared.wire.Wire.TheVariants.{Payload, Ack, Safe, Close}
 use Rattle.entries.specs.declared.entry.Entry.{Entry}
 use Rattle.entries.specs.declared.entry.Entry.TheVariants.{Pulse, Put, Take}
-use Rattle.wire_texts.specs.PayloadTexts.{PayloadTexts}
-use Rattle.wire_texts.specs.WireText
+use Rattle.program_texts.specs.PayloadTexts.{PayloadTexts}
+use Rattle.program_texts.specs.WireText
 use Rattle.number_rows.specs.Row.{numbered}
-use Rattle.wire_texts.specs.WireText.{wire_text}
+use Rattle.program_texts.specs.WireText.{wire_text}
 use Rattle.transcripts.specs.EntryLines.{entry_of, entry_with, only, payload_in, payload_with, row_with, stamp_number, wide_number, wire_of, wire_with}
 use Rattle.transcripts.specs.TranscriptText.{IsReadable, IsReadableEntry, entry_text}
 use Rattle.entries.specs.declared.rows.Row.{Row}

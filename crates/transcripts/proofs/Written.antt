@@ -6,7 +6,7 @@ use Rattle.std.specs.Char.{IsAsciiAlphabetic}
 use Rattle.std.specs.Fmt.{decimal}
 use Rattle.entries.specs.Rows.{stamped_row, vertex_row, without_stamp}
 use Rattle.dimacs_col.specs.Lines.{Line, lines_of}
-use Rattle.wire_texts.specs.PayloadTexts.{PayloadTexts}
+use Rattle.program_texts.specs.PayloadTexts.{PayloadTexts}
 use Rattle.transcripts.specs.EntryLines.{row_of, row_with, stamped_row_of}
 use Rattle.transcripts.specs.Reading.{reading_of, stamped_reading_of}
 use Rattle.transcripts.specs.TranscriptText.{IsReadable, IsReadableStamped, entry_text, row_text, stamped_row_text, stamped_transcript_of, transcript_of}

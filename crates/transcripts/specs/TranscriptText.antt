@@ -4,10 +4,10 @@ use Rattle.std.specs.Fmt.{decimal}
 use Rattle.entries.specs.declared.entry.Entry.{Entry}
 use Rattle.entries.specs.declared.entry.Entry.TheVariants.{Pulse, Put, Take}
 use Rattle.entries.specs.Rows.{without_stamp}
-use Rattle.wire_texts.specs.PayloadTexts.{PayloadTexts}
-use Rattle.wire_texts.specs.WireText
+use Rattle.program_texts.specs.PayloadTexts.{PayloadTexts}
+use Rattle.program_texts.specs.WireText
 use Rattle.number_rows.specs.Row.{numbered}
-use Rattle.wire_texts.specs.WireText.{wire_text}
+use Rattle.program_texts.specs.WireText.{wire_text}
 -- an entry with the vertex of its node, and the same with its stamp
 use Rattle.entries.specs.declared.rows.Row.{Row}
 use Rattle.entries.specs.declared.rows.StampedRow.{StampedRow}

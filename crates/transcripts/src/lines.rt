@@ -4,16 +4,16 @@ ghost use Rattle.std.specs.Prelude.{◌≡◌, ◌≤◌, ◌+◌, ◌++◌, ◌
 ghost use Rattle.entries.specs.Rows.{vertex_row};
 ghost use Rattle.transcripts.specs.TranscriptText.{IsReadable, IsReadableStamped, row_text, stamped_row_text};
 ghost use Rattle.transcripts.specs.declared.line_end.TheConstants.{ROOM};
-ghost use Rattle.wire_texts.specs.PayloadTexts.{payload_texts};
-ghost use Rattle.wire_texts.specs.WireText.{wire_text};
-ghost use Rattle.wire_texts.specs.WireText;
+ghost use Rattle.program_texts.specs.PayloadTexts.{payload_texts};
+ghost use Rattle.program_texts.specs.WireText.{wire_text};
+ghost use Rattle.program_texts.specs.WireText;
 
 use crate::line_end::LineEnd;
 use entries::{Entry, Row, StampedRow};
 use node_api::PayloadText;
 use number_rows::push_numbered;
+use program_texts::push_wire;
 use std::alloc::AllocError;
-use wire_texts::push_wire;
 use wires::Wire;
 
 /// Appends the line of an entry, which begins with the vertex of its node.

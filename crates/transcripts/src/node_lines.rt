@@ -3,7 +3,7 @@
 ghost use Rattle.std.specs.Prelude.{◌≡◌, ◌++◌, IfOk, flat_map, map};
 ghost use Rattle.entries.specs.Rows.{bare_of, vertex_row};
 ghost use Rattle.transcripts.specs.TranscriptText.{row_text};
-ghost use Rattle.wire_texts.specs.PayloadTexts.{payload_texts};
+ghost use Rattle.program_texts.specs.PayloadTexts.{payload_texts};
 
 use crate::line_end::LineEnd;
 use crate::lines::push_line;

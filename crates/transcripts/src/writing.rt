@@ -6,7 +6,7 @@ ghost use Rattle.transcripts.specs.Reading.{reading_of, stamped_reading_of};
 ghost use Rattle.transcripts.specs.TranscriptText.{first_line, first_line_of, named_edition, stamped_transcript_of};
 ghost use Rattle.transcripts.specs.TranscriptText.{transcript_of};
 ghost use Rattle.number_rows.specs.Row.{numbered};
-ghost use Rattle.wire_texts.specs.PayloadTexts.{payload_texts};
+ghost use Rattle.program_texts.specs.PayloadTexts.{payload_texts};
 
 use crate::lines::{push_row, push_stamped_row};
 use entries::{Row, StampedRow};

@@ -2,7 +2,7 @@ use Rattle.std.proofs.Common.{◌∙◌, Ok, ap, sym}
 use Rattle.std.proofs.lemmas.Result.{err_from_is_err_and}
 use Rattle.event_texts.specs.Played.{events_in}
 use Rattle.event_texts.specs.StateText.{state_text}
-use Rattle.wire_texts.specs.PayloadTexts.{payload_texts}
+use Rattle.program_texts.specs.PayloadTexts.{payload_texts}
 use Rattle.answers.proofs.Playing.{fault-network, fault-reading, fault-run, reached}
 use Rattle.answers.proofs.events.events_bytes.Goals as goal
 

@@ -1,6 +1,6 @@
 use Rattle.std.proofs.Common.{◌∙◌, ap, sym}
 use Rattle.node_api.proofs.SlotCursor.{get-read}
-use Rattle.wire_texts.specs.PayloadTexts.{payload_texts}
+use Rattle.program_texts.specs.PayloadTexts.{payload_texts}
 use Rattle.answers.specs.ReplayAnswers.{words_text}
 use Rattle.answers.proofs.RefusedLines.{index-within, entry-fault}
 use Rattle.answers.proofs.replaying.fault_of_entry.Goals as goal

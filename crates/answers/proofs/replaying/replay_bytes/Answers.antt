@@ -2,7 +2,7 @@ use Rattle.std.proofs.Common.{◌∙◌, ap, inl, inr, subst}
 use Rattle.std.proofs.lemmas.Result.{err_from_is_err_and}
 use Rattle.dimacs_col.specs.Lines.{lines_of}
 use Rattle.event_texts.specs.StateText.{state_text}
-use Rattle.wire_texts.specs.PayloadTexts.{payload_texts}
+use Rattle.program_texts.specs.PayloadTexts.{payload_texts}
 use Rattle.answers.specs.ReplayAnswers.{IsFaultOfName, IsOfProgram}
 use Rattle.answers.proofs.Replays.{fault-network, fault-transcript, in-step, reached}
 use Rattle.answers.proofs.replaying.replay_bytes.Goals as goal

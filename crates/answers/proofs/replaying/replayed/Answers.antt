@@ -4,7 +4,7 @@ use Rattle.dimacs_col.specs.Lines.{lines_of}
 use Rattle.net_core.specs.Replays.{IsReplay}
 use Rattle.net_core.specs.Whole.{IsWholeReplay}
 use Rattle.transcripts.specs.Editions.{One, Two, said_by}
-use Rattle.wire_texts.specs.PayloadTexts.{payload_texts}
+use Rattle.program_texts.specs.PayloadTexts.{payload_texts}
 use Rattle.answers.specs.ReplayAnswers.{transcript_in}
 use Rattle.answers.proofs.replaying.replayed.Goals as goal
 

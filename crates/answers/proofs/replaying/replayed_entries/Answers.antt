@@ -1,6 +1,6 @@
 use Rattle.std.proofs.Common.{◌∙◌, subst}
 use Rattle.dimacs_col.specs.Lines.{lines_of}
-use Rattle.wire_texts.specs.PayloadTexts.{payload_texts}
+use Rattle.program_texts.specs.PayloadTexts.{payload_texts}
 use Rattle.answers.specs.ReplayAnswers.{IsFaultOfEntry}
 use Rattle.answers.proofs.RefusedLines.{fault-refused}
 use Rattle.answers.proofs.replaying.replayed_entries.Goals as goal

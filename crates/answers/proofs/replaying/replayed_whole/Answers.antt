@@ -2,7 +2,7 @@ use Rattle.std.proofs.Common.{◌∙◌, subst, sym}
 use Rattle.dimacs_col.specs.Lines.{lines_of}
 use Rattle.transcripts.specs.Behind.{entry_lines}
 use Rattle.transcripts.proofs.Either.{no-any-behind}
-use Rattle.wire_texts.specs.PayloadTexts.{payload_texts}
+use Rattle.program_texts.specs.PayloadTexts.{payload_texts}
 use Rattle.answers.specs.ReplayAnswers.{IsFaultOfStamped}
 use Rattle.answers.proofs.WholeRefusals.{whole-refused}
 use Rattle.answers.proofs.replaying.replayed_whole.Goals as goal

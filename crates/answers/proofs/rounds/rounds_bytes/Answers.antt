@@ -3,7 +3,7 @@ use Rattle.dimacs_col.specs.Lines.{lines_of}
 use Rattle.interference.specs.Net.{IsNetwork}
 use Rattle.node_api.specs.Run.{last_state}
 use Rattle.round_texts.specs.RoundsText.{rounds_text}
-use Rattle.wire_texts.specs.PayloadTexts.{payload_texts}
+use Rattle.program_texts.specs.PayloadTexts.{payload_texts}
 use Rattle.answers.proofs.Settings.{lines-more}
 use Rattle.answers.proofs.rounds.rounds_bytes.Goals as goal
 

@@ -1,6 +1,6 @@
 use Rattle.std.proofs.Common.{◌∙◌, ◌++◌, ◌∷◌, [], ap, append-nil, map, subst, sym}
 use Rattle.std.proofs.lemmas.List.{flat_map_more, length-map}
-use Rattle.wire_texts.specs.PayloadTexts.{payload_texts}
+use Rattle.program_texts.specs.PayloadTexts.{payload_texts}
 use Rattle.transcripts.specs.TranscriptText.{first_line_of, stamped_row_text}
 use Rattle.outcomes.specs.Gathers.{gathered_of}
 use Rattle.stamps.specs.Merged.{IsMerge, list_of}

@@ -1,7 +1,7 @@
 use Rattle.std.proofs.Common.{length, map}
 use Rattle.std.specs.BinaryHeap.{heap_items}
 use Rattle.std.specs.List.{sum_by}
-use Rattle.wire_texts.specs.PayloadTexts.{payload_texts}
+use Rattle.program_texts.specs.PayloadTexts.{payload_texts}
 use Rattle.outcomes.specs.Gathers.{gathered_of}
 use Rattle.byte_functions.specs.Merge.{AreKeys}
 use Rattle.byte_functions.specs.Transcripts.{stamped_edition}

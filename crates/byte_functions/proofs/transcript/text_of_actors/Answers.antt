@@ -6,7 +6,7 @@ use Rattle.std.proofs.lemmas.List.{flat_map_more}
 use Rattle.std.proofs.lemmas.List.Folds.{flat_map-map}
 use Rattle.entries.specs.Rows.{bare_of, vertex_row}
 use Rattle.outcomes.specs.Gathers.{gathered_of}
-use Rattle.wire_texts.specs.PayloadTexts.{payload_texts}
+use Rattle.program_texts.specs.PayloadTexts.{payload_texts}
 use Rattle.transcripts.specs.TranscriptText.{first_line, row_text}
 use Rattle.byte_functions.specs.Transcripts.{rows_in}
 use Rattle.byte_functions.proofs.transcript.text_of_actors.Goals as goal

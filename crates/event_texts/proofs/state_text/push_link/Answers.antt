@@ -4,8 +4,8 @@ use Rattle.dimacs_col.proofs.Refused.{err_says}
 use Rattle.interference.specs.Net.{neighbour_of}
 use Rattle.event_machine.specs.State.{link_at}
 use Rattle.number_rows.specs.Row.{numbered}
-use Rattle.wire_texts.specs.PayloadTexts.{payload_texts}
-use Rattle.wire_texts.specs.WireText.{wire_text}
+use Rattle.program_texts.specs.PayloadTexts.{payload_texts}
+use Rattle.program_texts.specs.WireText.{wire_text}
 use Rattle.number_rows.proofs.Ranges.{behind}
 use Rattle.event_texts.proofs.state_text.push_link.Goals as goal
 

@@ -1,7 +1,7 @@
 use Rattle.std.proofs.Common.{◌≡◌, ◌+◌, arith, ◌∙◌, ◌++◌, ap, append-nil, sym}
 use Rattle.interference.specs.Net.{neighbour_of, degree_of}
 use Rattle.event_machine.specs.State.{link_at}
-use Rattle.wire_texts.specs.PayloadTexts.{payload_texts}
+use Rattle.program_texts.specs.PayloadTexts.{payload_texts}
 use Rattle.event_texts.specs.StateText.{link_text}
 use Rattle.number_rows.proofs.Ranges.{texts-more}
 use Rattle.std.specs.List.{flat_map, range_with_len}

@@ -1,8 +1,8 @@
 use Rattle.std.proofs.Common.{◌++◌, ◌∙◌, ap, append-nil, sym}
 use Rattle.dimacs_col.proofs.Refused.{err_says}
 use Rattle.wires.specs.declared.wire.Wire.{Wire}
-use Rattle.wire_texts.specs.PayloadTexts.{payload_texts}
-use Rattle.wire_texts.specs.WireText.{wire_text}
+use Rattle.program_texts.specs.PayloadTexts.{payload_texts}
+use Rattle.program_texts.specs.WireText.{wire_text}
 use Rattle.event_texts.proofs.Written.{rows_more}
 use Rattle.event_texts.proofs.state_text.push_wires.Goals as goal
 

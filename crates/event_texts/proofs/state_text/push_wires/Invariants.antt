@@ -1,6 +1,6 @@
 use Rattle.std.proofs.Common.{◌≡◌, ◌++◌, flat_map, take}
-use Rattle.wire_texts.specs.PayloadTexts.{payload_texts}
-use Rattle.wire_texts.specs.WireText.{wire_text}
+use Rattle.program_texts.specs.PayloadTexts.{payload_texts}
+use Rattle.program_texts.specs.WireText.{wire_text}
 use Rattle.event_texts.proofs.state_text.push_wires.Given as goal
 
 abbrev pub invariant-loop-wire : goal.invariant-loop-wire

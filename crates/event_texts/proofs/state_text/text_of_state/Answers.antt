@@ -1,7 +1,7 @@
 use Rattle.std.proofs.Common.{◌≡◌, ◌+◌, ◌++◌, [], ℕ, List, arith, ◌∙◌, ap}
 use Rattle.event_machine.specs.State.{node_of}
 use Rattle.node_api.specs.Program.{last_pulse_on}
-use Rattle.wire_texts.specs.PayloadTexts.{payload_texts}
+use Rattle.program_texts.specs.PayloadTexts.{payload_texts}
 use Rattle.event_texts.specs.StateText.{links_text, node_text}
 use Rattle.number_rows.proofs.Ranges.{behind, texts-more}
 use Rattle.std.specs.List.{flat_map, range_with_len}

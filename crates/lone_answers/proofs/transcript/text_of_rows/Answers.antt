@@ -1,6 +1,6 @@
 use Rattle.std.proofs.Common.{◌++◌, ◌∙◌, ap, append-nil, sym}
 use Rattle.entries.specs.declared.rows.StampedRow.{StampedRow}
-use Rattle.wire_texts.specs.PayloadTexts.{payload_texts}
+use Rattle.program_texts.specs.PayloadTexts.{payload_texts}
 use Rattle.transcripts.specs.TranscriptText.{first_line_of, stamped_row_text}
 use Rattle.lone_answers.proofs.Rows.{rows_more}
 use Rattle.byte_functions.specs.Transcripts.{stamped_edition}

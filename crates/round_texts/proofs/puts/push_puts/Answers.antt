@@ -5,7 +5,7 @@ use Rattle.interference.specs.Net.{Net, IsNetwork, IsVertex, degree_of, neighbou
 use Rattle.interference.proofs.Neighbours.{port_to-is}
 use Rattle.node_api.specs.Boxes.{at_port}
 use Rattle.node_api.specs.Run.{outbox_at}
-use Rattle.wire_texts.specs.PayloadTexts.{PayloadTexts, payload_texts}
+use Rattle.program_texts.specs.PayloadTexts.{PayloadTexts, payload_texts}
 use Rattle.round_texts.specs.PutsText.{put_text, puts_text}
 use Rattle.round_texts.proofs.Quiet.{quiet_text}
 use Rattle.round_texts.proofs.puts.push_puts.Goals as goal

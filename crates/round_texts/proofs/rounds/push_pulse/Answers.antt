@@ -1,5 +1,5 @@
 use Rattle.std.proofs.Common.{◌≡◌, ◌+◌, ◌++◌, arith}
-use Rattle.wire_texts.specs.PayloadTexts.{payload_texts}
+use Rattle.program_texts.specs.PayloadTexts.{payload_texts}
 use Rattle.round_texts.specs.RoundsText.{pulse_line, vertex_text}
 use Rattle.number_rows.proofs.Ranges.{texts-more}
 use Rattle.round_texts.proofs.rounds.push_pulse.Goals as goal

@@ -1,6 +1,6 @@
 use Rattle.std.proofs.Common.{◌≡◌, ◌∙◌, ◌+◌, ◌++◌, ap, arith}
 use Rattle.sync_rounds.specs.Rounds.{AtPulse}
-use Rattle.wire_texts.specs.PayloadTexts.{payload_texts}
+use Rattle.program_texts.specs.PayloadTexts.{payload_texts}
 use Rattle.round_texts.specs.RoundsText.{pulse_text}
 use Rattle.number_rows.proofs.Ranges.{texts-more}
 use Rattle.round_texts.proofs.rounds.rounds_text.Goals as goal

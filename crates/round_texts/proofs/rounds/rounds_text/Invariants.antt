@@ -1,7 +1,7 @@
 use Rattle.std.proofs.Common.{◌≡◌, ◌+◌, ◌++◌, flat_map}
 use Rattle.std.specs.List.{range_with_len}
 use Rattle.sync_rounds.specs.Rounds.{AtPulse}
-use Rattle.wire_texts.specs.PayloadTexts.{payload_texts}
+use Rattle.program_texts.specs.PayloadTexts.{payload_texts}
 use Rattle.round_texts.specs.RoundsText.{pulse_text}
 use Rattle.round_texts.proofs.rounds.rounds_text.Given as goal
 

@@ -1,6 +1,6 @@
 use Rattle.std.proofs.Common.{◌++◌, ◌∙◌, ap, codes}
 use Rattle.dimacs_col.specs.Lines.{lines_of}
-use Rattle.wire_texts.specs.PayloadTexts.{payload_texts}
+use Rattle.program_texts.specs.PayloadTexts.{payload_texts}
 use Rattle.transcripts.specs.Reading.{stamped_reading_of}
 use Rattle.transcripts.specs.TranscriptText.{first_line_of}
 use Rattle.transcripts.proofs.RowsSoFar.{all-written, none-written, one-written}

@@ -1,5 +1,5 @@
 use Rattle.std.proofs.Common.{codes, take}
-use Rattle.wire_texts.specs.PayloadTexts.{payload_texts}
+use Rattle.program_texts.specs.PayloadTexts.{payload_texts}
 use Rattle.transcripts.specs.TranscriptText.{IsReadable, first_line_of, row_text}
 use Rattle.transcripts.proofs.RowsSoFar.{AreWritten}
 use Rattle.transcripts.proofs.writing.transcript_text.Given as goal

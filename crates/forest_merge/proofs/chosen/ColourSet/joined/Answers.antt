@@ -1,7 +1,7 @@
 use Rattle.std.proofs.Common.{◌/◌, sym, ap, ◌∙◌, arith}
 use Rattle.std.specs.Prelude.{◌||◌}
 use Rattle.std.specs.FinSet.{contains}
-use Rattle.bit_sets.specs.Words.{has_bit}
+use Rattle.colour_base.specs.Words.{has_bit}
 use Rattle.forest_merge.proofs.Words.{contains-colours_of, contains-words}
 use Rattle.forest_merge.proofs.Joined.{bit_of_both, words_of_both}
 use Rattle.forest_merge.proofs.chosen.ColourSet.joined.Goals as goal

@@ -3,7 +3,7 @@ use Rattle.std.specs.Int.{trailing_zeros}
 use Rattle.std.proofs.lemmas.Bool.Decides.{nat_tests}
 use native.Mathlib.Decide.{dec_lt}
 use Prim.{yes, no}
-use Rattle.bit_sets.specs.Words.{has_bit}
+use Rattle.colour_base.specs.Words.{has_bit}
 use Rattle.node_api.specs.Marks.{is_marked, marks_in}
 use Rattle.node_api.proofs.Words.{length-marks_in, marks_in-at}
 use Rattle.node_api.proofs.Finding.{IsRest, rest-first, rest-next, none-here, found-later, found-marked, found-first}

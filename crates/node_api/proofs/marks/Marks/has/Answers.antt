@@ -1,6 +1,6 @@
 use Rattle.std.proofs.Common.{◌<◌, ◌%◌, ◌^◌, ◌*◌, length, false, not, bit_and, nat_eq, ap, sym, ◌∙◌, arith}
 use Rattle.node_api.specs.Marks.{is_marked}
-use Rattle.bit_sets.proofs.Words.{has_bit-test}
+use Rattle.colour_base.proofs.Words.{has_bit-test}
 use Rattle.node_api.proofs.Words.{length-marks_in, marks_in-at}
 use Rattle.node_api.proofs.marks.Marks.has.Goals as goal
 

@@ -1,8 +1,8 @@
 //! One wire.
 
 ghost use Rattle.std.specs.Prelude.{◌≡◌, ◌++◌, IfOk};
-ghost use Rattle.wire_texts.specs.PayloadTexts.{payload_texts};
-ghost use Rattle.wire_texts.specs.WireText.{IsReadable, wire_text};
+ghost use Rattle.program_texts.specs.PayloadTexts.{payload_texts};
+ghost use Rattle.program_texts.specs.WireText.{IsReadable, wire_text};
 
 use node_api::PayloadText;
 use number_rows::push_numbered;

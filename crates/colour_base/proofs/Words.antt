@@ -11,7 +11,7 @@ use Rattle.std.proofs.lemmas.Nat.{one_shl}
 use Rattle.std.proofs.lemmas.Nat.Bits.{and_pow, bit_at-lt, bit_at-zero, bit_at_set_other, bit_at_set_same}
 use native.Mathlib.Decide.{dec_lt}
 use Prim.{yes, no}
-use Rattle.bit_sets.specs.Words.{has_bit}
+use Rattle.colour_base.specs.Words.{has_bit}
 
 pub zero_word : (n i : ℕ) → get_or {A = ℕ} (replicate n 0) i 0 ≡ 0
 zero_word n i =

@@ -1,2 +1,0 @@
-pub mod PayloadTexts
-pub mod WireText
