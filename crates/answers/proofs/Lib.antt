@@ -8,7 +8,3 @@ pub mod Following
 pub mod ProperPlans
 pub mod Agreed
 pub mod Judging
-mod Playing
-mod Replays
-mod RefusedLines
-mod WholeRefusals

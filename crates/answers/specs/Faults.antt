@@ -5,11 +5,11 @@ use Rattle.dimacs_col.specs.declared.fault.ColFault.TheVariants as col
 use Rattle.interference.specs.declared.fault.NetFault.TheVariants as net
 use Rattle.run_faults.specs.declared.fault.PoolFault.TheVariants as pool
 use Rattle.channel_plan.specs.declared.plan.CheckFault.TheVariants as check
-use Rattle.event_texts.specs.declared.fault.EventFault.TheVariants as event
+use Rattle.run_faults.specs.declared.events.EventFault.TheVariants as event
 use Rattle.answers.specs.declared.fault.PlanFault.{PlanFault}
 use Rattle.answers.specs.declared.fault.PlanFault.TheVariants.{Check, Col, Event, Net, NoRoot, Memory, Pool, Replay}
 use Rattle.answers.specs.declared.fault.PlanFault.TheVariants.{Stopped}
-use Rattle.answers.specs.declared.replaying.ReplayFault.TheVariants as replay
+use Rattle.run_faults.specs.declared.replays.ReplayFault.TheVariants as replay
 use Rattle.answers.specs.declared.report.Place.{Place}
 use Rattle.answers.specs.declared.report.Place.TheVariants.{None, Line, Vertex, Vertices}
 

@@ -5,6 +5,3 @@ pub mod Settings
 pub mod Faults
 pub mod Answers
 pub mod Verdicts
-pub mod EventAnswers
-pub mod RoundAnswers
-pub mod ReplayAnswers

@@ -3,12 +3,10 @@
 ghost use Rattle.std.specs.Prelude.{◌≡◌};
 ghost use Rattle.answers.specs.declared.fault.PlanFault.TheVariants.{Check, Col, Event, Net, Memory, Pool, Replay};
 
-use crate::replaying::ReplayFault;
 use channel_plan::CheckFault;
 use dimacs_col::ColFault;
-use event_texts::EventFault;
 use interference::{Memory, NetFault};
-use run_faults::PoolFault;
+use run_faults::{EventFault, PoolFault, ReplayFault};
 
 /// Why a text has no answer.
 #[derive(Debug, PartialEq, Eq, Drop)]

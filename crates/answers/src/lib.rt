@@ -1,17 +1,14 @@
 //! The answers of the commands that start no thread, from the bytes of a DIMACS text to the bytes of an answer, and the
 //! report of each fault of any command.
 //!
-//! `byte_functions` has the commands that run worker threads. `serving` calls `forest_bytes`, `plain_bytes` or
-//! `check_bytes` for a command, and `fault_report` if one fails; `play_commands` calls `events_bytes`, `replay_bytes`
-//! or `rounds_bytes`.
+//! `byte_functions` has the commands that run worker threads, and `play_answers` those of events, replays and rounds,
+//! which only `forestplay` has. `serving` calls `forest_bytes`, `plain_bytes` or `check_bytes` for a command, and
+//! `fault_report` if one fails.
 //!
 //! ```
 //! let text = b"p edge 3 3\ne 1 2\ne 1 3\ne 2 3\n";
 //! let plan = plain_bytes(alloc, text)?;       // "plan", "1 2", "2 3", "3 1", a line each
 //! ```
-//!
-//! `events_bytes`, `replay_bytes` and `rounds_bytes` are for any program that has a `ProgramText`; the others are the
-//! colouring's.
 //!
 //! A text has at most 20,000 vertices and 400,000 edges, and a vertex at most 1,023 neighbours; more is
 //! a fault. Vertex v has the identifier of its line `i`, and without one v.
@@ -19,21 +16,15 @@
 
 mod answer;
 mod colours_text;
-mod events;
 mod fault;
 mod forests_text;
-mod replaying;
 mod report;
-mod rounds;
 mod setting;
 mod setting_up;
 mod verdict;
 
 pub use answer::{forest_bytes, network_of_text, plain_bytes};
-pub use events::events_bytes;
 pub use fault::PlanFault;
-pub use replaying::{ReplayFault, replay_bytes};
 pub use report::{FaultReport, fault_report};
-pub use rounds::rounds_bytes;
 pub use setting::{Root, Setting};
 pub use verdict::check_bytes;

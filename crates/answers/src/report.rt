@@ -5,12 +5,10 @@ ghost use Rattle.answers.specs.Faults.{at_line, at_place, fault_line, fault_stat
 ghost use Rattle.answers.specs.declared.fault.PlanFault.TheVariants.{Check, Col, Event, Net, Pool, Replay};
 
 use crate::fault::PlanFault;
-use crate::replaying::ReplayFault;
 use channel_plan::CheckFault;
 use dimacs_col::ColFault;
-use event_texts::EventFault;
 use interference::NetFault;
-use run_faults::PoolFault;
+use run_faults::{EventFault, PoolFault, ReplayFault};
 use std::alloc::{AllocError, Global};
 
 // The status if the input is refused.

@@ -1,7 +1,7 @@
 //! Events as text: read behind a network text, played, and the state that they lead to as text.
 //!
 //! A text of events has a line for each: `pulse V`, `put V PORT` or `take V PORT`. `events_bytes` of
-//! `answers` cuts its input by `network_text`, and calls `read_events`, `play` and
+//! `play_answers` cuts its input by `network_text`, and calls `read_events`, `play` and
 //! `text_of_state`, which are for any program. An event that isn't possible is refused with words for what it lacks
 //! (`specs/Missing.antt`).
 //!
@@ -17,7 +17,6 @@
 
 mod event_line;
 mod expected;
-mod fault;
 pub mod laws;
 mod missing;
 mod playing;
@@ -26,7 +25,6 @@ mod split;
 mod state_text;
 
 pub use expected::expected_words;
-pub use fault::EventFault;
 pub use missing::missing_words;
 pub use playing::play;
 pub use reading::read_events;

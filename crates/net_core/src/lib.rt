@@ -5,8 +5,8 @@
 //! `replay` takes entries, each with the vertex of its node, in the order of the events. It accepts exactly what the
 //! events of some list write down, and else names the first entry that can't be one, and why. So nothing is taken on
 //! trust: each pulse and each wire of an entry is compared with that of its event. `replay_whole` takes stamped entries
-//! of a whole run, and returns the state with its stamps (`StampedState`). `answers` calls both for the entries of a
-//! transcript.
+//! of a whole run, and returns the state with its stamps (`StampedState`). `play_answers` calls both for the entries
+//! of a transcript.
 //!
 //! `specs/Runs.antt` has what `run` returns, `specs/Rows.antt` what an event writes down, `specs/Replays.antt` what a
 //! replay is and where it stops.

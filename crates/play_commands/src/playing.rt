@@ -9,7 +9,7 @@ ghost use Rattle.play_commands.specs.Payloads.{layers_payloads};
 ghost use Rattle.play_commands.specs.Plays.{MayPlay, MayPlayNamed, layers_root};
 
 use actor::OpenGate;
-use answers::{PlanFault, Root, Setting, events_bytes, replay_bytes, rounds_bytes};
+use answers::{PlanFault, Root, Setting};
 use byte_functions::{run_bytes, run_transcript_bytes};
 use colour_program::Colouring;
 use command_line::{NodeProgramName, Play, Shown};
@@ -19,6 +19,7 @@ use layers::{Layers, ROOT_ID};
 use leader::Leader;
 use lone_answers::{alone_bytes, alone_transcript_bytes, ends_bytes};
 use matching::Matching;
+use play_answers::{events_bytes, replay_bytes, rounds_bytes};
 use program_texts::ProgramText;
 use recolouring::Recolouring;
 use run_options::Edition;

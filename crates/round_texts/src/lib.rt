@@ -1,6 +1,6 @@
 //! The synchronous run of a program of nodes as text, pulse by pulse.
 //!
-//! `answers` writes it for the command `rounds`. What nodes send is written in the entries of a transcript, so
+//! `play_answers` writes it for the command `rounds`. What nodes send is written in the entries of a transcript, so
 //! that these lines are those that a whole transcript has of payloads put, in another order. The first line, the words
 //! of a pulse and the lines of a node are the program's own, by its `ProgramText`.
 //!

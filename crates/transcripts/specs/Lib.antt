@@ -5,3 +5,4 @@ pub mod EditionRows
 pub mod Behind
 pub mod Editions
 pub mod Reader
+pub mod Faults

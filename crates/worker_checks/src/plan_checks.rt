@@ -3,9 +3,10 @@
 use crate::meeting::Meeting;
 use crate::node_pool_checks::PULSES;
 use crate::runs::BY_TWO;
-use answers::{Setting, replay_bytes};
+use answers::Setting;
 use byte_functions::{plan_bytes, run_bytes, transcript_bytes};
 use colour_program::Colouring;
+use play_answers::replay_bytes;
 use run_options::Edition;
 use std::alloc::Global;
 use std::sync::Wait;

@@ -1,0 +1,4 @@
+mod Playing
+mod Replays
+mod RefusedLines
+mod WholeRefusals

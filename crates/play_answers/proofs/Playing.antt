@@ -1,0 +1,75 @@
+-- From what is known of a network text and of the events behind it to what `events` may answer.
+use Rattle.std.proofs.Common.{◌≡◌, inl, inr, ℕ, Ok, List, subst, sym}
+use Rattle.dimacs_col.specs.Lines.{lines_of}
+use Rattle.interference.specs.Net.{IsNetwork, Net}
+use Rattle.node_api.specs.Program.{Program}
+use Rattle.node_api.specs.Run.{last_state}
+use Rattle.event_machine.specs.State.{State}
+use Rattle.event_machine.specs.Step.{run}
+use Rattle.dimacs_col.proofs.Blank.{fault-of, graph-of}
+use Rattle.event_texts.specs.EventLines.{AreNetworkLines, event_words, network_lines}
+use Rattle.event_texts.specs.Played.{IsFaultOfRun, events_in}
+use Rattle.event_texts.specs.Reader.{IsFaultOfReading}
+use Rattle.event_texts.specs.Reading.{Script, script_of}
+use Rattle.event_texts.specs.StateText.{state_text}
+use Rattle.run_faults.specs.declared.events.EventFault.{EventFault}
+use Rattle.program_texts.specs.Texts.{ProgramTexts}
+use Rattle.program_texts.specs.PayloadTexts.{PayloadTexts}
+use Rattle.answers.specs.Answers.{IsFaultOfText, LinesReadAs, ReadsAs, network_with}
+use Rattle.play_answers.specs.EventAnswers.{AreInStep, IsEventsAnswer, IsFaultOfEventLines, IsFaultOfEvents, IsStateReached}
+use Rattle.answers.specs.declared.fault.PlanFault.{PlanFault}
+use Rattle.answers.specs.Settings.{OfSet}
+use Rattle.answers.specs.declared.fault.PlanFault.TheVariants as plan
+use Rattle.answers.specs.declared.setting.Setting.{Setting}
+use Rattle.answers.proofs.Settings.{set-more}
+
+-- what is known of the network of a text
+abbrev Reads : Setting → List ℕ → Net → Type 0
+Reads setting network net = ReadsAs network (OfSet setting (λ read. IsNetwork read × (net ≡ read)))
+
+module _ {S M E : Type 0} (program : Program S M E) (setting : Setting) where
+  pub fault-network : (input network : List ℕ) (fault : PlanFault) → AreNetworkLines (lines_of input) (lines_of network) →
+      IsFaultOfText setting network fault → IsFaultOfEvents program setting input fault
+  fault-network input network (plan.Col fault) are is = fault-of event_words (lines_of input) (lines_of network) fault are is
+  fault-network input network (plan.NoRoot v) are (graph, reads, is) = (graph, graph-of event_words (lines_of input) (lines_of network) graph are reads, is)
+  fault-network input network (plan.Net fault) are (graph, reads, is) = (graph, graph-of event_words (lines_of input) (lines_of network) graph are reads, is)
+  fault-network input network (plan.Check fault) are is = absurd is
+  fault-network input network (plan.Pool fault) are is = absurd is
+  fault-network input network (plan.Event fault) are is = absurd is
+  fault-network input network (plan.Replay fault) are is = absurd is
+  fault-network input network plan.Stopped are is = absurd is
+  fault-network input network plan.Memory are is = tt
+
+  -- what is known of the network that was read, and of the lines behind it
+  behind : (input network : List ℕ) (net : Net) (Q : Net → Type 0) → AreNetworkLines (lines_of input) (lines_of network) →
+      Reads setting network net → (IsNetwork net → Q net) → LinesReadAs (network_lines (lines_of input)) (OfSet setting Q)
+  behind input network net Q are (graph, reads, is) so = (
+    graph,
+    graph-of event_words (lines_of input) (lines_of network) graph are reads,
+    set-more setting (λ read. IsNetwork read × (net ≡ read)) Q
+        (λ read both. subst Q both.1 (so (subst (λ n. IsNetwork n) (sym both.1) both.0))) (network_with graph) is,
+  )
+
+  pub fault-reading : (input network : List ℕ) (net : Net) (fault : EventFault) → AreNetworkLines (lines_of input) (lines_of network) →
+      Reads setting network net → IsFaultOfReading (lines_of input) fault → IsFaultOfEvents program setting input (plan.Event fault)
+  fault-reading input network net fault are reads is =
+      behind input network net (λ read. IsNetwork read × IsFaultOfEventLines program read (lines_of input) fault) are reads (λ ok. (ok, inl is))
+
+  pub fault-run : (input network : List ℕ) (net : Net) (script : Script) (fault : EventFault) → AreNetworkLines (lines_of input) (lines_of network) →
+      Reads setting network net → script_of (lines_of input) ≡ Ok script → IsFaultOfRun program net script fault →
+      IsFaultOfEvents program setting input (plan.Event fault)
+  fault-run input network net script fault are reads read is =
+      behind input network net (λ known. IsNetwork known × IsFaultOfEventLines program known (lines_of input) fault) are reads
+      (λ ok. (ok, inr (script, read, is)))
+
+  module _ (texts : ProgramTexts S) (payloads : PayloadTexts M) where
+    pub reached : (input network text : List ℕ) (net : Net) (script : Script) (state : State S M) →
+        AreNetworkLines (lines_of input) (lines_of network) →
+        Reads setting network net → script_of (lines_of input) ≡ Ok script → run program net (events_in script) ≡ Ok state →
+        text ≡ state_text program texts payloads net state → (IsNetwork net → AreInStep program net state) →
+        ((net : Net) → IsNetwork net → texts.Solves net (last_state program net)) →
+        IsEventsAnswer program texts payloads setting input text
+    reached input network text net script state are reads read ran is in_step solves =
+        behind input network net (λ known. IsNetwork known × IsStateReached program texts payloads known (lines_of input) text
+        × texts.Solves known (last_state program known)) are reads
+        (λ ok. (ok, (script, state, read, ran, is, in_step ok), solves net ok))

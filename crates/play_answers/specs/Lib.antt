@@ -1,0 +1,3 @@
+pub mod EventAnswers
+pub mod RoundAnswers
+pub mod ReplayAnswers
