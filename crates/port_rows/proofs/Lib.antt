@@ -1,5 +1,5 @@
 pub mod Rows
-mod Slots
 pub mod ReadLists
 mod Crosses
+mod Swaps
 pub mod Sides

@@ -1,26 +1,10 @@
 -- What is read of lists that are made in other ways.
-use Rattle.std.proofs.Common.{◌≡◌, ℕ, zero, suc, ◌+◌, ◌<◌, List, [], ◌∷◌, ◌++◌, length, map, get_or, refl, sym, ap, ◌∙◌, arith, Some, None, slice_get}
+use Rattle.std.proofs.Common.{◌≡◌, ℕ, zero, suc, ◌+◌, ◌<◌, List, [], ◌∷◌, ◌++◌, length, map, get_or, refl, sym, ap, ◌∙◌, arith}
 use Rattle.std.specs.List.{range_with_len}
-use Rattle.std.proofs.lemmas.List.{get_or-map, length-map, map-append}
-use Rattle.std.proofs.lemmas.List.FromFn.{length-range_with_len, get_or-range_with_len}
+use Rattle.std.proofs.lemmas.List.{map-append}
 use Rattle.interference.proofs.Members.{range-more}
 
 module _ {A : Type 0} where
-  pub some_at : (xs : List A) (j : ℕ) → get_or (map Some xs) j None ≡ slice_get xs j
-  some_at [] j = refl
-  some_at (x ∷ xs) zero = refl
-  some_at (x ∷ xs) (suc j) = some_at xs j
-
-  pub somes_at : (rows : List (List A)) (k j : ℕ) → get_or (get_or (map (λ row. map Some row) rows) k []) j None ≡ slice_get (get_or rows k []) j
-  somes_at [] k j = refl
-  somes_at (row ∷ rows) zero j = some_at row j
-  somes_at (row ∷ rows) (suc k) j = somes_at rows k j
-
-  pub somes_long : (rows : List (List A)) (k : ℕ) → length (get_or (map (λ row. map Some row) rows) k []) ≡ length (get_or rows k [])
-  somes_long [] k = refl
-  somes_long (row ∷ rows) zero = length-map row Some
-  somes_long (row ∷ rows) (suc k) = somes_long rows k
-
   pub at_old : (xs ys : List A) (k : ℕ) (d : A) → k < length xs → get_or (xs ++ ys) k d ≡ get_or xs k d
   at_old [] ys k d lt = absurd (omega arith)
   at_old (x ∷ xs) ys zero d lt = refl
@@ -33,11 +17,6 @@ module _ {A : Type 0} where
   at_new (x ∷ xs) y d (suc k) is = at_new xs y d k (omega arith)
 
 -- a list that is given place by place, and one place more
-pub at_range : {B : Type 0} (g : ℕ → B) (n i : ℕ) (d : B) → i < n → get_or (map g (range_with_len 0 n)) i d ≡ g i
-at_range g n i d lt =
-    let at : get_or (range_with_len 0 n) i 0 ≡ i = omega (arith, get_or-range_with_len 0 n i 0 lt) in
-    get_or-map g (range_with_len 0 n) i 0 d (omega (arith, length-range_with_len 0 n)) ∙ ap g at
-
 pub range_next : {B : Type 0} (g : ℕ → B) (n : ℕ) → map g (range_with_len 0 (n + 1)) ≡ map g (range_with_len 0 n) ++ g n ∷ []
 range_next g n =
     let more : n + 1 ≡ suc n = omega arith in

@@ -1,34 +1,8 @@
 -- A row beside another, thing after thing.
-use Rattle.std.proofs.Common.{◌≡◌, ℕ, zero, suc, ◌+◌, ◌<◌, ◌≤◌, List, [], ◌∷◌, ◌++◌, length, map, take, drop, set, get_or, sym, ap, ◌∙◌, subst, arith}
-use Rattle.std.proofs.Common.{Some, None, slice_get}
-use Rattle.std.specs.Prelude.{Option, All}
-use Rattle.std.proofs.lemmas.List.{get_or_default, get_or-map, get_or-set_other, length-map, map-append}
+use Rattle.std.proofs.Common.{◌≡◌, zero, suc, List, [], ◌∷◌, map, drop, get_or, sym, ap, ◌∙◌, subst, arith}
+use Rattle.std.specs.Prelude.{All}
+use Rattle.std.proofs.lemmas.List.{get_or-map, length-map}
 use Rattle.std.proofs.lemmas.Simd.{map-map}
-
-take_next : {A : Type 0} (xs : List A) (k : ℕ) (x : A) → slice_get xs k ≡ Some x → take (suc k) xs ≡ take k xs ++ x ∷ []
-take_next [] k x is = absurd cc
-take_next (y ∷ ys) zero x is = let same : y ≡ x = cc in ap (λ z. z ∷ []) same
-take_next (y ∷ ys) (suc k) x is = ap (λ l. y ∷ l) (take_next ys k x is)
-
-pub is_there : {A : Type 0} (xs : List A) (k : ℕ) → k < length xs → None ≡ slice_get xs k → ⊥
-is_there [] k lt none = absurd (omega arith)
-is_there (x ∷ xs) zero lt none = absurd cc
-is_there (x ∷ xs) (suc k) lt none = is_there xs k (omega arith) none
-
--- the slots from place k on have what the row has there
-module _ {B : Type 0} (rights : List B) (slots : List (Option B)) (k i : ℕ) (is : i ≡ k)
-    (waiting : (j : ℕ) → k ≤ j → get_or slots j None ≡ slice_get rights j) where
-  pub found_at : (slot : Option B) → i < length slots → slot ≡ get_or slots i slot → slot ≡ slice_get rights k
-  found_at slot lt at = at ∙ get_or_default slots i slot None lt ∙ waiting i (omega arith) ∙ ap (λ j. slice_get rights j) is
-
-  pub still_waiting : (n : ℕ) (x : Option B) → n ≡ k + 1 → (j : ℕ) → n ≤ j → get_or (set slots i x) j None ≡ slice_get rights j
-  still_waiting n x more j le = get_or-set_other slots i j x None (λ e. absurd (omega arith)) ∙ waiting j (omega arith)
-
-pub longer : {B C : Type 0} (f : C → B) (rights : List B) (all new : List C) (x : C) (k n : ℕ) → new ≡ all ++ x ∷ [] → n ≡ k + 1
-    → slice_get rights k ≡ Some (f x) → map f all ≡ take k rights → map f new ≡ take n rights
-longer f rights all new x k n pushed more at same =
-    let next : suc k ≡ n = omega arith in
-    ap (map f) pushed ∙ map-append f all (x ∷ []) ∙ ap (λ l. l ++ f x ∷ []) same ∙ sym (take_next rights k (f x) at) ∙ ap (λ m. take m rights) next
 
 -- two rows side by side, read by one of them
 pub firsts : {A E D : Type 0} (all : List (A × E)) (ls : List A) (f : A → D) → map (λ x. x.0) all ≡ ls → map (λ x. f x.0) all ≡ map f ls

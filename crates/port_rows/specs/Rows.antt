@@ -1,6 +1,6 @@
 -- Things by vertex and port: entry `v - 1` of the rows has those of vertex v, by port.
-use Rattle.std.specs.Prelude.{◌≡◌, ℕ, ◌-◌, ◌<◌, List, [], length, map, slice_get, slice_index_or, slice_set}
-use Rattle.std.specs.Prelude.{Option, None}
+use Rattle.std.specs.Prelude.{◌≡◌, ℕ, ◌-◌, ◌<◌, List, [], length, map, slice_get, slice_index_or}
+use Rattle.std.specs.Prelude.{Option}
 use Rattle.std.specs.declared.alloc.Global.{Global}
 use Rattle.std.specs.declared.vec.Vec.{Vec}
 use Rattle.interference.specs.Net.{Net, IsVertex, count_of, degree_of, neighbour_of, back_port_of}
@@ -26,11 +26,3 @@ module _ {A : Type 0} where
     pub shape : HasShape net crossed
     pub at : (v i : ℕ) → IsVertex net v → i < degree_of net v
         → thing_at crossed v i ≡ thing_at rows (neighbour_of net v i) (back_port_of net v i)
-
-module _ {A : Type 0} where
-  -- what a slot has: nothing, too, if there is no such slot
-  abbrev pub slot_at : List (List (Option A)) → ℕ → ℕ → Option A
-  slot_at slots v i = slice_index_or (row_at slots v) i None
-
-  abbrev pub set_slot : List (List (Option A)) → ℕ → ℕ → Option A → List (List (Option A))
-  set_slot slots v i x = slice_set slots (v - 1) (slice_set (row_at slots v) i x)

@@ -2,7 +2,6 @@
 
 ghost use Rattle.std.specs.Prelude.{◌≡◌, IfOk, map, vec_len};
 
-use crate::cross::slots_of;
 use std::alloc::{AllocError, Global};
 
 /// The things of two rows that are as long, side by side.
@@ -15,11 +14,10 @@ pub fn pairs<A: Drop, B: Drop>(
     ensures left { IfOk result (λ all. map (λ p. p.0) all.items ≡ lefts.items) }
     ensures right { IfOk result (λ all. map (λ p. p.1) all.items ≡ rights.items) }
 {
-    let mut slots = slots_of(alloc, rights)?;
-    let count = lefts.len();
-    let mut all = Vec::with_capacity(alloc, count)?;
+    let mut all = Vec::with_capacity(alloc, lefts.len())?;
+    let mut rights = rights.into_iter();
     for left in lefts {
-        match slots[all.len()].take() {
+        match rights.next() {
             Some(right) => all.push_reserved((left, right)),
             None => unreachable!(),
         }

@@ -1,84 +1,70 @@
 //! Things that change places with those at the other ends of the links.
 
-ghost use Rattle.std.specs.Prelude.{◌≡◌, ◌≢◌, ◌<◌, ◌≤◌, ℕ, IfOk, None, Some, length, map};
-ghost use Rattle.std.specs.List.{range_with_len};
-ghost use Rattle.interference.specs.Net.{IsNetwork, IsVertex, back_port_of, degree_of, neighbour_of};
-ghost use Rattle.port_rows.specs.Rows.{AreCrossed, HasShape, row_at, rows_of, set_slot, slot_at};
+ghost use Rattle.std.specs.Prelude.{◌≡◌, ◌+◌, ◌<◌, ◌≤◌, IfOk, List, length, vec_len};
+ghost use Rattle.interference.specs.Net.{IsNetwork, IsVertex, count_of, degree_of};
+ghost use Rattle.port_rows.specs.Crossing.{IsCrossedTo, IsSwapped, place, with_row};
+ghost use Rattle.port_rows.specs.Rows.{AreCrossed, HasShape, row_at, rows_of};
 
 use interference::Network;
 use std::alloc::{AllocError, Global};
+use std::mem;
 
-/// The things of a row, each in a slot.
-///
-/// # Errors
-///
-/// `AllocError` if memory is refused.
-pub(crate) fn slots_of<T: Drop>(alloc: Global, row: Vec<T>) -> Result<Vec<Option<T>>, AllocError>
-    ensures slots { IfOk result (λ slots. slots.items ≡ map Some row.items) }
+// A thing of the row of vertex `v`, which has been taken out of the rows, changes places with one of that of `w`.
+fn swap_things<T>(v: u32, row: &mut Vec<T>, i: u32, rows: &mut Vec<Vec<T>>, w: u32, j: u32)
+    requires vertices { (1 ≤ v) × (v < w) × (w ≤ vec_len rows.old) }
+    requires here { i < vec_len row.old }
+    requires there { j < length (row_at (rows_of rows.old.items) w) }
+    ensures swapped { IsSwapped (with_row (rows_of rows.old.items) v row.old.items) v i w j
+        (with_row (rows_of rows.new.items) v row.new.items) }
+    ensures count { vec_len rows.new ≡ vec_len rows.old }
 {
-    let mut slots = Vec::with_capacity(alloc, row.len())?;
-    for item in row {
-        slots.push_reserved(Some(item));
-    }
-    Ok(slots)
+    mem::swap(
+        &mut row[i as usize],
+        &mut rows[(w - 1) as usize][j as usize],
+    );
 }
 
-// All things, each in a slot.
-fn all_slots<T: Drop>(alloc: Global, rows: Vec<Vec<T>>) -> Result<Vec<Vec<Option<T>>>, AllocError>
-    ensures slots { IfOk result (λ all. rows_of all.items ≡ map (λ row. map Some row.items) rows.items) }
-{
-    let mut all = Vec::with_capacity(alloc, rows.len())?;
-    for row in rows {
-        all.push_reserved(slots_of(alloc, row)?);
-    }
-    Ok(all)
-}
-
-// Takes a thing out of its slot.
-fn take_out<T: Drop>(slots: &mut Vec<Vec<Option<T>>>, v: u32, i: u32) -> Option<T>
-    requires row { (1 ≤ v) × (v ≤ length slots.old.items) }
-    requires slot { i < length (row_at (rows_of slots.old.items) v) }
-    ensures thing { result ≡ slot_at (rows_of slots.old.items) v i }
-    ensures slots { rows_of slots.new.items ≡ set_slot (rows_of slots.old.items) v i None }
-{
-    slots[(v - 1) as usize][i as usize].take()
-}
-
-// The things at the other ends of the links out of a vertex, by port.
-fn crossed_row<T: Drop>(
-    alloc: Global,
-    net: &Network,
-    slots: &mut Vec<Vec<Option<T>>>,
-    v: u32,
-) -> Result<Vec<T>, AllocError>
+// A thing of the row of vertex `v`, which has been taken out of the rows, changes places with the one at the other end
+// of its link, if that is at a greater vertex.
+fn cross_link<T>(net: &Network, v: u32, i: u32, row: &mut Vec<T>, rows: &mut Vec<Vec<T>>)
     requires vertex { IsVertex net.now v }
-    requires shape { HasShape net.now (rows_of slots.old.items) }
-    requires full { (i : ℕ) → i < degree_of net.now v
-        → slot_at (rows_of slots.old.items) (neighbour_of net.now v i) (back_port_of net.now v i) ≢ None }
-    ensures shape { HasShape net.now (rows_of slots.new.items) }
-    ensures row { IfOk result (λ row. map Some row.items
-        ≡ map (λ i. slot_at (rows_of slots.old.items) (neighbour_of net.now v i) (back_port_of net.now v i))
-        (range_with_len 0 (degree_of net.now v))) }
-    ensures others { (w j : ℕ) → IsVertex net.now w → j < degree_of net.now w → neighbour_of net.now w j ≢ v
-        → slot_at (rows_of slots.new.items) w j ≡ slot_at (rows_of slots.old.items) w j }
+    requires port { i < degree_of net.now v }
+    requires count { vec_len rows.old ≡ count_of net.now }
+    requires shape { HasShape net.now (with_row (rows_of rows.old.items) v row.old.items) }
+    ensures count { vec_len rows.new ≡ count_of net.now }
+    ensures shape { HasShape net.now (with_row (rows_of rows.new.items) v row.new.items) }
+    ensures crossed { (all : List (List T))
+        → IsCrossedTo net.now all (place v i) (with_row (rows_of rows.old.items) v row.old.items)
+        → IsCrossedTo net.now all (place v (i + 1)) (with_row (rows_of rows.new.items) v row.new.items) }
 {
-    let degree = net.degree(v);
-    let mut row = Vec::with_capacity(alloc, degree as usize)?;
-    for i in 0..degree {
-        match take_out(slots, net.neighbour(v, i), net.back_port(v, i)) {
-            Some(thing) => row.push_reserved(thing),
-            None => unreachable!(),
-        }
+    let w = net.neighbour(v, i);
+    if w < v {
+        return;
     }
-    Ok(row)
+    swap_things(v, row, i, rows, w, net.back_port(v, i));
+}
+
+// The same for each thing of the row.
+fn cross_row<T>(net: &Network, v: u32, row: &mut Vec<T>, rows: &mut Vec<Vec<T>>)
+    requires vertex { IsVertex net.now v }
+    requires count { vec_len rows.old ≡ count_of net.now }
+    requires shape { HasShape net.now (with_row (rows_of rows.old.items) v row.old.items) }
+    ensures count { vec_len rows.new ≡ count_of net.now }
+    ensures crossed { (all : List (List T))
+        → IsCrossedTo net.now all (place v 0) (with_row (rows_of rows.old.items) v row.old.items)
+        → IsCrossedTo net.now all (place (v + 1) 0) (with_row (rows_of rows.new.items) v row.new.items) }
+{
+    for i in 0..net.degree(v) {
+        cross_link(net, v, i, row, rows);
+    }
 }
 
 /// Each thing of these rows, which have one for each vertex and port, at the vertex and port of the other end of its
-/// link.
+/// link. They change places, which takes no memory.
 ///
 /// # Errors
 ///
-/// `AllocError` if memory is refused.
+/// None today: an `AllocError` stays in the type for its callers.
 pub fn crossed<T: Drop>(
     alloc: Global,
     net: &Network,
@@ -88,11 +74,11 @@ pub fn crossed<T: Drop>(
     ensures crossed { IfOk result (λ all. AreCrossed net.now (rows_of rows.items) (rows_of all.items)) }
     ensures network { IfOk result (λ _. IsNetwork net.now) }
 {
-    let mut slots = all_slots(alloc, rows)?;
-    let mut all = Vec::with_capacity(alloc, net.nodes() as usize)?;
+    let mut rows = rows;
     for v in 0..net.nodes() {
-        let row = crossed_row(alloc, net, &mut slots, v + 1)?;
-        all.push_reserved(row);
+        let mut row = mem::replace(&mut rows[v as usize], Vec::new(alloc));
+        cross_row(net, v + 1, &mut row, &mut rows);
+        rows[v as usize] = row;
     }
-    Ok(all)
+    Ok(rows)
 }

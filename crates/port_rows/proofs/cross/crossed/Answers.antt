@@ -1,68 +1,41 @@
-use Rattle.std.proofs.Common.{◌≡◌, ◌+◌, Some, length, map, sym, ap, ◌∙◌, arith}
-use Rattle.std.proofs.lemmas.List.{length-map, map-append}
-use Rattle.std.proofs.lemmas.Simd.{map-map}
-use Rattle.interference.specs.Net.{IsVertex, count_of}
-use Rattle.port_rows.proofs.Crosses.{starts_shape, starts_at, full, more_rows, more_at, less_left}
-use Rattle.port_rows.specs.Rows.{rows_of}
+use Rattle.std.proofs.Common.{◌≡◌, ◌+◌, ◌-◌, ◌<◌, [], length, set, subst, sym, ap, ◌∙◌, arith}
+use Rattle.std.proofs.lemmas.List.{get_or-map, length-map, map-set}
+use Rattle.port_rows.specs.Crossing.{IsCrossedTo, place, with_row}
+use Rattle.port_rows.specs.Rows.{HasShape, rows_of}
+use Rattle.port_rows.proofs.Swaps.{taken_out}
+use Rattle.port_rows.proofs.cross.crossed.Given.{Over}
+use Rattle.port_rows.proofs.cross.crossed.Goals.{After-replace-row}
 use Rattle.port_rows.proofs.cross.crossed.Goals as goal
 
-pub loop-v-init : goal.loop-v-init
-loop-v-init g c =
-    let net = c.args.net.now in
-    let ok = c.nodes.ensures.network in
-    let rows = rows_of c.args.rows.items in
-    let is = c.in_ok-slots.ensures.slots ∙ sym (map-map (λ row. map Some row) (λ row. row.items) c.args.rows.items) in
-    record {
-      shape = starts_shape net ok rows _ is c.requires.shape;
-      left = λ w j vertex lt after. starts_at net ok rows _ is w j;
-      count = omega (arith, ap length c.in_ok-all.ensures.items, c.in_ok-all.all.ok.0);
-      room = omega (arith, c.in_ok-all.ensures.capacity, c.nodes.ensures.count);
-      rows = λ u vertex le. absurd (omega (arith, vertex.0));
-      at = λ u i vertex le lt. absurd (omega (arith, vertex.0));
-    }
+-- the rows with the row put back are the rows
+module _ (g : Over) (c : After-replace-row g) where
+  whole : with_row (rows_of (set c.loop-v.rows.items c.loop-v.v c.replace-row.new.dest)) (c.loop-v.v + 1) c.replace-row.result.items
+      ≡ rows_of c.loop-v.rows.items
+  whole =
+      let rows = c.loop-v.rows.items in
+      let v = c.loop-v.v in
+      let same : v + 1 - 1 ≡ v = omega arith in
+      let lt : v < length rows =
+      omega (arith, c.loop-v-test.true, c.nodes-v-end.ensures.count, c.loop-v.invariant.shape.count, length-map rows (λ r. r.items)) in
+      let is = ap (λ r. r.items) (c.replace-row.ensures.value ∙ c.index_mut.ensures.value)
+      ∙ sym (get_or-map (λ r. r.items) rows v c.index_mut.result.now [] lt) in
+      ap (λ k. set (rows_of (set rows v c.replace-row.new.dest)) k c.replace-row.result.items) same
+      ∙ ap (λ l. set l v c.replace-row.result.items) (map-set (λ r. r.items) rows v c.replace-row.new.dest)
+      ∙ taken_out (rows_of rows) v c.replace-row.result.items _ is
 
-pub crossed_row-requires-clause-full : goal.crossed_row-requires-clause-full
-crossed_row-requires-clause-full g c =
-    let net = c.args.net.now in
-    let vertex : IsVertex net (c.loop-v.v + 1) = (omega arith, omega (arith, c.nodes-v-end.ensures.count)) in
-    full net c.nodes.ensures.network c.loop-v.v (rows_of c.args.rows.items) (rows_of c.loop-v.slots.items) vertex
-    c.requires.shape c.loop-v.invariant.left
-
-pub push_reserved-requires : goal.push_reserved-requires
-push_reserved-requires g c = omega (arith, c.loop-v.invariant.count, c.loop-v.invariant.room, c.loop-v-test.true, c.nodes-v-end.ensures.count)
+pub cross_row-requires-clause-shape : goal.cross_row-requires-clause-shape
+cross_row-requires-clause-shape g c =
+    let at = (goal.at.cross_row-requires-clause-shape g c).After-replace-row in
+    subst (λ rows. HasShape c.args.net.now rows) (sym (whole g at)) c.loop-v.invariant.shape
 
 pub loop-v-preserved : goal.loop-v-preserved
 loop-v-preserved g c =
-    let net = c.args.net.now in
-    let ok = c.nodes.ensures.network in
+    let at = (goal.at.loop-v-preserved g c).After-replace-row in
     let v = c.loop-v.v in
-    let inv = c.loop-v.invariant in
-    let vertex : IsVertex net (v + 1) = (omega arith, omega (arith, c.nodes-v-end.ensures.count)) in
-    let rows = rows_of c.args.rows.items in
-    let all = rows_of c.loop-v.all.items in
-    let slots = rows_of c.loop-v.slots.items in
-    let long : length all ≡ v = omega (arith, length-map c.loop-v.all.items (λ row. row.items), c.loop-v.all.ok.0, inv.count) in
-    let pushed = ap rows_of c.push_reserved.ensures.items ∙ map-append (λ row. row.items) c.loop-v.all.items _ in
-    record {
-      shape = c.crossed_row.ensures.shape;
-      left = less_left net ok v vertex rows all _ _ slots _ long pushed c.in_ok-row.ensures.row inv.left c.crossed_row.ensures.others;
-      count = omega (arith, c.push_reserved.ensures.len, inv.count);
-      room = omega (arith, c.push_reserved.ensures.capacity, inv.room);
-      rows = more_rows net ok v vertex rows all _ _ slots slots long pushed c.in_ok-row.ensures.row inv.rows;
-      at = more_at net ok v vertex rows all _ _ slots slots long pushed c.in_ok-row.ensures.row inv.left inv.at;
-    }
-
-pub returns : goal.returns
-returns g c =
-    let inv = c.loop-v.invariant in
-    let last : c.loop-v.v ≡ count_of c.args.net.now = omega (arith, c.nodes-v-end.ensures.count) in
-    record {
-      crossed = record {
-        shape = record {
-          count = omega (arith, length-map c.loop-v.all.items (λ row. row.items), c.loop-v.all.ok.0, inv.count, last);
-          row = λ u vertex. inv.rows u vertex (omega (arith, vertex.1, last));
-        };
-        at = λ u i vertex lt. inv.at u i vertex (omega (arith, vertex.1, last)) lt;
-      };
-      network = c.nodes.ensures.network;
-    }
+    let all = rows_of c.args.rows.items in
+    let same : v + 1 - 1 ≡ v = omega arith in
+    subst (λ rows. IsCrossedTo c.args.net.now all (place (v + 1 + 1) 0) rows)
+    (ap (λ k. set (rows_of c.cross_row.new.rows.items) k c.cross_row.new.row.items) same
+    ∙ sym (map-set (λ r. r.items) c.cross_row.new.rows.items v c.cross_row.new.row))
+    (c.cross_row.ensures.crossed all
+    (subst (λ rows. IsCrossedTo c.args.net.now all (place (v + 1) 0) rows) (sym (whole g at)) c.loop-v.invariant))
