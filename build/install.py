@@ -36,7 +36,8 @@ tar. After `pip install DIR` Python can import forestplan.
 With --prefix this folder is PREFIX/lib/forestplan, and what a system looks for is where
 it looks: bin, share/doc, share/man/man1, share/bash-completion/completions and
 share/zsh/site-functions. With --destdir all of it is written below D in place of /, for a
-package; then `cp -a D/. /` has it in place.
+package; then `cp -a D/. /` has it in place. With --python the system's Python can import
+forestplan: FOLDER, below PREFIX, gets a link to the package.
 
 Programs that aren't built from these sources are proved and built first. That takes
 the minutes that README.md says, and needs the toolchain's command rt.
@@ -56,7 +57,7 @@ Example:
   cd ~/forestplan
   forestplan plain < examples/triangle.col
 
-  python3 build install --prefix /usr --destdir package
+  python3 build install --prefix /usr --destdir package --python lib/python3/dist-packages
 """
 
 # In place of README's section on the first call and the tests, up to the table of the commands.
@@ -132,24 +133,33 @@ def make(room, section=SECTION):
     subprocess.run(["chmod", "-R", "u=rwX,go=rX", room], check=True)
 
 
-def make_below(room):
-    """Makes all that is installed below a prefix, in an empty folder."""
+def make_below(room, python):
+    """Makes all that is installed below a prefix, in an empty folder, with a folder of Python's, if it is named."""
     os.mkdir(room)
     make(f"{room}.folder", SECTION_OF_SYSTEM)
     below = os.path.join(TOP, "build", "below.sh")
-    subprocess.run([below, f"{room}.folder", room], check=True)
+    subprocess.run([below, f"{room}.folder", room, python], check=True)
 
 
 def main():
     words = parser_of(
-        "install", "DIR | --prefix PREFIX [--destdir D]", HELP, MORE_HELP, "python3 build"
+        "install",
+        "DIR | --prefix PREFIX [--destdir D] [--python FOLDER]",
+        HELP,
+        MORE_HELP,
+        "python3 build",
     )
     words.add_argument("dir", metavar="DIR", nargs="?", help="the folder that is made")
     words.add_argument("--prefix", help="the folder in which a system has bin, lib and share")
     words.add_argument("--destdir", metavar="D", default="", help="what comes before PREFIX")
+    words.add_argument(
+        "--python", metavar="FOLDER", default="", help="where Python has packages, below PREFIX"
+    )
     given = words.parse_args()
-    if (given.dir is None) == (given.prefix is None) or given.dir and given.destdir:
+    if (given.dir is None) == (given.prefix is None) or given.dir and given.destdir + given.python:
         words.error("either DIR or --prefix is wanted")
+    if os.path.isabs(given.python):
+        words.error("the folder of --python is below PREFIX, as lib/python3/dist-packages")
     folder = os.path.abspath(given.dir or given.destdir + os.path.abspath(given.prefix))
     inside = os.path.relpath(os.path.realpath(folder), os.path.realpath(TOP))
     if inside.split(os.sep)[0] in FOLDERS:
@@ -161,7 +171,7 @@ def main():
         return status
     os.umask(0o022)
     try:
-        make_folder(folder, make if given.dir else make_below)
+        make_folder(folder, make if given.dir else lambda room: make_below(room, given.python))
     except (OSError, shutil.Error, subprocess.CalledProcessError) as failed:
         why = failed.args[0][0][2] if isinstance(failed, shutil.Error) else failed
         print(f"install: {folder}: {why}", file=sys.stderr)

@@ -4,7 +4,7 @@
 room=$(mktemp -d)
 trap 'rm -rf "$room"' EXIT
 cd "$(dirname "$0")/../.."
-python3 build install --prefix /usr --destdir "$room/made"
+python3 build install --prefix /usr --destdir "$room/made" --python lib/python3/dist-packages
 mkdir "$room/made/DEBIAN"
 cat >"$room/made/DEBIAN/control" <<END
 Package: forestplan
@@ -23,4 +23,5 @@ dpkg-deb --extract "$room/forestplan.deb" "$room/unpacked"
 unset PYTHONDONTWRITEBYTECODE PYTHONPYCACHEPREFIX
 "$room/unpacked/usr/bin/forestplan" plain <examples/triangle.col
 "$room/unpacked/usr/bin/forestlab" network tell petersen
+PYTHONPATH=$room/unpacked/usr/lib/python3/dist-packages python3 -B -c 'import forestplan; print(forestplan.plan({1: []}))'
 [ -z "$(find "$room/unpacked" -name __pycache__)" ] && echo "package: no error, and nothing is left beside it"

@@ -194,6 +194,8 @@ class Install(Case):
             ["--all"],
             [os.path.join(self.folder, "new"), "--prefix", "/usr"],
             [os.path.join(self.folder, "new"), "--destdir", self.folder],
+            [os.path.join(self.folder, "new"), "--python", "lib"],
+            ["--prefix", os.path.join(self.folder, "new"), "--python", "/lib"],
             ["--prefix", clash],
             [clash],
             [TOP],
@@ -236,7 +238,8 @@ class Install(Case):
     def test_prefix(self):
         """What a package has: all where a system looks for it, whatever the umask is, called by links."""
         room = os.path.join(self.folder, "package")
-        words = ["--prefix", "/usr", "--destdir", room]
+        packages = "lib/python3/dist-packages"
+        words = ["--prefix", "/usr", "--destdir", room, "--python", packages]
         done = run([*self.script, *words], umask=0o077)
         self.note("install --prefix", done[:2] == (0, b""), done)
         self.readme_of(self.target)
@@ -260,6 +263,10 @@ class Install(Case):
         ):
             got = run([os.path.join(there, "bin", words[0]), *words[1:]], data, cwd=self.elsewhere)
             self.note(f"{words} by a link", got[::2] == (0, b""), got)
+        env = ENVIRONMENT | {"PYTHONPATH": os.path.join(there, packages)}
+        code = "import forestplan as it; print(it.plan({1: []}), it.home())"
+        got = run([sys.executable, "-B", "-c", code], cwd=self.elsewhere, env=env)
+        self.same("Python", got, (0, f"{{1: 1}} {there}/lib/forestplan\n".encode(), b""))
         # All may read what is there, and run what is a program or a script; Python has left nothing that it compiled.
         wrong = "-name __pycache__ -o -type d ! -perm 755 -o -type f ! -perm 644 ! -perm 755"
         self.same("modes", run(["bash", "-c", f"find . {wrong}"], cwd=room), (0, b"", b""))
