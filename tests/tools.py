@@ -2,16 +2,26 @@
 lines of `python3 -m tests` name each tool that wasn't there, with the tests that didn't run."""
 
 import importlib.util
+import os
 import re
 import shutil
+import sys
 
 from tests import browser
 
 ENDING = "isn't installed"
 
 
+# What Debian's packages have for its own Python, whose version is in the name of that.
+OF_SYSTEM = "/usr/lib/python3/dist-packages"
+OWN = "/usr/bin/python{}.{}".format(*sys.version_info)
+
+
 def is_installed(tool):
+    """Whether a tool is there; this Python takes a module that it lacks from the system's, if that has its version."""
     if tool in ("networkx", "matplotlib", "igraph", "pandas"):
+        if importlib.util.find_spec(tool) is None and os.path.exists(OWN):
+            sys.path.append(OF_SYSTEM)
         return importlib.util.find_spec(tool) is not None
     if tool == "a browser":
         return browser.command() is not None

@@ -1,8 +1,8 @@
-"""Files as igraph, pandas, R and gv2gml write them, and by hand as Gephi and yEd do: each is read as the network that
-was meant, or refused.
+"""Files as igraph, pandas and gv2gml write them, and by hand as Gephi and yEd do: each is read as the network that was
+meant, or refused.
 
 Debian has all of it, for /usr/bin/python3:
-apt-get install python3-igraph python3-pandas r-base-core graphviz"""
+apt-get install python3-igraph python3-pandas graphviz"""
 
 import csv
 import importlib
@@ -11,7 +11,7 @@ import subprocess
 from xml.sax.saxutils import escape, quoteattr
 
 from tests.programs import written
-from tests.programs.written import Meant, Writer, table_of, through_file
+from tests.programs.written import Meant, Writer, through_file
 from tests.tools import need
 
 NUMBERED = {"has_names": False, "has_lone": False}
@@ -65,23 +65,11 @@ def pandas_writers() -> list[Writer]:
     return [
         row("index"),
         row("German", "--columns", "source=Von,target=Nach", **german),
+        # As R's write.csv does it.
         row("quoted", quoting=csv.QUOTE_ALL, lineterminator="\r\n"),
         row("UTF-16", encoding="utf-16", sep="\t"),
         row("blanks", file="net.edgelist", index=False, header=False, sep=" "),
     ]
-
-
-def r_writers() -> list[Writer]:
-    start = 'e <- read.csv(file("stdin"), colClasses="character", na.strings=c());'
-
-    def row(code):
-        def write(one: Meant) -> bytes:
-            ends = table_of(("source", "target"), one.edges)
-            return piped(["Rscript", "-e", start + code], ends)
-
-        return Writer(code, "net.csv", write, has_lone=False)
-
-    return [row("write.csv(e)"), row("write.csv2(e, row.names=FALSE)")]
 
 
 # By hand: Gephi and yEd.
@@ -159,12 +147,7 @@ def writers_by_hand() -> list[Writer]:
     ]
 
 
-WRITERS = {
-    "igraph": igraph_writers,
-    "pandas": pandas_writers,
-    "Rscript": r_writers,
-    "gv2gml": gv2gml_writers,
-}
+WRITERS = {"igraph": igraph_writers, "pandas": pandas_writers, "gv2gml": gv2gml_writers}
 
 
 class WrittenElsewhere(written.Files):
