@@ -73,8 +73,8 @@ class Server(Case):
         are_ended = wait_until(lambda: not any(map(is_running, started)), 20)
         self.note(f"and {what}", started and are_ended, started)
 
-    def ask(self, path, body="{}", method="POST", **headers):
-        """(status, text) of a request; a header is None to be left out. Those that came are `headers`."""
+    def asked(self, path, body="{}", method="POST", **headers):
+        """The connection on which this is asked; a header is None to be left out."""
         given = {
             "Content-Length": str(len(body.encode())),
             "Host": f"127.0.0.1:{self.port}",
@@ -88,6 +88,11 @@ class Server(Case):
                 end.putheader(name, value)
         end.endheaders()
         end.send(body.encode())
+        return end
+
+    def ask(self, *asked, **headers):
+        """(status, text) of a request. The headers that came are `headers`."""
+        end = self.asked(*asked, **headers)
         got = end.getresponse()
         text, self.headers = got.read().decode(), got.headers
         end.close()
@@ -451,12 +456,8 @@ class Ends(Server):
         """A call ends with its browser, though it has nothing to write, and all with the server."""
 
         def slow_call():
-            end = socket.create_connection(("127.0.0.1", self.port))
-            asked = json.dumps({"network": TRIANGLE, "program": "sleeps"})
-            end.sendall(
-                f"POST /call/rounds HTTP/1.1\r\nHost: 127.0.0.1:{self.port}\r\nX-Token: {self.token}\r\n"
-                f"Content-Length: {len(asked)}\r\n\r\n{asked}".encode()
-            )
+            asked = {"network": TRIANGLE, "program": "sleeps"}
+            end = self.asked("/call/rounds", json.dumps(asked))
             wait_until(self.calls, 20)
             return end
 
