@@ -34,6 +34,7 @@ PACKAGE = os.path.dirname(forestplan.__file__)
 NOTEBOOK = os.path.join(TOP, "examples", "forestplan.ipynb")
 # Four nodes in a ring, one with an edge to itself and one in both directions.
 SQUARE = {"Ulm": ["Aue", "Bonn"], "Aue": ["Ulm", "Hof"], "Hof": [], "Bonn": ["Hof", "Bonn"]}
+NUMBER = {node: v for v, node in enumerate(forestplan.text_of(SQUARE)[1], 1)}
 # Sites with their places; in kilometres the third and the fourth are the reach, 1.5, away from the first.
 SITES = {"Ulm": (0, 0), 7: (0.01, 0.0), "Hof": (0.9, 1.2), "Aue": (-1.2, 0.9), "Kiel": None}
 
@@ -287,12 +288,11 @@ class InPython(Case):
     def test_rounds(self):
         """Pulses, states and messages, put together again node by node, are the lines of the program."""
         got = forestplan.rounds(SQUARE)
-        number = {node: v for v, node in enumerate(forestplan.text_of(SQUARE)[1], 1)}
         lines = []
         for at, phase, messages, states in got:
-            rows = [(number[node], words) for node, words in states]
+            rows = [(NUMBER[node], words) for node, words in states]
             rows += [
-                (number[one], f"put {number[other]} payload {at} {word} {value}")
+                (NUMBER[one], f"put {NUMBER[other]} payload {at} {word} {value}")
                 for one, other, word, value in messages
             ]
             rows.sort(key=itemgetter(0))
@@ -302,9 +302,8 @@ class InPython(Case):
     def test_transcript(self):
         """Its entries, put together again, are the lines of the run."""
         got = forestplan.transcript(SQUARE, workers=1)
-        number = {node: v for v, node in enumerate(forestplan.text_of(SQUARE)[1], 1)}
         lines = [
-            f"{it.stamp} {number[it.node]} {it.kind} {number.get(it.other, it.other)} {it.wire}".strip()
+            f"{it.stamp} {NUMBER[it.node]} {it.kind} {NUMBER.get(it.other, it.other)} {it.wire}".strip()
             for it in got
         ]
         self.same("the entries", lines, got.text.splitlines()[1:])
