@@ -1,87 +1,93 @@
-"""Compares how many channels a plan takes, and how many after choosing anew, with what greedy colourings take.
+"""Compares the channels of a plan, and those that are left after passes of choosing anew, with greedy colourings.
 
   python3 -m bench.quality
+
+It prints the channels and the processor seconds: of a program, with reading and writing, or of networkx, whose graph is
+there already. The programs have to be built, and networkx has to be installed. What isn't proper ends it.
 
 DSATUR (D. Brelaz, New methods to color the vertices of a graph, 1979) and smallest last (D. W. Matula and L. L. Beck,
 Smallest-last ordering and clustering and graph coloring algorithms, 1983) look at the whole network, one node after the
 other; our nodes know their neighbours alone. Largest first (D. J. A. Welsh and M. B. Powell, An upper bound for the
-chromatic number of a graph, 1967) and greedy by number take the nodes in a fixed order. They are those of networkx,
-which has to be installed.
-
-The plan is that of the slow definitions, which `forestplan plain` prints, too. After 1 to 64 passes its classes
-have chosen anew, in the orders of the definitions, as `forestplay rounds --program recolouring --passes N` has it."""
-import argparse
+chromatic number of a graph, 1967) is what networkx takes by default."""
+import os
+import random
 import sys
 
 import networkx
 
-from lab.definitions.colours import colours
-from lab.network import Network, order
+from lab import programs
+from lab.network import Network
 from lab.networks import kinds
+from lab.networks.places import near
+from lab.networks.texts import plain_text
 
-# After how many passes the channels are counted.
-PASSES = (1, 2, 4, 8, 16, 32, 64)
-HEADS = (
-    *("network", "nodes", "edges", "most", "plan"),
-    *(f"{passes} passes" for passes in PASSES),
-    *("DSATUR", "smallest last", "largest first", "by number"),
-)
+PASSES = ("1", "8", "64")
 
 
-def of_graph(graph: networkx.Graph) -> Network:
-    """The network of a graph whose nodes count from 0."""
-    return Network(len(graph), [(v + 1, w + 1) for v, w in graph.edges])
+def towns(nodes, reach):
+    """Sites around a hundred towns, of which the first ones are the largest, in a square of 500 km."""
+    source, places = random.Random(nodes), []
+    middles = [(500 * source.random(), 500 * source.random()) for _ in range(100)]
+    for _ in range(nodes):
+        x, y = middles[int(100 * source.random() ** 2)]
+        places.append((source.gauss(x, 12), source.gauss(y, 12), 0.0))
+    pairs = near(places, reach, is_globe=False)
+    return Network(nodes, [(v + 1, w + 1) for v, w in pairs])
 
 
 NETWORKS = {
-    "500 sites, 75 of 1,000 apart": lambda: kinds.disk(500, 0.075, 7),
-    "200 nodes, a twentieth of pairs": lambda: of_graph(
-        networkx.gnp_random_graph(200, 0.05, seed=7)
-    ),
-    "2,000 sites, 55 of 1,000 apart": lambda: kinds.disk(2000, 0.055, 1),
-    "queen 8x8": lambda: kinds.queen(8, 8),
-    "grid 50x50": lambda: kinds.grid(50, 50),
-    "tree of 1,000": lambda: kinds.tree(1000, 1),
-    "2,000 by preference, 5 each": lambda: of_graph(
-        networkx.barabasi_albert_graph(2000, 5, seed=1)
-    ),
+    "uniform500": lambda: kinds.disk(500, 0.091, 1),
+    "thin500": lambda: kinds.disk(500, 0.081, 2),
+    "towns500": lambda: towns(500, 24),
+    "uniform2000": lambda: kinds.disk(2000, 0.0552, 1),
+    "towns2000": lambda: towns(2000, 13),
+    "uniform20000": lambda: kinds.disk(20000, 0.01265, 1),
+    "dense20000": lambda: kinds.disk(20000, 0.018, 1),
+    "towns20000": lambda: towns(20000, 5.95),
+    "random200": lambda: kinds.any_edges(200, 993, 7),
+    "queen8x8": lambda: kinds.queen(8, 8),
+    "grid50x50": lambda: kinds.grid(50, 50),
+    "tree1000": lambda: kinds.tree(1000, 1),
 }
 
 
-def counts(network: Network) -> list[int]:
-    """The channels of the plan, of each pass, and of each greedy colouring."""
-    graph, plan = networkx.Graph(network.neighbours), colours(network)
-    found = [plan]
-    for sweep in range(max(PASSES)):
-        places = {colour: q for q, colour in enumerate(order(network.span, False, sweep))}
-        nodes = sorted(graph, key=lambda v: places[plan[v]])
-        plan = networkx.greedy_color(graph, lambda *_: nodes)
-        if sweep + 1 in PASSES:
-            found.append(plan)
-    found += [
-        networkx.greedy_color(graph, strategy)
-        for strategy in ("DSATUR", "smallest_last", "largest_first", lambda *_: sorted(graph))
-    ]
-    if any(channels[v] == channels[w] for channels in found for v, w in network.edges):
+# Those of networkx; its DSATUR looks at all nodes for each, so it isn't asked of large networks.
+STRATEGIES = ("smallest_last", "largest_first", "DSATUR")
+MOST = 2000
+
+
+def by_program(network, name, *words):
+    """The channel of each node by a program, in whose lines it is the last word."""
+    rows = programs.text_of(name, words, plain_text(network).encode()).splitlines()
+    return {v: int(row.split()[-1]) for v, row in zip(network.vertices, rows[-network.nodes :])}
+
+
+def cell(network, part, work, *given):
+    """How many channels a colouring has, and the seconds, by a part of what the system counts."""
+    begun = sum(os.times()[part])
+    found = work(*given)
+    seconds = sum(os.times()[part]) - begun
+    if any(found[v] == found[w] for v, w in network.edges):
         raise SystemExit("quality: a plan isn't proper")
-    return [max(channels.values()) + 1 for channels in found]
+    return f"{len(set(found.values()))} ({seconds:.2f})"
 
 
-def main() -> int:
-    summary, _, more = __doc__.partition("\n")
-    words = argparse.ArgumentParser(
-        description=summary, epilog=more, formatter_class=argparse.RawDescriptionHelpFormatter
-    )
-    words.parse_args()
-    print("|", " | ".join(HEADS), "|")
-    print("|---" * len(HEADS) + "|")
+def main():
+    if sys.argv[1:]:
+        raise SystemExit(__doc__)
+    ends = "forestplay", "ends", "--program", "recolouring", "--passes"
+    calls = {"plain": ("forestplan", "plain")}
+    calls |= {f"{passes} passes": (*ends, passes) for passes in PASSES}
+    print("network", "nodes", "edges", *calls, *STRATEGIES, sep=" | ")
     for name, make in NETWORKS.items():
         network = make()
-        most = network.greatest_degree
-        row = [name, network.nodes, len(network.edges), most, *counts(network)]
-        print("|", " | ".join(map(str, row)), "|", flush=True)
-    return 0
+        graph, row = networkx.Graph(network.neighbours), [name, network.nodes, len(network.edges)]
+        row += [cell(network, slice(2, 4), by_program, network, *call) for call in calls.values()]
+        for way in STRATEGIES:
+            if network.nodes <= MOST or way != "DSATUR":
+                row.append(cell(network, slice(2), networkx.greedy_color, graph, way))
+        print(*row, sep=" | ", flush=True)
 
 
 if __name__ == "__main__":
-    sys.exit(main())
+    main()
