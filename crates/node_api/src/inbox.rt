@@ -13,7 +13,6 @@ use std::marker::Model;
 
 /// What a node reads at a pulse: at most one payload a port, read by ascending port. Ports count from 0.
 /// Contracts see the payload or none at each port, and the port from which reading goes on.
-#[derive(Drop)]
 pub struct Inbox<T> {
     // The ports at which a payload is, with their count.
     marks: Marks,
@@ -23,6 +22,17 @@ pub struct Inbox<T> {
     // How many payloads have been read: those at ports before the cursor.
     read: u32,
     cursor: u32,
+}
+
+impl<T: Drop> Drop for Inbox<T> {
+    fn drop(self) {
+        let Inbox {
+            marks: _,
+            slots: _,
+            read: _,
+            cursor: _,
+        } = self;
+    }
 }
 
 impl<T> Model for Inbox<T> {
