@@ -13,7 +13,6 @@ use std::marker::Model;
 
 /// A network. Contracts see its `Net`: identifiers, neighbours and barred colours. What every network keeps is said by
 /// the clause `network` of the calls that read it.
-#[derive(Drop)]
 pub struct Network {
     pub(crate) ids: Vec<u128>,
     // Entry v - 1 is where the neighbours of v begin, entry v where they end.
@@ -26,6 +25,21 @@ pub struct Network {
     pub(crate) forest_count: u32,
     // How many times more a program that repeats itself does so.
     pub(crate) again: u8,
+}
+
+impl Drop for Network {
+    fn drop(self) {
+        let Network {
+            ids: _,
+            starts: _,
+            ports: _,
+            backs: _,
+            bars: _,
+            greatest_degree: _,
+            forest_count: _,
+            again: _,
+        } = self;
+    }
 }
 
 impl Model for Network {
@@ -81,10 +95,11 @@ impl Network {
     }
 
     /// The same network, for programs that repeat themselves `again` times more.
-    pub fn repeating(self, again: u8) -> Network
+    pub fn repeating(mut self, again: u8) -> Network
         ensures { result ≡ repeated again self }
     {
-        Network { again, ..self }
+        self.again = again;
+        self
     }
 
     /// The identifier of vertex `v`.
