@@ -8,3 +8,13 @@ pub struct LinkName {
     pub vertex: u32,
     pub port: u32,
 }
+
+impl Drop for LinkName {
+    fn drop(self) {
+        let LinkName {
+            network: _,
+            vertex: _,
+            port: _,
+        } = self;
+    }
+}
