@@ -29,9 +29,14 @@ use wires::{Stamped, Wire};
 
 /// A bounded, lock-free, directed link of the program `P`: wires that one end puts, the other takes in the same order.
 /// It lives outside the scope of the threads that use it.
-#[derive(Drop)]
 pub struct Link<P: NodeProgram> {
     queue: RuledArrayQueue<Queued<P::Payload>, EndView<P::Payload>, LinkRule<P>>,
+}
+
+impl<P: NodeProgram> Drop for Link<P> {
+    fn drop(self) {
+        let Link { queue: _ } = self;
+    }
 }
 
 /// The ends, as they were, if memory for what is held was refused.

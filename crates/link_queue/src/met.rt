@@ -13,10 +13,15 @@ use wires::Stamped;
 pub struct Full<W>(pub W);
 
 /// What was on a link when its ends met: the wires put and not taken, oldest first, each with its stamp.
-#[derive(Drop)]
 pub struct Met<T> {
     held: Vec<Stamped<T>>,
     pass: Pass<Queued<T>, EndView<T>>,
+}
+
+impl<T: Drop> Drop for Met<T> {
+    fn drop(self) {
+        let Met { held: _, pass: _ } = self;
+    }
 }
 
 impl<T> Met<T> {

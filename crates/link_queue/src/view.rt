@@ -13,3 +13,15 @@ pub struct EndView<T> {
     pub put: LinkedList<Stamped<T>>,
     pub taken: LinkedList<Stamped<T>>,
 }
+
+impl<T: Drop> Drop for EndView<T> {
+    fn drop(self) {
+        let EndView {
+            name: _,
+            puts: _,
+            takes: _,
+            put: _,
+            taken: _,
+        } = self;
+    }
+}
