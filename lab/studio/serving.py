@@ -61,7 +61,7 @@ class Server(socketserver.ForkingMixIn, http.server.HTTPServer):
     max_children, request_queue_size, block_on_close = MOST_AT_ONCE, 32, False
 
     def __init__(self, port, token, folder):
-        self.token, self.building = token, Building(folder)
+        self.token, self.building, self.process = token, Building(folder), os.getpid()
         super().__init__((HOST, port), Handler)
 
     def service_actions(self):
@@ -209,7 +209,7 @@ class Handler(http.server.BaseHTTPRequestHandler):
             return self.refuse(400, "A call is an object in JSON.")
         self.headed(200, "application/x-ndjson")
         answer = Answer(self)
-        with limited(self.connection, lambda why: answer.line(wrong=why)):
+        with limited(self, lambda why: answer.line(wrong=why)):
             found = outcome(calls.CALLS[name], asked, answer.tell)
         return answer.line(**found)
 
@@ -231,8 +231,8 @@ def outcome(call, asked, tell):
 
 
 @contextlib.contextmanager
-def limited(connection, say):
-    """This process gets its limits, and ends if the browser hangs up or time is up."""
+def limited(handler, say):
+    """This process gets its limits, and ends if the browser hangs up, the server ends or time is up."""
     os.setpgid(0, 0)
     signal.signal(signal.SIGINT, signal.SIG_IGN)
     signal.pthread_sigmask(signal.SIG_UNBLOCK, {signal.SIGINT})
@@ -247,23 +247,23 @@ def limited(connection, say):
     ):
         resource.setrlimit(what, (most, most))
     done = threading.Event()
-    threading.Thread(target=watch, args=(connection, done, say, os.getppid()), daemon=True).start()
+    threading.Thread(target=watch, args=(handler, done, say), daemon=True).start()
     try:
         yield
     finally:
         done.set()
 
 
-def watch(connection, done, say, parent):
+def watch(handler, done, say):
     """Ends this process, and what it has started, when nobody waits for it any more."""
-    until = time.monotonic() + SECONDS
+    connection, until = handler.connection, time.monotonic() + SECONDS
     while not done.wait(0.1):
         is_late = time.monotonic() > until
         if is_late:
             with contextlib.suppress(OSError):
                 say(f"it took more than {SECONDS} seconds, so it was ended")
                 connection.shutdown(socket.SHUT_RDWR)
-        if is_late or has_hung_up(connection) or os.getppid() != parent:
+        if is_late or has_hung_up(connection) or os.getppid() != handler.server.process:
             os.killpg(0, signal.SIGKILL)
 
 

@@ -11,6 +11,7 @@ import socket
 import subprocess
 import sys
 import threading
+from unittest import mock
 
 from lab.schedules.policies import POLICIES
 from tests import TOP
@@ -450,24 +451,34 @@ class Ends(Server):
     def setUp(self):
         # Three nodes of it take 45 seconds, in which nothing is written that could fail.
         self.words = ["--own", self.file("sleeps.py", OWN.format("time.sleep(15)"))]
+        # A server that is killed leaves its folder.
+        self.enterContext(mock.patch.dict(os.environ, TMPDIR=self.folder))
         super().setUp()
+
+    def slow_call(self, unsent=0):
+        body = json.dumps({"network": TRIANGLE, "program": "sleeps"})
+        end = self.asked("/call/rounds", body, Content_Length=len(body) + unsent)
+        self.addCleanup(end.close)
+        self.note("a call is under way", wait_until(self.calls, 20))
+        return end
 
     def test_ends(self):
         """A call ends with its browser, though it has nothing to write, and all with the server."""
-
-        def slow_call():
-            asked = {"network": TRIANGLE, "program": "sleeps"}
-            end = self.asked("/call/rounds", json.dumps(asked))
-            wait_until(self.calls, 20)
-            return end
-
-        end = slow_call()
-        self.same("a call is under way", len(self.calls()), 1)
-        end.close()
+        self.slow_call().close()
         self.note("it ends with its browser", wait_until(lambda: not self.calls(), 20))
-        end = slow_call()
+        self.slow_call()
         self.interrupt("its calls")
-        end.close()
+
+    def test_killed(self):
+        """The calls of a server that is killed end by themselves, also one that isn't read yet."""
+        self.slow_call()
+        end = self.slow_call(unsent=1)
+        self.note("two calls", wait_until(lambda: len(self.calls()) == 2, 20))
+        started = self.calls()
+        self.process.kill()
+        self.process.wait()
+        end.send(b" ")
+        self.note("they end", wait_until(lambda: not any(map(is_running, started)), 20))
 
 
 class Unbuilt(Answers):
@@ -479,9 +490,8 @@ class Unbuilt(Answers):
         # In place of what proves: it says so, and builds nothing.
         self.file("tree/build/__main__.py", BUILDER)
         os.chmod(self.file("tree/bin/rt", ""), 0o755)
-        path = os.environ["PATH"]
-        os.environ["PATH"] = os.path.join(self.top, "bin") + os.pathsep + path
-        self.addCleanup(os.environ.__setitem__, "PATH", path)
+        path = os.path.join(self.top, "bin") + os.pathsep + os.environ["PATH"]
+        self.enterContext(mock.patch.dict(os.environ, PATH=path))
         super().setUp()
 
     def test_build(self):
