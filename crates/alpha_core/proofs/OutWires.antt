@@ -1,8 +1,7 @@
 -- An out-list from its wires and their payloads, and how a count of long ones moves.
-use Rattle.std.proofs.Common.{◌≡◌, ℕ, suc, zero, ◌<◌, ◌≤◌, ◌+◌, Bool, true, false, List, [], ◌∷◌, ◌++◌, length, get_or, set, refl, sym, ap, ◌∙◌, arith, ⊎_elim}
+use Rattle.std.proofs.Common.{◌≡◌, ℕ, suc, ◌<◌, ◌≤◌, ◌+◌, Bool, true, false, List, [], ◌∷◌, ◌++◌, length, get_or, refl, sym, ap, ◌∙◌, arith, ⊎_elim}
 use Rattle.std.proofs.Common.{cond, ne_eqb, drop}
 use Rattle.std.specs.Prelude.{nat_eq, nat_lt}
-use Rattle.std.specs.List.{zip}
 use Rattle.std.proofs.lemmas.List.{length-append}
 use Rattle.std.proofs.lemmas.Bool.{cases_eq, cases_lt, eq-eqb, le-ltb, lt-ltb}
 use Rattle.wires.specs.declared.wire.Wire.{Wire}
@@ -11,19 +10,6 @@ use Rattle.alpha_core.specs.declared.bare.BareWire.{BareWire}
 use Rattle.alpha_core.specs.declared.bare.BareWire.TheVariants.{Payload, Ack, Safe, Close}
 use Rattle.alpha_core.specs.Rows.{is_over}
 use Rattle.alpha_core.specs.OutLists.{bare_of, payload_count, payload_of, payloads_in, payloads_out, wires_of}
-
--- An element of a list of any type.
-pub element-at : {X : Type 0} (xs : List X) (i : ℕ) → i < length xs → (x : X) × (x ≡ get_or xs i x)
-element-at [] i lt = absurd (omega arith)
-element-at (x ∷ xs) zero lt = (x, refl)
-element-at (x ∷ xs) (suc i) lt = element-at xs i (omega arith)
-
-pub zip-set : {A B : Type 0} (ks : List A) (vs : List B) (i : ℕ) (a : A) (b : B) → zip (set ks i a) (set vs i b) ≡ set (zip ks vs) i (a, b)
-zip-set [] vs i a b = refl
-zip-set (k ∷ ks) [] zero a b = refl
-zip-set (k ∷ ks) [] (suc i) a b = refl
-zip-set (k ∷ ks) (v ∷ vs) zero a b = refl
-zip-set (k ∷ ks) (v ∷ vs) (suc i) a b = ap (λ l. (k, v) ∷ l) (zip-set ks vs i a b)
 
 module _ {M : Type 0} where
   pub wires-length : (bares : List BareWire) (payloads : List M) → payloads_in bares ≡ length payloads → length (wires_of bares payloads) ≡ length bares

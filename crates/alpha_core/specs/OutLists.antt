@@ -1,6 +1,5 @@
--- An out-list whose payloads lie apart from its wires.
+-- An out-list whose payloads are kept apart from its wires.
 use Rattle.std.specs.Prelude.{⊤, ◌≡◌, ◌≤◌, ℕ, ◌+◌, Option, None, Some, List, [], ◌∷◌, All, count_by, length, map}
-use Rattle.std.specs.List.{zip}
 use Rattle.wires.specs.declared.wire.Wire.{Wire}
 use Rattle.wires.specs.declared.wire.Wire.TheVariants as wire
 use Rattle.alpha_core.specs.declared.bare.BareWire.{BareWire}
@@ -71,25 +70,24 @@ module _ {M : Type 0} where
   PayloadFits (wire.Safe pulse) n = ⊤
   PayloadFits wire.Close n = ⊤
 
--- Lists of wires without payloads, each in something of type X, and the payloads of each.
-module _ {X M : Type 0} (items : X → List BareWire) where
-  abbrev pub out_of : X × List M → List (Wire M)
-  out_of p = wires_of (items p.0) p.1
+-- Out-lists, each kept as something of type X that has wires without payloads, and their payloads.
+module _ {X M : Type 0} (bares : X → List BareWire) (payloads : X → List M) where
+  abbrev pub out_of : X → List (Wire M)
+  out_of x = wires_of (bares x) (payloads x)
 
-  abbrev pub outs_of : List X → List (List M) → List (List (Wire M))
-  outs_of ws ps = map out_of (zip ws ps)
+  abbrev pub outs_of : List X → List (List (Wire M))
+  outs_of xs = map out_of xs
 
   -- each payload that a port's wires should have is there
-  abbrev pub IsWhole : X × List M → Type 0
-  IsWhole p = payloads_in (items p.0) ≡ length p.1
+  abbrev pub IsWhole : X → Type 0
+  IsWhole x = payloads_in (bares x) ≡ length (payloads x)
 
   -- how many lists have more than so many wires
-  abbrev pub overs_of : ℕ → List X → List (List M) → ℕ
-  overs_of most ws ps = count_by (λ p. is_over most (out_of p)) (zip ws ps)
+  abbrev pub overs_of : ℕ → List X → ℕ
+  overs_of most xs = count_by (λ x. is_over most (out_of x)) xs
 
   -- The counts are of the lists without room for a wire more, and of those with a wire.
-  pub record AreOutLists (ws : List X) (ps : List (List M)) (full busy : ℕ) : Type 0 where
-    pub ports : length ps ≡ length ws
-    pub whole : All IsWhole (zip ws ps)
-    pub full_is : full ≡ overs_of 3 ws ps
-    pub busy_is : busy ≡ overs_of 0 ws ps
+  pub record AreOutLists (xs : List X) (full busy : ℕ) : Type 0 where
+    pub whole : All IsWhole xs
+    pub full_is : full ≡ overs_of 3 xs
+    pub busy_is : busy ≡ overs_of 0 xs

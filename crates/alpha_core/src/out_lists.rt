@@ -17,15 +17,21 @@ use wires::Wire;
 /// How many wires an out-list has room for.
 const ROOM: usize = 4;
 
+// The wires of a port: without their payloads, oldest first, and the payloads, as many as there are payload wires, in
+// their order.
+#[derive(Drop)]
+struct OutList<T> {
+    wires: ArrayVec<BareWire, ROOM>,
+    payloads: Payloads<T>,
+}
+
 /// A list of wires for each port, with room for four.
 #[derive(Drop)]
 pub(crate) struct OutLists<T> {
-    // The wires of each port without their payloads, oldest first.
-    wires: Vec<ArrayVec<BareWire, ROOM>>,
+    // By port, in one block of memory.
+    lists: Vec<OutList<T>>,
     // How many lists are full: so no question about all ports costs a walk.
     full: usize,
-    // The payloads of those wires: as many as there are payload wires, in their order.
-    payloads: Vec<Payloads<T>>,
     // How many lists have a wire. Beside `full`, both would be moved as a pair, which takes more instructions.
     busy: usize,
 }
@@ -37,9 +43,9 @@ impl<T> Model for OutLists<T> {
 
     ghost Value = { List (List (Wire T)) };
 
-    ghost view = { λ a. outs_of (λ v. v.items) a.wires.items a.payloads.items };
+    ghost view = { λ a. outs_of (λ x. x.wires.items) (λ x. x.payloads) a.lists.items };
 
-    ghost invariant = { λ a. AreOutLists (λ v. v.items) a.wires.items a.payloads.items a.full a.busy };
+    ghost invariant = { λ a. AreOutLists (λ x. x.wires.items) (λ x. x.payloads) a.lists.items a.full a.busy };
 }
 
 impl<T: Copy> OutLists<T> {
@@ -47,16 +53,15 @@ impl<T: Copy> OutLists<T> {
     pub(crate) fn new(alloc: Global, degree: u32) -> Result<OutLists<T>, Memory>
         ensures empty { IfOk result (λ outs. outs ≡ replicate degree []) }
     {
-        let mut wires = Vec::with_capacity(alloc, degree as usize)?;
-        let mut payloads = Vec::with_capacity(alloc, degree as usize)?;
+        let mut lists = Vec::with_capacity(alloc, degree as usize)?;
         for _port in 0..degree {
-            wires.push(ArrayVec::new())?;
-            payloads.push(Payloads::new())?;
+            let wires = ArrayVec::new();
+            let payloads = Payloads::new();
+            lists.push(OutList { wires, payloads })?;
         }
         Ok(OutLists {
-            wires,
+            lists,
             full: 0,
-            payloads,
             busy: 0,
         })
     }
@@ -80,7 +85,8 @@ impl<T: Copy> OutLists<T> {
         requires port { port < length self.now }
         ensures oldest { result ≡ slice_get (out_at self.now port) 0 }
     {
-        first_wire(&self.wires[port as usize], &self.payloads[port as usize])
+        let list = &self.lists[port as usize];
+        first_wire(&list.wires, &list.payloads)
     }
 
     /// Puts a wire last, where the port has at most three.
@@ -90,8 +96,9 @@ impl<T: Copy> OutLists<T> {
         requires payload { PayloadFits wire (payloads_out (out_at self.old port)) }
         ensures outs { self.new ≡ push_out self.old port wire }
     {
-        let count = push_last(&mut self.wires[port as usize], bare_of(&wire));
-        self.payloads[port as usize].push_of(wire);
+        let list = &mut self.lists[port as usize];
+        let count = push_last(&mut list.wires, bare_of(&wire));
+        list.payloads.push_of(wire);
         self.full += one_if(count == ROOM);
         self.busy += one_if(count < 2);
     }
@@ -103,10 +110,10 @@ impl<T: Copy> OutLists<T> {
         requires some { 0 < length (out_at self.old port) }
         ensures outs { self.new ≡ slice_set self.old port (drop 1 (out_at self.old port)) }
     {
-        let wires = &mut self.wires[port as usize];
-        let count = wires.len();
-        let bare = take_first(wires);
-        self.payloads[port as usize].pop_of(bare);
+        let list = &mut self.lists[port as usize];
+        let count = list.wires.len();
+        let bare = take_first(&mut list.wires);
+        list.payloads.pop_of(bare);
         self.full -= one_if(count == ROOM);
         self.busy -= one_if(count < 2);
     }
