@@ -19,7 +19,6 @@ type Takes = HashMap<(u32, u32), usize>;
 
 /// What rows of stamped entries say of the next row: its stamp, and that it may not come before any of them. A look
 /// takes the same time however many rows there are.
-#[derive(Drop)]
 pub struct StampTable {
     // The counter of each vertex that has a row.
     counters: HashMap<u32, u64>,
@@ -30,6 +29,18 @@ pub struct StampTable {
     // The last row, at the beginning 0 and 0.
     last_stamp: u64,
     last_vertex: u32,
+}
+
+impl Drop for StampTable {
+    fn drop(self) {
+        let StampTable {
+            counters: _,
+            puts: _,
+            takes: _,
+            last_stamp: _,
+            last_vertex: _,
+        } = self;
+    }
 }
 
 // Whether a stamp is one more than a number.
