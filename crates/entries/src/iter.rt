@@ -9,10 +9,18 @@ use crate::rows::StampedEntry;
 use std::marker::Model;
 
 /// The entries of an `Entries`, by value, seen as the list of those that are left.
-#[derive(Drop)]
 pub struct Iter<'a, T> {
     pub(crate) bares: BlockIter<'a, BareEntry>,
     pub(crate) payloads: &'a [T],
+}
+
+impl<'a, T> Drop for Iter<'a, T> {
+    fn drop(self) {
+        let Iter {
+            bares: _,
+            payloads: _,
+        } = self;
+    }
 }
 
 impl<'a, T> Model for Iter<'a, T> {
@@ -55,10 +63,18 @@ impl<'a, T: Copy> Iterator for Iter<'a, T> {
 }
 
 /// The entries of an `Entries` with their stamps, by value, seen as the list of those that are left.
-#[derive(Drop)]
 pub struct StampedIter<'a, T> {
     pub(crate) stamps: BlockIter<'a, u64>,
     pub(crate) entries: Iter<'a, T>,
+}
+
+impl<'a, T> Drop for StampedIter<'a, T> {
+    fn drop(self) {
+        let StampedIter {
+            stamps: _,
+            entries: _,
+        } = self;
+    }
 }
 
 impl<'a, T> Model for StampedIter<'a, T> {

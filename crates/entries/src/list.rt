@@ -14,13 +14,22 @@ use std::marker::Model;
 /// The entries of a node in its own order with their stamps, in 20 bytes each and the bytes of the payloads. Contracts
 /// see the list of entries, each with its stamp (`items`), and for how many more there is room, whatever their wires
 /// (`room`).
-#[derive(Drop)]
 pub struct Entries<T> {
     // The stamp of each entry.
     stamps: Blocks<u64>,
     bares: Blocks<BareEntry>,
     // The payloads of those that have one, in the same order.
     payloads: Vec<T>,
+}
+
+impl<T: Drop> Drop for Entries<T> {
+    fn drop(self) {
+        let Entries {
+            stamps: _,
+            bares: _,
+            payloads: _,
+        } = self;
+    }
 }
 
 impl<T> Model for Entries<T> {
