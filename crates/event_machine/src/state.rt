@@ -19,12 +19,21 @@ use wires::Wire;
 ///
 /// It keeps a copy of the network, each node, and of each direction of a link the wires put and how many of
 /// them were taken.
-#[derive(Drop)]
 pub struct NetState<P: NodeProgram> {
     pub(crate) net: Network,
     // Entry v - 1 is of vertex v.
     pub(crate) nodes: Vec<AlphaNode<P>>,
     pub(crate) links: Links<P::Payload>,
+}
+
+impl<P: NodeProgram> Drop for NetState<P> {
+    fn drop(self) {
+        let NetState {
+            net: _,
+            nodes: _,
+            links: _,
+        } = self;
+    }
 }
 
 impl<P: NodeProgram> Model for NetState<P> {
