@@ -11,11 +11,16 @@ use stamps::StampTable;
 ///
 /// `NetState` itself has no stamps: nodes come to one state in whatever order each made its own events, but not with
 /// the same stamps.
-#[derive(Drop)]
 pub struct StampedState<P: NodeProgram> {
     pub(crate) state: NetState<P>,
     // What the entries that lead to the state say of the next one. Only `replay_whole` puts the two together.
     pub(crate) table: StampTable,
+}
+
+impl<P: NodeProgram> Drop for StampedState<P> {
+    fn drop(self) {
+        let StampedState { state: _, table: _ } = self;
+    }
 }
 
 impl<P: NodeProgram> StampedState<P> {
