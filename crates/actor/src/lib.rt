@@ -40,7 +40,7 @@ mod wiring;
 pub use aside::{Aside, WhyAside};
 pub use gate::{Gate, OpenGate};
 pub use links::Links;
-pub use node::Node;
+pub use node::{Node, NodeParts};
 pub use refused::TurnRefused;
 pub use wired::{WiredPut, WiredTake};
 pub use wiring::Wiring;

@@ -21,11 +21,16 @@ use wires::Stamped;
 
 /// The links of a run, in one list, in which an end finds its link by the link's index. No clause says in which order
 /// they are.
-#[derive(Drop)]
 pub struct Links<J: Wiring, P: NodeProgram> {
     list: Vec<Link<P>>,
     of: PhantomData<J>,
     pub ghost are: { map table_of list.items ≡ J.links },
+}
+
+impl<J: Wiring, P: NodeProgram> Drop for Links<J, P> {
+    fn drop(self) {
+        let Links { list: _, of: _ } = self;
+    }
 }
 
 impl<J: Wiring, P: NodeProgram> Links<J, P> {
@@ -120,7 +125,8 @@ impl<J: Wiring, P: NodeProgram> Links<J, P> {
         ensures room { IfOk result (λ met. (capacity : ℕ)
             → HoldAtMost self.now capacity → length (held_stamped met) ≤ capacity) }
     {
-        match self.link(put.index).meet(rt, alloc, put.end, take.end) {
+        let link = self.link(put.index);
+        match link.meet(rt, alloc, put.into_end(), take.into_end()) {
             Ok(met) => Ok(met),
             Err(_) => Err(Memory),
         }

@@ -21,7 +21,6 @@ use node_api::NodeProgram;
 use std::alloc::Global;
 
 /// A node of a run, with the ends of its links by port. A node that has set a wire aside does nothing in a turn.
-#[derive(Drop)]
 pub struct Node<J: Wiring, P: NodeProgram> {
     pub vertex: u32,
     pub degree: u32,
@@ -41,6 +40,31 @@ pub struct Node<J: Wiring, P: NodeProgram> {
         recorder counter } by { Prim.hlevel (props, Follows-prop, Leads-prop, HasStamps-prop) },
     /// If it remembers that a turn was refused a stamp, it has come to the greatest.
     pub ghost remembers: { RemembersFull refusal counter aside },
+}
+
+impl<J: Wiring, P: NodeProgram> Drop for Node<J, P> {
+    fn drop(self) {
+        let Node {
+            vertex: _,
+            degree: _,
+            refusal: _,
+            counter: _,
+            puts: _,
+            takes: _,
+            alpha: _,
+            aside: _,
+            recorder: _,
+        } = self;
+    }
+}
+
+/// What is left of a node of a run when it ends: all but what its turns kept.
+pub struct NodeParts<J: Wiring, P: NodeProgram> {
+    pub vertex: u32,
+    pub puts: Vec<WiredPut<J, P::Payload>>,
+    pub takes: Vec<WiredTake<J, P::Payload>>,
+    pub alpha: AlphaNode<P>,
+    pub recorder: Recorder<P::Payload>,
 }
 
 impl<J: Wiring, P: NodeProgram> Node<J, P> {
@@ -88,5 +112,33 @@ impl<J: Wiring, P: NodeProgram> Node<J, P> {
         ensures refusal { result ≡ self.now.refusal }
     {
         self.refusal
+    }
+
+    /// The node taken apart.
+    pub fn into_parts(self) -> NodeParts<J, P>
+        ensures vertex { result.vertex ≡ self.vertex }
+        ensures puts { result.puts ≡ self.puts }
+        ensures takes { result.takes ≡ self.takes }
+        ensures alpha { result.alpha ≡ self.alpha }
+        ensures recorder { result.recorder ≡ self.recorder }
+    {
+        let Node {
+            vertex,
+            puts,
+            takes,
+            alpha,
+            recorder,
+            degree: _,
+            refusal: _,
+            counter: _,
+            aside: _,
+        } = self;
+        NodeParts {
+            vertex,
+            puts,
+            takes,
+            alpha,
+            recorder,
+        }
     }
 }

@@ -9,7 +9,6 @@ use link_queue::{PutSide, TakeSide};
 use std::marker::PhantomData;
 
 /// The end that puts, of the link out of a vertex (from 1) by a port (from 0), with the index of the link in `Links`.
-#[derive(Drop)]
 pub struct WiredPut<J: Wiring, T> {
     pub vertex: u32,
     pub port: u32,
@@ -21,7 +20,6 @@ pub struct WiredPut<J: Wiring, T> {
 }
 
 /// The end that takes, of the link out of a vertex (from 1) by a port (from 0), with the index of the link in `Links`.
-#[derive(Drop)]
 pub struct WiredTake<J: Wiring, T> {
     pub vertex: u32,
     pub port: u32,
@@ -30,6 +28,18 @@ pub struct WiredTake<J: Wiring, T> {
     of: PhantomData<J>,
     pub ghost place: { IsEndAt J.net J.tables vertex port end.pass.table_id (take_name end) },
     pub ghost link: { slice_get J.links index ≡ Some end.pass.table_id },
+}
+
+impl<J: Wiring, T: Drop> Drop for WiredPut<J, T> {
+    fn drop(self) {
+        let WiredPut {
+            vertex: _,
+            port: _,
+            index: _,
+            end: _,
+            of: _,
+        } = self;
+    }
 }
 
 impl<J: Wiring, T> WiredPut<J, T> {
@@ -48,6 +58,32 @@ impl<J: Wiring, T> WiredPut<J, T> {
             of: PhantomData,
         }
     }
+
+    // The end alone.
+    pub(crate) fn into_end(self) -> PutSide<T>
+        ensures end { result ≡ self.end }
+    {
+        let WiredPut {
+            vertex: _,
+            port: _,
+            index: _,
+            end,
+            of: _,
+        } = self;
+        end
+    }
+}
+
+impl<J: Wiring, T: Drop> Drop for WiredTake<J, T> {
+    fn drop(self) {
+        let WiredTake {
+            vertex: _,
+            port: _,
+            index: _,
+            end: _,
+            of: _,
+        } = self;
+    }
 }
 
 impl<J: Wiring, T> WiredTake<J, T> {
@@ -65,5 +101,19 @@ impl<J: Wiring, T> WiredTake<J, T> {
             end,
             of: PhantomData,
         }
+    }
+
+    // The end alone.
+    pub(crate) fn into_end(self) -> TakeSide<T>
+        ensures end { result ≡ self.end }
+    {
+        let WiredTake {
+            vertex: _,
+            port: _,
+            index: _,
+            end,
+            of: _,
+        } = self;
+        end
     }
 }

@@ -11,11 +11,19 @@ use node_api::NodeProgram;
 use std::marker::Model;
 
 /// What a run of workers leaves: every node, ascending by vertex, and every link with what it still holds.
-#[derive(Drop)]
 pub struct Outcome<P: NodeProgram> {
     pub(crate) actors: Vec<Actor<P>>,
     // Row v - 1 has the links out of vertex v, by port.
     pub(crate) links: Vec<Vec<Met<P::Payload>>>,
+}
+
+impl<P: NodeProgram> Drop for Outcome<P> {
+    fn drop(self) {
+        let Outcome {
+            actors: _,
+            links: _,
+        } = self;
+    }
 }
 
 impl<P: NodeProgram> Model for Outcome<P> {

@@ -4,14 +4,13 @@ ghost use Rattle.std.specs.Prelude.{◌≡◌, ◌≤◌, [], IfOk, map, vec_cap
 ghost use Rattle.entries.specs.Recorded.{entries_by};
 ghost use Rattle.port_rows.specs.Rows.{rows_of};
 
-use actor::{Node, WiredPut, WiredTake, Wiring};
+use actor::{Node, NodeParts, WiredPut, WiredTake, Wiring};
 use alpha_core::AlphaNode;
 use entries::Entries;
 use node_api::NodeProgram;
 use std::alloc::{AllocError, Global};
 
 /// A node after the run, with its vertex and its entries.
-#[derive(Drop)]
 pub struct Actor<P: NodeProgram> {
     // In a box, which takes the memory that the box of the node has just freed: a list of these values themselves would
     // take as much memory again as all nodes.
@@ -24,6 +23,12 @@ struct Left<P: NodeProgram> {
     vertex: u32,
     alpha: AlphaNode<P>,
     entries: Entries<P::Payload>,
+}
+
+impl<P: NodeProgram> Drop for Actor<P> {
+    fn drop(self) {
+        let Actor { left: _ } = self;
+    }
 }
 
 impl<P: NodeProgram> Actor<P> {
@@ -99,14 +104,13 @@ pub fn split_ends<J: Wiring, P: NodeProgram>(
 {
     let mut all = none_yet(alloc, nodes.len())?;
     for node in nodes {
-        let Node {
+        let NodeParts {
             vertex,
-            alpha,
             puts,
             takes,
+            alpha,
             recorder,
-            ..
-        } = Box::into_inner(node);
+        } = Box::into_inner(node).into_parts();
         let entries = recorder.into_entries(alloc);
         let left = Box::new(
             alloc,

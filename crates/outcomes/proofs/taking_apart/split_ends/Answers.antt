@@ -72,18 +72,22 @@ loop-node-preserved g c =
     let actors = c.push_reserved.ensures in
     let puts = c.push_reserved-in-loop-node.ensures in
     let takes = c.push_reserved-in-loop-node-2.ensures in
-    let out = c.into_inner-vertex.ensures in
+    let out = c.into_inner.ensures in
+    let parts = c.into_parts-vertex.ensures in
     let kept = c.in_ok-left.ensures.ok in
     record {
       room = (omega (arith, actors.capacity, inv.room.0), omega (arith, puts.capacity, inv.room.1), omega (arith, takes.capacity, inv.room.2));
       vertices = both_pushed (λ a. a.left.value.vertex) (λ b. b.value.vertex) _ _ yielded _ node actors.items
-          (ap (λ l. l.vertex) kept ∙ ap (λ n. n.vertex) out) inv.vertices;
+          (ap (λ l. l.vertex) kept ∙ parts.vertex ∙ ap (λ n. n.vertex) out) inv.vertices;
       alphas = both_pushed (λ a. a.left.value.alpha) (λ b. b.value.alpha) _ _ yielded _ node actors.items
-          (ap (λ l. l.alpha) kept ∙ ap (λ n. n.alpha) out) inv.alphas;
+          (ap (λ l. l.alpha) kept ∙ parts.alpha ∙ ap (λ n. n.alpha) out) inv.alphas;
       entries = both_pushed (λ a. a.left.value.entries.items) (λ b. entries_by b.value.recorder) _ _ yielded _ node actors.items
-          (ap (λ l. l.entries.items) kept ∙ c.into_entries-entries.ensures.entries ∙ ap (λ n. entries_by n.recorder) out) inv.entries;
-      puts = both_pushed (λ row. row.items) (λ b. b.value.puts.items) _ _ yielded _ node puts.items (ap (λ n. n.puts.items) out) inv.puts;
-      takes = both_pushed (λ row. row.items) (λ b. b.value.takes.items) _ _ yielded _ node takes.items (ap (λ n. n.takes.items) out) inv.takes;
+          (ap (λ l. l.entries.items) kept ∙ c.into_entries-entries.ensures.entries ∙ ap entries_by parts.recorder
+          ∙ ap (λ n. entries_by n.recorder) out) inv.entries;
+      puts = both_pushed (λ row. row.items) (λ b. b.value.puts.items) _ _ yielded _ node puts.items
+          (ap (λ p. p.items) parts.puts ∙ ap (λ n. n.puts.items) out) inv.puts;
+      takes = both_pushed (λ row. row.items) (λ b. b.value.takes.items) _ _ yielded _ node takes.items
+          (ap (λ p. p.items) parts.takes ∙ ap (λ n. n.takes.items) out) inv.takes;
     }
 
 pub returns : goal.returns
