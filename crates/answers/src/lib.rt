@@ -2,8 +2,8 @@
 //! report of each fault of any command.
 //!
 //! `byte_functions` has the commands that run worker threads, and `play_answers` those of events, replays and rounds,
-//! which only `forestplay` has. `serving` calls `forest_bytes`, `plain_bytes` or `check_bytes` for a command, and
-//! `fault_report` if one fails.
+//! which only `forestplay` has. `plan_commands` calls `forest_bytes`, `plain_bytes` or `check_bytes` for a command, and
+//! `serving` calls `fault_report` if one fails.
 //!
 //! ```
 //! let text = b"p edge 3 3\ne 1 2\ne 1 3\ne 2 3\n";

@@ -2,7 +2,7 @@
 //! to the bytes of an answer. It names no stream, no command line and no system, so that a test or another program
 //! calls the same functions. The functions of all other commands are in `answers`, which needs no thread.
 //!
-//! `serving` calls `plan_bytes` or `transcript_bytes` for a command, and `play_commands` calls `run_bytes` or
+//! `plan_commands` calls `plan_bytes` or `transcript_bytes` for a command, and `play_commands` calls `run_bytes` or
 //! `run_transcript_bytes`, which are for any program of nodes.
 //!
 //! ```

@@ -1,7 +1,7 @@
 //! The command lines of `forestplan` and `forestplay`: which words ask for what, and what `clap` says of the others.
 //!
-//! `serving` calls `parse` with the words that `forestplan` was started with, its own name first, and `play_commands`
-//! calls `parse_play` with those of `forestplay`. No type of `clap` crosses this boundary.
+//! `plan_commands` calls `parse` with the words that `forestplan` was started with, its own name first, and
+//! `play_commands` calls `parse_play` with those of `forestplay`. No type of `clap` crosses this boundary.
 //!
 //! ```
 //! match parse(alloc, &["forestplan", "plain"]) {

@@ -9,7 +9,8 @@
 //! and which status comes, for all words and every input. The type of `main` says that it ends with this status.
 #![tactic(auto)]
 
-use serving::{ForestplanCommands, Served, arguments, serve_words};
+use plan_commands::ForestplanCommands;
+use serving::{Served, arguments, serve_words};
 use std::rt::{Stderr, Stdin, Stdout};
 
 fn main(rt: HostRuntime) -> Served<ForestplanCommands, Stdin, Stdout, Stderr> {

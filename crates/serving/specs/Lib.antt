@@ -1,4 +1,3 @@
 pub mod CommandSet
-pub mod Answers
 pub mod Streams
 pub mod Serve

@@ -1,9 +1,9 @@
 //! Serving one command of an executable: from the words of the command line and the input to what is written and the
 //! status, over a source and two sinks of the caller's.
 //!
-//! What the commands of an executable are is its `Commands`. Those of `forestplan` are here, and those of `forestplay`
-//! in `play_commands`. Each program calls `serve_words` with the words and the streams that the system gives, and ends
-//! with the `Served` that it returns.
+//! What the commands of an executable are is its `Commands`. Those of `forestplan` are in `plan_commands`, and those of
+//! `forestplay` in `play_commands`. Each program calls `serve_words` with the words and the streams that the system
+//! gives, and ends with the `Served` that it returns.
 //!
 //! ```
 //! let mut input: &[u8] = b"p edge 2 1\ne 1 2\n";
@@ -20,14 +20,12 @@
 //! `forestplan: stream` with status 4.
 #![tactic(auto)]
 
-mod answer;
 mod commands;
 mod process;
 mod served;
 mod serving;
 mod words;
 
-pub use answer::ForestplanCommands;
 pub use commands::Commands;
 pub use process::arguments;
 pub use served::{Served, serve_words};

@@ -1,10 +1,10 @@
 //! The commands of `forestplan`, and the answer of each to the bytes of its input.
 
-use crate::commands::Commands;
 use actor::OpenGate;
 use answers::{PlanFault, check_bytes, forest_bytes, plain_bytes};
 use byte_functions::{plan_bytes, transcript_bytes};
 use command_line::{Declined, Executable, Request, parse};
+use serving::Commands;
 use std::alloc::Global;
 use std::sync::Wait;
 use std::thread::Threads;
@@ -14,7 +14,7 @@ pub struct ForestplanCommands;
 
 impl Commands for ForestplanCommands {
     ghost use Rattle.command_line.specs.Asked.{IsInRange};
-    ghost use Rattle.serving.specs.Answers.{forestplan_commands};
+    ghost use Rattle.plan_commands.specs.Commands.{forestplan_commands};
 
     type Request = Request;
 

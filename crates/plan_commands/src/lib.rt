@@ -1,0 +1,11 @@
+//! What `forestplan` answers: each command's answer to the bytes of an input.
+//!
+//! `forestplan` calls `serve_words` of `serving` with `ForestplanCommands`. The example at the head of `serving` has
+//! them as well, over an input and outputs of the caller's.
+//!
+//! Limits: those of `answers` and `byte_functions`.
+#![tactic(auto)]
+
+mod answer;
+
+pub use answer::ForestplanCommands;
