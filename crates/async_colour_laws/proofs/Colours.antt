@@ -12,7 +12,7 @@ use Rattle.colour_laws.proofs.Coloured.{are_colours}
 use Rattle.colour_laws.proofs.Forests.{has_forest, has_start}
 use Rattle.colour_laws.proofs.Rounds.{rounds_are_program}
 use Rattle.colour_laws.proofs.Starts.{colour_at_last}
-use Rattle.event_machine.proofs.KeptRuns.{reached_simulates}
+use Rattle.event_rule.proofs.KeptRuns.{reached_simulates}
 use Rattle.progress_laws.proofs.Maximal.{end_of}
 use Rattle.async_colour_laws.specs.Coloured.{HaltedAreColoured, HaltedOutcomesAreColoured, HaltedRunsAreColoured, MaximalRunsAreColoured}
 

@@ -6,7 +6,7 @@ use Rattle.graph_limits.specs.declared.limits.TheConstants.{MAX_BARS, MAX_CHANNE
 use Rattle.interference.specs.declared.limits.TheConstants.{MAX_DEGREE}
 use Rattle.node_api.specs.Program.{Program, last_pulse_on}
 use Rattle.alpha_core.specs.View.{is_drained}
-use Rattle.event_machine.specs.State.{State, node_of, link_at}
+use Rattle.event_rule.specs.State.{State, node_of, link_at}
 use Rattle.progress_laws.specs.Endings.{IsWholeState}
 use Rattle.async_colour_laws.specs.Small.{edge}
 

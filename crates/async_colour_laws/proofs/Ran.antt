@@ -6,7 +6,7 @@ use Rattle.node_api.specs.Program.{Program, last_pulse_on}
 use Rattle.node_api.specs.Laws.{IsProgram}
 use Rattle.alpha_core.specs.View.{is_drained}
 use Rattle.alpha_laws.proofs.Runs.{runs}
-use Rattle.event_machine.proofs.KeptRuns.{reached_kept}
+use Rattle.event_rule.proofs.KeptRuns.{reached_kept}
 use Rattle.progress_laws.specs.Endings.{IsWholeState}
 use Rattle.progress_laws.proofs.Deadlock.{whole_terminal}
 use Rattle.progress_laws.proofs.Maximal.{end_of}

@@ -10,9 +10,9 @@ use Rattle.colour_rules.specs.declared.payload.Payload.{Payload}
 use Rattle.colour_rules.specs.Node as colour
 use Rattle.colour_rules.specs.Program.{colouring}
 use Rattle.colour_laws.specs.Colours.{AreColours}
-use Rattle.event_machine.specs.declared.event.Event.{Event}
-use Rattle.event_machine.specs.State.{State, node_of}
-use Rattle.event_machine.specs.Step.{run}
+use Rattle.event_rule.specs.declared.event.Event.{Event}
+use Rattle.event_rule.specs.State.{State, node_of}
+use Rattle.event_rule.specs.Step.{run}
 use Rattle.progress_laws.specs.Endings.{IsTerminal}
 
 -- every node is at the last pulse

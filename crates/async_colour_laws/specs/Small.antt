@@ -2,9 +2,9 @@
 -- program that spreads the greatest identifier, with last pulse 1.
 use Rattle.std.specs.Prelude.{◌≡◌, IfOk, List, [], ◌∷◌, ◌++◌, map}
 use Rattle.interference.specs.Net.{Net}
-use Rattle.event_machine.specs.declared.event.Event.{Event}
-use Rattle.event_machine.specs.declared.event.Event.TheVariants.{Pulse, Put, Take}
-use Rattle.event_machine.specs.Step.{run}
+use Rattle.event_rule.specs.declared.event.Event.{Event}
+use Rattle.event_rule.specs.declared.event.Event.TheVariants.{Pulse, Put, Take}
+use Rattle.event_rule.specs.Step.{run}
 use Rattle.sync_rounds.specs.Spread.{spread}
 use Rattle.progress_laws.specs.Endings.{IsWholeState}
 

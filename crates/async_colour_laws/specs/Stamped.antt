@@ -3,8 +3,8 @@ use Rattle.std.specs.Prelude.{◌^◌, ◌<◌, ◌≤◌, All, List}
 use Rattle.interference.specs.Net.{Net}
 use Rattle.node_api.specs.Program.{Program, last_pulse_on}
 use Rattle.alpha_laws.specs.Counts.{events_of_run}
-use Rattle.event_machine.specs.State.{State}
-use Rattle.net_core.specs.Whole.{IsStampedReplay}
+use Rattle.event_rule.specs.State.{State}
+use Rattle.event_rule.specs.Whole.{IsStampedReplay}
 use Rattle.entries.specs.declared.rows.StampedRow.{StampedRow}
 
 -- No stamp of a stamped replay passes the number of events that a whole run has.

@@ -2,7 +2,7 @@
 use Rattle.std.specs.Prelude.{◌≡◌, ℕ, true, List, codes, flat_map, if◌then◌else◌, length, map}
 use Rattle.interference.specs.Net.{Net, IsNetwork, count_of}
 use Rattle.gather_laws.specs.Outcome.{Gathered, Outcome, IsOutcome, entries_in, is_whole}
-use Rattle.event_machine.specs.State.{State}
+use Rattle.event_rule.specs.State.{State}
 use Rattle.node_api.specs.Program.{Program}
 use Rattle.entries.specs.declared.rows.Row.{Row}
 use Rattle.program_texts.specs.Texts.{ProgramTexts}
@@ -12,7 +12,7 @@ use Rattle.answers.specs.Answers.{ReadsAs}
 use Rattle.answers.specs.Settings.{OfSet}
 use Rattle.answers.specs.declared.setting.Setting.{Setting}
 use Rattle.answers.specs.declared.setting.Setting.TheVariants.{AsRead}
-use Rattle.net_core.specs.Whole.{IsWholeReplay}
+use Rattle.event_rule.specs.Whole.{IsWholeReplay}
 use Rattle.run_options.specs.declared.Edition.{Edition}
 use Rattle.run_options.specs.declared.Edition.TheVariants as edition
 use Rattle.entries.specs.Rows.{vertex_row, bare_of}

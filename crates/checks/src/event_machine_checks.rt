@@ -7,7 +7,8 @@ ghost use Rattle.interference.specs.Net.{count_of, degree_of};
 
 use crate::net_core_checks::run_all;
 use crate::networks::edge;
-use event_machine::{Event, NetState, RunRefused, StepRefused};
+use event_machine::NetState;
+use event_rule::{Event, RunRefused, StepRefused};
 use interference::{Memory, Network};
 use std::alloc::Global;
 use sync_rounds::Greatest;

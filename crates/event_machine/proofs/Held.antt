@@ -11,18 +11,18 @@ use Rattle.alpha_core.specs.View.{Alpha, Node, port_at, can_pulse, can_take}
 use Rattle.alpha_core.specs.Alpha.{pulse, reaction, put_done}
 use Rattle.alpha_core.specs.Program.{start_node}
 use Rattle.alpha_laws.proofs.Runs.{runs}
-use Rattle.event_machine.specs.declared.event.Event.{Event}
-use Rattle.event_machine.specs.declared.event.Event.TheVariants.{Pulse, Put, Take}
-use Rattle.event_machine.specs.declared.refused.StepRefused.{StepRefused}
-use Rattle.event_machine.specs.declared.refused.StepRefused.TheVariants.{NotReady, NothingToPut, LinkEmpty, NoSuch}
-use Rattle.event_machine.specs.State.{Link, State, HasLink, node_of, link_at, link_to, set_node, set_link, set_link_to, state_in, take_one}
-use Rattle.event_machine.specs.Events.{Possible}
-use Rattle.event_machine.specs.Step.{else_old, after_put, after_take, step}
-use Rattle.event_machine.specs.Simulation.{IsSimulation, IsNetState}
-use Rattle.event_machine.proofs.Parts.{set-same, each-set}
-use Rattle.event_machine.proofs.NetKept.{NetKept, vertex_is, port_is}
-use Rattle.event_machine.proofs.KeptRuns.{reached_kept, reached_simulates}
-use Rattle.event_machine.proofs.Reached.{reached_step}
+use Rattle.event_rule.specs.declared.event.Event.{Event}
+use Rattle.event_rule.specs.declared.event.Event.TheVariants.{Pulse, Put, Take}
+use Rattle.event_rule.specs.declared.refused.StepRefused.{StepRefused}
+use Rattle.event_rule.specs.declared.refused.StepRefused.TheVariants.{NotReady, NothingToPut, LinkEmpty, NoSuch}
+use Rattle.event_rule.specs.State.{Link, State, HasLink, node_of, link_at, link_to, set_node, set_link, set_link_to, state_in, take_one}
+use Rattle.event_rule.specs.Events.{Possible}
+use Rattle.event_rule.specs.Step.{else_old, after_put, after_take, step}
+use Rattle.event_rule.specs.Simulation.{IsSimulation, IsNetState}
+use Rattle.event_rule.proofs.Parts.{set-same, each-set}
+use Rattle.event_rule.proofs.NetKept.{NetKept, vertex_is, port_is}
+use Rattle.event_rule.proofs.KeptRuns.{reached_kept, reached_simulates}
+use Rattle.event_rule.proofs.Reached.{reached_step}
 
 not_ok : {A B E : Type 0} (r : Result A E) (e : E) → IsOk r → r ≡ Err e → B
 not_ok (Ok x) e ok is = absurd cc

@@ -1,11 +1,3 @@
-pub mod Parts
 pub mod Refusing
-pub mod LinkTable
-pub mod NetKept
-pub mod KeptSteps
-pub mod KeptRuns
-pub mod Reached
-pub mod Stepping
-pub mod Exactly
 pub mod Held
 pub mod Started

@@ -4,10 +4,10 @@ use Rattle.std.specs.Prelude.{◌≢◌, if◌then◌else◌}
 use Rattle.interference.specs.Net.{Net}
 use Rattle.node_api.specs.Program.{Program, last_pulse_on}
 use Rattle.alpha_core.specs.View.{port_at, can_pulse}
-use Rattle.event_machine.specs.declared.event.Event.TheVariants.{Pulse, Put, Take}
-use Rattle.event_machine.specs.declared.refused.StepRefused.TheVariants.{NotReady, NothingToPut, LinkEmpty, NoSuch, Memory}
-use Rattle.event_machine.specs.State.{State, node_of, link_to}
-use Rattle.event_machine.specs.Step.{is_vertex, has_port, after_pulse, after_put, after_take, step}
+use Rattle.event_rule.specs.declared.event.Event.TheVariants.{Pulse, Put, Take}
+use Rattle.event_rule.specs.declared.refused.StepRefused.TheVariants.{NotReady, NothingToPut, LinkEmpty, NoSuch, Memory}
+use Rattle.event_rule.specs.State.{State, node_of, link_to}
+use Rattle.event_rule.specs.Step.{is_vertex, has_port, after_pulse, after_put, after_take, step}
 
 module _ {S M E : Type 0} (program : Program S M E) (net : Net) (state : State S M) (v : ℕ) where
   -- there is no such vertex

@@ -4,8 +4,8 @@ use Rattle.interference.specs.Net.{Net, IsNetwork, degree_of, vertices}
 use Rattle.node_api.specs.Program.{Program, last_pulse_on}
 use Rattle.alpha_core.specs.View.{Alpha, Node}
 use Rattle.alpha_core.specs.Program.{start_node}
-use Rattle.event_machine.specs.State.{Link, NetView, no_link, start, started_nodes, state_in}
-use Rattle.event_machine.specs.Simulation.{IsNetState}
+use Rattle.event_rule.specs.State.{Link, NetView, no_link, start, started_nodes, state_in}
+use Rattle.event_rule.specs.Simulation.{IsNetState}
 
 -- what a function gives has what it gives everywhere
 each-map : {X Y : Type 0} (P : Y → Type 0) (f : X → Y) → ((x : X) → P (f x)) → (xs : List X) (k : ℕ) (d : Y) → k < length (map f xs) → P (get_or (map f xs) k d)

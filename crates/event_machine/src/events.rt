@@ -1,15 +1,14 @@
 //! The events of a network.
 
 ghost use Rattle.std.specs.Prelude.{◌≡◌, ◌≢◌, IfErr, OnErr};
-ghost use Rattle.event_machine.specs.declared.event.Event.{Event};
-ghost use Rattle.event_machine.specs.declared.refused.StepRefused.{StepRefused};
-ghost use Rattle.event_machine.specs.Events.{NeedsMemory};
-ghost use Rattle.event_machine.specs.Simulation.{IsSimulation};
-ghost use Rattle.event_machine.specs.Step.{StepMatches, has_port, is_vertex};
+ghost use Rattle.event_rule.specs.declared.event.Event.{Event};
+ghost use Rattle.event_rule.specs.declared.refused.StepRefused.{StepRefused};
+ghost use Rattle.event_rule.specs.Events.{NeedsMemory};
+ghost use Rattle.event_rule.specs.Simulation.{IsSimulation};
+ghost use Rattle.event_rule.specs.Step.{StepMatches, has_port, is_vertex};
 
-use crate::event::Event;
-use crate::refused::StepRefused;
 use crate::state::NetState;
+use event_rule::{Event, StepRefused};
 use interference::Network;
 use node_api::NodeProgram;
 

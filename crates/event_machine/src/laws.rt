@@ -2,7 +2,7 @@
 
 ghost use Rattle.node_api.specs.Program.{Program};
 ghost use Rattle.alpha_laws.specs.Laws.{OnEveryNetwork};
-ghost use Rattle.event_machine.specs.Laws.{RunsAreExact, RunsSimulate, StepsAreExact};
+ghost use Rattle.event_rule.specs.Laws.{RunsAreExact, RunsSimulate, StepsAreExact};
 
 /// Whatever events come, in the state that they reach the nodes simulate the synchronous run: see
 /// `Simulates` of `alpha_laws`, whose fields are the words of this claim.

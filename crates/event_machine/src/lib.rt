@@ -4,8 +4,7 @@
 //! reach simulates the synchronous run of the program: that is a clause of `start` and `step`, and a law of `laws`.
 //! `net_core` has `run`, which makes a list of events.
 //!
-//! `specs/State.antt` has the state of a network. `specs/Step.antt` has its events as functions, and
-//! `specs/Events.antt` has them, and runs, as relations.
+//! `event_rule` has what events, states and runs are, as functions and as relations.
 //!
 //! ```text
 //! let mut state = NetState::<Colouring>::start(alloc, &network)?;
@@ -16,14 +15,10 @@
 //! Limits: those of `interference`.
 #![tactic(auto)]
 
-mod event;
 mod events;
 pub mod laws;
 mod links;
-mod refused;
 mod state;
 mod wire_list;
 
-pub use event::Event;
-pub use refused::{RunRefused, StepRefused};
 pub use state::NetState;

@@ -1,7 +1,7 @@
 //! All links of a network.
 
 ghost use Rattle.std.specs.Prelude.{◌≡◌, ◌<◌, IfOk, OnErr, length, replicate, slice_get};
-ghost use Rattle.event_machine.specs.State.{HasLink, empty_links, link_at, no_link, put_one, set_link, take_one};
+ghost use Rattle.event_rule.specs.State.{HasLink, empty_links, link_at, no_link, put_one, set_link, take_one};
 
 use crate::wire_list::Wires;
 use interference::{Memory, Network};
@@ -18,7 +18,7 @@ pub(crate) struct Links<T> {
 
 impl<T> Model for Links<T> {
     ghost use Rattle.std.specs.Prelude.{List, map};
-    ghost use Rattle.event_machine.specs.State.{Link};
+    ghost use Rattle.event_rule.specs.State.{Link};
 
     ghost Value = { List (List (Link T)) };
 

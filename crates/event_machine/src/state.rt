@@ -3,8 +3,8 @@
 ghost use Rattle.std.specs.Prelude.{◌≡◌, ◌<◌, IfOk, length};
 ghost use Rattle.interference.specs.Net.{IsNetwork, IsVertex, degree_of, vertices};
 ghost use Rattle.node_api.specs.Program.{last_pulse_on};
-ghost use Rattle.event_machine.specs.Simulation.{IsReachable, IsSimulation};
-ghost use Rattle.event_machine.specs.State.{link_at, node_of, start, started_nodes};
+ghost use Rattle.event_rule.specs.Simulation.{IsReachable, IsSimulation};
+ghost use Rattle.event_rule.specs.State.{link_at, node_of, start, started_nodes};
 
 use crate::links::Links;
 use alpha_core::AlphaNode;
@@ -37,8 +37,8 @@ impl<P: NodeProgram> Drop for NetState<P> {
 }
 
 impl<P: NodeProgram> Model for NetState<P> {
-    ghost use Rattle.event_machine.specs.State.{NetView, state_in};
-    ghost use Rattle.event_machine.specs.Simulation.{IsNetState};
+    ghost use Rattle.event_rule.specs.State.{NetView, state_in};
+    ghost use Rattle.event_rule.specs.Simulation.{IsNetState};
 
     ghost Value = { NetView P P.Payload };
 

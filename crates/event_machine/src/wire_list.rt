@@ -1,7 +1,7 @@
 //! One direction of a link.
 
 ghost use Rattle.std.specs.Prelude.{◌≡◌, ◌<◌, ◌++◌, ◌∷◌, [], IfOk, OnErr, length, slice_get};
-ghost use Rattle.event_machine.specs.State.{no_link, take_one};
+ghost use Rattle.event_rule.specs.State.{no_link, take_one};
 
 use interference::Memory;
 use std::alloc::Global;
@@ -18,7 +18,7 @@ pub(crate) struct Wires<T> {
 
 impl<T> Model for Wires<T> {
     ghost use Rattle.std.specs.Prelude.{◌≤◌, drop, length, take};
-    ghost use Rattle.event_machine.specs.State.{Link};
+    ghost use Rattle.event_rule.specs.State.{Link};
 
     ghost Value = { Link T };
 

@@ -3,13 +3,13 @@ use Rattle.std.proofs.Common.{◌≡◌, ◌≢◌, ◌+◌, ◌<◌, ◌∙◌,
 use Rattle.std.proofs.lemmas.List.{map-append}
 use Rattle.interference.specs.Net.{Net}
 use Rattle.node_api.specs.Program.{Program}
-use Rattle.event_machine.specs.declared.event.Event.{Event}
-use Rattle.event_machine.specs.declared.refused.StepRefused.{StepRefused}
-use Rattle.event_machine.specs.declared.refused.StepRefused.TheVariants as step_refused
-use Rattle.event_machine.specs.State.{State}
-use Rattle.event_machine.specs.Step.{run, step}
-use Rattle.event_machine.proofs.Parts.{take-split}
-use Rattle.event_machine.proofs.Reached.{run_push}
+use Rattle.event_rule.specs.declared.event.Event.{Event}
+use Rattle.event_rule.specs.declared.refused.StepRefused.{StepRefused}
+use Rattle.event_rule.specs.declared.refused.StepRefused.TheVariants as step_refused
+use Rattle.event_rule.specs.State.{State}
+use Rattle.event_rule.specs.Step.{run, step}
+use Rattle.event_rule.proofs.Parts.{take-split}
+use Rattle.event_rule.proofs.Reached.{run_push}
 use Rattle.event_texts.specs.Played.{IsFaultOfRun, IsFaultOfStep, IsRefusal, IsRefusalOfStep, events_in, fault_with}
 use Rattle.event_texts.specs.Reading.{Script}
 use Rattle.run_faults.specs.declared.events.EventFault.{EventFault}

@@ -1,7 +1,7 @@
 -- What is known after one more line of events.
 use Rattle.std.proofs.Common.{◌≡◌, ◌+◌, ◌++◌, ◌∷◌, [], ◌∙◌, ℕ, Option, Some, None, Result, Ok, Err, List, true, false, ap, refl, sym}
 use Rattle.dimacs_col.specs.Lines.{Line}
-use Rattle.event_machine.specs.declared.event.Event.{Event}
+use Rattle.event_rule.specs.declared.event.Event.{Event}
 use Rattle.event_texts.specs.EventLines.{event_of}
 use Rattle.event_texts.specs.Reader.{IsFaultOfReading, IsLineFault}
 use Rattle.event_texts.specs.Reading.{Script, is_passed_word, known_after, read_from}

@@ -7,7 +7,7 @@ use Rattle.std.specs.List.{filter}
 use Rattle.std.specs.Str.{bytes_eq}
 use Rattle.dimacs_col.specs.Kinds.{is_comment}
 use Rattle.dimacs_col.specs.Lines.{Line}
-use Rattle.event_machine.specs.declared.event.Event.{Event}
+use Rattle.event_rule.specs.declared.event.Event.{Event}
 use Rattle.event_texts.specs.EventLines.{event_of, is_event_word}
 use Rattle.event_texts.specs.Reading.{Script, from_first, is_written, known_after, numbered, read_from, read_row, rows_of}
 use Rattle.event_texts.proofs.Readings.{known-blank, known-event, known-passed, known-wrong, read-one, then_read}

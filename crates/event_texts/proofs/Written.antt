@@ -7,7 +7,7 @@ use Rattle.std.proofs.lemmas.List.{get_or_default}
 use Rattle.std.proofs.lemmas.List.Concat.{flat_map-append}
 use Rattle.interference.specs.Net.{Net}
 use Rattle.alpha_core.specs.View.{View, is_halted}
-use Rattle.event_machine.proofs.Parts.{take-split}
+use Rattle.event_rule.proofs.Parts.{take-split}
 use Rattle.event_texts.specs.Missing.{lack_text, lacking, last_text, pulse_text, safe_words}
 use Rattle.event_texts.specs.declared.missing.Lack.TheVariants.{Ack, Safe}
 use Rattle.number_rows.proofs.Ranges.{behind}

@@ -6,10 +6,10 @@ use Rattle.interference.specs.Net.{Net, degree_of, neighbour_of}
 use Rattle.node_api.specs.Program.{Program, last_pulse_on}
 use Rattle.alpha_core.specs.View.{Port, View, is_halted, port_at}
 use Rattle.wires.specs.declared.wire.Wire.{Wire}
-use Rattle.event_machine.specs.declared.event.Event.{Event}
-use Rattle.event_machine.specs.declared.event.Event.TheVariants.{Pulse, Put, Take}
-use Rattle.event_machine.specs.State.{State, link_to, node_of}
-use Rattle.event_machine.specs.Step.{has_port, is_vertex}
+use Rattle.event_rule.specs.declared.event.Event.{Event}
+use Rattle.event_rule.specs.declared.event.Event.TheVariants.{Pulse, Put, Take}
+use Rattle.event_rule.specs.State.{State, link_to, node_of}
+use Rattle.event_rule.specs.Step.{has_port, is_vertex}
 use Rattle.event_texts.specs.declared.missing.Lack.{Lack}
 use Rattle.event_texts.specs.declared.missing.Lack.TheVariants.{Ack, Safe}
 use Rattle.number_rows.specs.Row.{numbered}

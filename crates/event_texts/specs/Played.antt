@@ -4,11 +4,11 @@ use Rattle.std.specs.declared.vec.Vec.{Vec}
 use Rattle.std.specs.declared.alloc.Global.{Global}
 use Rattle.interference.specs.Net.{Net}
 use Rattle.node_api.specs.Program.{Program}
-use Rattle.event_machine.specs.declared.event.Event.{Event}
-use Rattle.event_machine.specs.declared.refused.StepRefused.{StepRefused}
-use Rattle.event_machine.specs.declared.refused.StepRefused.TheVariants as step_refused
-use Rattle.event_machine.specs.State.{State}
-use Rattle.event_machine.specs.Step.{run, step}
+use Rattle.event_rule.specs.declared.event.Event.{Event}
+use Rattle.event_rule.specs.declared.refused.StepRefused.{StepRefused}
+use Rattle.event_rule.specs.declared.refused.StepRefused.TheVariants as step_refused
+use Rattle.event_rule.specs.State.{State}
+use Rattle.event_rule.specs.Step.{run, step}
 use Rattle.event_texts.specs.Missing.{missing_text}
 use Rattle.event_texts.specs.Reading.{Script}
 use Rattle.run_faults.specs.declared.events.EventFault.{EventFault}

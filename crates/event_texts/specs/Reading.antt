@@ -3,7 +3,7 @@ use Rattle.std.specs.Prelude.{◌≡◌, ℕ, ◌+◌, Bool, false, true, not, i
 use Rattle.std.specs.Prelude.{Result, Ok, Err, List, [], ◌∷◌, ◌++◌, filter, map}
 use Rattle.dimacs_col.specs.Kinds.{is_comment}
 use Rattle.dimacs_col.specs.Lines.{Line}
-use Rattle.event_machine.specs.declared.event.Event.{Event}
+use Rattle.event_rule.specs.declared.event.Event.{Event}
 use Rattle.event_texts.specs.EventLines.{begins_event, event_of, is_event_word}
 
 -- events, each behind the number of its line

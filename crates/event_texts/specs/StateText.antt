@@ -4,7 +4,7 @@ use Rattle.std.specs.List.{range_with_len}
 use Rattle.interference.specs.Net.{Net, degree_of, neighbour_of, vertices}
 use Rattle.node_api.specs.Program.{Program, last_pulse_on}
 use Rattle.alpha_core.specs.View.{Node, is_halted}
-use Rattle.event_machine.specs.State.{Link, State, link_at, node_of}
+use Rattle.event_rule.specs.State.{Link, State, link_at, node_of}
 use Rattle.program_texts.specs.Texts.{ProgramTexts}
 use Rattle.number_rows.specs.Row.{numbered}
 use Rattle.program_texts.specs.PayloadTexts.{PayloadTexts}

@@ -4,7 +4,7 @@ ghost use Rattle.std.specs.Prelude.{◌≡◌};
 ghost use Rattle.event_texts.specs.EventLines.{event_with, is_event_word, one_number, two_numbers};
 
 use dimacs_col::Fields;
-use event_machine::Event;
+use event_rule::Event;
 
 /// Whether a word begins an event.
 pub(crate) fn is_event_word(word: &[u8]) -> bool

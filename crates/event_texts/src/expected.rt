@@ -5,7 +5,8 @@ ghost use Rattle.event_texts.specs.Missing.{expected_text, expected_wire};
 ghost use Rattle.program_texts.specs.PayloadTexts.{payload_texts};
 
 use crate::missing::{has_port, is_vertex};
-use event_machine::{Event, NetState};
+use event_machine::NetState;
+use event_rule::Event;
 use node_api::{NodeProgram, PayloadText};
 use number_rows::push_numbered;
 use program_texts::push_wire;

@@ -4,13 +4,14 @@ ghost use Rattle.std.specs.Prelude.{◌≡◌, ◌<◌, ◌++◌, IfOk, length};
 ghost use Rattle.interference.specs.Net.{IsVertex, degree_of};
 ghost use Rattle.node_api.specs.Program.{last_pulse_on};
 ghost use Rattle.alpha_core.specs.View.{port_at};
-ghost use Rattle.event_machine.specs.State.{node_of};
-ghost use Rattle.event_machine.specs.Step.{has_port, is_vertex};
+ghost use Rattle.event_rule.specs.State.{node_of};
+ghost use Rattle.event_rule.specs.Step.{has_port, is_vertex};
 ghost use Rattle.event_texts.specs.Missing.{before_name, lack_text, lacking, lacking_at, lacks, last_text};
 ghost use Rattle.event_texts.specs.Missing.{missing_text, name_text, names_text, pulse_text};
 
 use alpha_core::AlphaNode;
-use event_machine::{Event, NetState};
+use event_machine::NetState;
+use event_rule::Event;
 use interference::Network;
 use node_api::NodeProgram;
 use number_rows::push_numbered;

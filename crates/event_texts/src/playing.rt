@@ -2,10 +2,11 @@
 
 ghost use Rattle.std.specs.Prelude.{◌≡◌, IfOk, IfErr, Ok};
 ghost use Rattle.event_texts.specs.Played.{IsFaultOfRun, IsFaultOfStep, events_in};
-ghost use Rattle.event_machine.specs.Step.{run};
+ghost use Rattle.event_rule.specs.Step.{run};
 
 use crate::missing::missing_words;
-use event_machine::{Event, NetState, StepRefused};
+use event_machine::NetState;
+use event_rule::{Event, StepRefused};
 use interference::Network;
 use node_api::NodeProgram;
 use run_faults::EventFault;

@@ -7,7 +7,7 @@ ghost use Rattle.event_texts.specs.Reading.{is_passed_word, known_after, script_
 
 use crate::event_line::{event_with, is_event_word};
 use dimacs_col::{Fields, Lines};
-use event_machine::Event;
+use event_rule::Event;
 use run_faults::EventFault;
 use std::alloc::Global;
 

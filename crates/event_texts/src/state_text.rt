@@ -3,7 +3,7 @@
 ghost use Rattle.std.specs.Prelude.{◌≡◌, ◌++◌, ◌<◌, IfOk, flat_map};
 ghost use Rattle.interference.specs.Net.{IsVertex, degree_of, neighbour_of};
 ghost use Rattle.node_api.specs.Program.{last_pulse_on};
-ghost use Rattle.event_machine.specs.State.{link_at, node_of};
+ghost use Rattle.event_rule.specs.State.{link_at, node_of};
 ghost use Rattle.event_texts.specs.StateText.{link_text, links_text, node_text, state_text};
 ghost use Rattle.program_texts.specs.PayloadTexts.{payload_texts};
 ghost use Rattle.program_texts.specs.WireText.{wire_text};

@@ -17,7 +17,7 @@ use Rattle.entries.specs.declared.entry.Entry.{Entry}
 use Rattle.entries.specs.declared.entry.Entry.TheVariants.{Pulse, Put, Take}
 use Rattle.entries.specs.Rows.{stamped_entry, stamped_row, bare_of}
 use Rattle.actor.specs.Written.{Leads, takes_in}
-use Rattle.event_machine.specs.State.{State, node_of}
+use Rattle.event_rule.specs.State.{State, node_of}
 use Rattle.wires.specs.declared.stamped.Stamped.{Stamped}
 use Rattle.wires.specs.StampedWires.{stamped, stamps_of, wires_of}
 use Rattle.entries.specs.declared.rows.StampedEntry.{StampedEntry}
@@ -25,7 +25,7 @@ use Rattle.stamps.specs.Stamps.{counter_of, next_stamp, put_in, taken_in}
 use Rattle.stamps.specs.Keeps.{came_to}
 use Rattle.entries.specs.declared.rows.StampedRow.{StampedRow}
 use Rattle.stamps.specs.Merged.{AreOrdered, AreStampedRows, IsMerge, Precedes, entries_at, puts_at, stamp_behind}
-use Rattle.net_core.specs.Whole.{IsStampedReplay, IsWholeReplay}
+use Rattle.event_rule.specs.Whole.{IsStampedReplay, IsWholeReplay}
 use Rattle.stamps.proofs.Appends.{not_above, puts_append, rest_ordered}
 use Rattle.stamps.proofs.Lists.{entry_here, none_or_one, puts_are}
 use Rattle.stamps.proofs.Unique.{entries_append}

@@ -19,7 +19,7 @@ use Rattle.wires.specs.declared.stamped.Stamped.{Stamped}
 use Rattle.wires.specs.StampedWires.{stamped, stamps_of, wires_of}
 use Rattle.alpha_laws.specs.Counts.{events_of_run}
 use Rattle.alpha_laws.proofs.Runs.{runs}
-use Rattle.event_machine.specs.State.{State}
+use Rattle.event_rule.specs.State.{State}
 use Rattle.progress_laws.proofs.Maximal.{bounded}
 use Rattle.entries.specs.declared.entry.Entry.{Entry}
 use Rattle.entries.specs.declared.entry.Entry.TheVariants.{Pulse, Put, Take}
@@ -31,8 +31,8 @@ use Rattle.stamps.specs.Stamps.{AreStamped, counter_from, counter_of, next_stamp
 use Rattle.stamps.specs.Merged.{IsMerge, entries_at}
 use Rattle.stamps.proofs.Lists.{none_or_one}
 use Rattle.stamps.proofs.Local.{taken_more}
-use Rattle.net_core.specs.Whole.{IsStampedReplay}
-use Rattle.net_core.proofs.WholeReplays.{stamps-within-events}
+use Rattle.event_rule.specs.Whole.{IsStampedReplay}
+use Rattle.event_rule.proofs.Counted.{stamps-within-events}
 use Rattle.actor.specs.Written.{Leads, takes_in}
 use Rattle.actor.proofs.StampedEntries.{wires_taken}
 use Rattle.gather_laws.specs.Fits.{AreWithin, HaveMetAside}
@@ -80,7 +80,7 @@ pub stamps_within : {S M E : Type 0} (program : Program S M E) → IsProgram pro
     (last : State S M) → IsStampedReplay program net rows last → All (λ row. row.stamp ≤ events_of_run program net) rows
 stamps_within program laws net ok rows last is k d lt =
     let most = bounded ok (runs program laws net ok) is.replay.events last is.replay.is_run in
-    let stamp = stamps-within-events program net ok rows last is k d lt in
+    let stamp = stamps-within-events program net rows last is k d lt in
     omega (arith, most, stamp)
 
 module _ {S M E : Type 0} (program : Program S M E) (laws : IsProgram program) (net : Net) (ok : IsNetwork net) (nodes : ℕ → Node S M) (counters : ℕ → ℕ)

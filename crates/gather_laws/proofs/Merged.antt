@@ -5,8 +5,8 @@ use Rattle.node_api.specs.Program.{Program, last_pulse_on}
 use Rattle.wires.specs.declared.stamped.Stamped.{Stamped}
 use Rattle.wires.specs.StampedWires.{wires_of}
 use Rattle.alpha_core.specs.View.{is_drained}
-use Rattle.event_machine.specs.State.{State, node_of}
-use Rattle.net_core.specs.Whole.{IsStampedReplay, IsWholeReplay}
+use Rattle.event_rule.specs.State.{State, node_of}
+use Rattle.event_rule.specs.Whole.{IsStampedReplay, IsWholeReplay}
 use Rattle.entries.specs.declared.rows.StampedRow.{StampedRow}
 use Rattle.stamps.specs.Merged.{IsMerge}
 use Rattle.gather_laws.specs.MergedRuns.{HaveMet, IsReplayTo}

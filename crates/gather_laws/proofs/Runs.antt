@@ -11,9 +11,9 @@ use Rattle.alpha_core.specs.View.{Node}
 use Rattle.alpha_core.specs.Program.{start_node}
 use Rattle.alpha_laws.proofs.Across.{over}
 use Rattle.actor.specs.Written.{Leads, takes_in}
-use Rattle.event_machine.specs.State.{Link, State, link_at, no_link, start}
-use Rattle.event_machine.specs.Step.{go_on, run_from, step}
-use Rattle.net_core.specs.Rows.{event_of, if_made, rows_from}
+use Rattle.event_rule.specs.State.{Link, State, link_at, no_link, start}
+use Rattle.event_rule.specs.Step.{go_on, run_from, step}
+use Rattle.event_rule.specs.Rows.{event_of, if_made, rows_from}
 use Rattle.wires.specs.StampedWires.{wires_of}
 use Rattle.entries.specs.Rows.{without_stamp, bare_of}
 use Rattle.entries.specs.declared.rows.StampedEntry.{StampedEntry}

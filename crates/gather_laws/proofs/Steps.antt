@@ -17,14 +17,14 @@ use Rattle.entries.specs.declared.entry.Entry.{Entry}
 use Rattle.entries.specs.declared.entry.Entry.TheVariants.{Pulse, Put, Take}
 use Rattle.entries.specs.Rows.{stamped_row, vertex_row, without_stamp, bare_of}
 use Rattle.actor.specs.Written.{Leads}
-use Rattle.event_machine.specs.State.{Link, State, link_at, node_of, set_link, set_link_to, set_node}
-use Rattle.event_machine.specs.Step.{after_put, after_take, else_old, step}
-use Rattle.event_machine.proofs.LinkTable.{link_same, link_other, rows_kept, row_kept}
-use Rattle.event_machine.proofs.NetKept.{port_is, vertex_is}
-use Rattle.event_machine.proofs.Parts.{first-some}
+use Rattle.event_rule.specs.State.{Link, State, link_at, node_of, set_link, set_link_to, set_node}
+use Rattle.event_rule.specs.Step.{after_put, after_take, else_old, step}
+use Rattle.event_rule.proofs.LinkTable.{link_same, link_other, rows_kept, row_kept}
+use Rattle.event_rule.proofs.NetKept.{port_is, vertex_is}
+use Rattle.event_rule.proofs.Parts.{first-some}
 use Rattle.entries.specs.declared.rows.Row.{Row}
-use Rattle.net_core.specs.Rows.{event_of, row_of}
-use Rattle.net_core.proofs.Writes.{row-is}
+use Rattle.event_rule.specs.Rows.{event_of, row_of}
+use Rattle.event_rule.proofs.Writes.{row-is}
 use Rattle.wires.specs.declared.stamped.Stamped.{Stamped}
 use Rattle.wires.specs.StampedWires.{stamped, wires_of}
 use Rattle.stamps.specs.Stamps.{Carries}

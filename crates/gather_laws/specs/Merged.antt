@@ -2,8 +2,8 @@
 use Rattle.std.specs.Prelude.{◌≡◌, ℕ, true, List}
 use Rattle.interference.specs.Net.{Net, IsVertex, count_of}
 use Rattle.node_api.specs.Program.{Program}
-use Rattle.event_machine.specs.State.{State, node_of}
-use Rattle.net_core.specs.Whole.{IsWholeReplay}
+use Rattle.event_rule.specs.State.{State, node_of}
+use Rattle.event_rule.specs.Whole.{IsWholeReplay}
 use Rattle.entries.specs.declared.rows.StampedRow.{StampedRow}
 use Rattle.stamps.specs.Merged.{IsMerge}
 use Rattle.gather_laws.specs.Outcome.{Outcome, IsOutcome, entries_in, is_whole, node_in}

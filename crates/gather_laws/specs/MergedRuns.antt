@@ -5,11 +5,11 @@ use Rattle.node_api.specs.Program.{Program, last_pulse_on}
 use Rattle.alpha_core.specs.View.{Node, is_drained}
 use Rattle.wires.specs.declared.stamped.Stamped.{Stamped}
 use Rattle.actor.specs.Written.{IsWritten}
-use Rattle.event_machine.specs.declared.event.Event.{Event}
-use Rattle.event_machine.specs.State.{Link, State, link_at, node_of, sent_of}
-use Rattle.event_machine.specs.Step.{run}
-use Rattle.net_core.specs.Replays.{IsReplay}
-use Rattle.net_core.specs.Whole.{IsStampedReplay, IsWholeReplay}
+use Rattle.event_rule.specs.declared.event.Event.{Event}
+use Rattle.event_rule.specs.State.{Link, State, link_at, node_of, sent_of}
+use Rattle.event_rule.specs.Step.{run}
+use Rattle.event_rule.specs.Replays.{IsReplay}
+use Rattle.event_rule.specs.Whole.{IsStampedReplay, IsWholeReplay}
 use Rattle.stamps.specs.Keeps.{KeepsStamps}
 use Rattle.entries.specs.declared.rows.StampedRow.{StampedRow}
 use Rattle.stamps.specs.Merged.{IsMerge, rows_in}

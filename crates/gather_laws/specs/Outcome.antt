@@ -15,8 +15,8 @@ use Rattle.stamps.specs.Merged.{IsMerge}
 use Rattle.stamps.specs.Stamps.{Carries, Rises, put_in, taken_in}
 use Rattle.entries.specs.declared.rows.StampedEntry.{StampedEntry}
 use Rattle.entries.specs.Rows.{bare_of}
-use Rattle.event_machine.specs.State.{Link}
-use Rattle.net_core.specs.Whole.{IsStampedReplay}
+use Rattle.event_rule.specs.State.{Link}
+use Rattle.event_rule.specs.Whole.{IsStampedReplay}
 use Rattle.gather_laws.specs.MergedRuns.{IsReplayTo, IsRunTo}
 
 -- One direction of a link after the run: all that was put on it, what was taken from it, and what it still holds, each

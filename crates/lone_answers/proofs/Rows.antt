@@ -4,7 +4,7 @@ use Rattle.std.proofs.Common.{List, [], ◌∷◌, ◌++◌, append-nil, get_or,
 use Rattle.std.specs.List.{flat_map}
 use Rattle.std.proofs.lemmas.List.{get_or_default}
 use Rattle.std.proofs.lemmas.List.Concat.{flat_map-append}
-use Rattle.event_machine.proofs.Parts.{take-split}
+use Rattle.event_rule.proofs.Parts.{take-split}
 use Rattle.number_rows.proofs.Ranges.{behind}
 
 pub at_end : (i end n : ℕ) → i ≤ end → end ≤ i → end ≡ n → i ≡ n

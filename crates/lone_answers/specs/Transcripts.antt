@@ -3,8 +3,8 @@ use Rattle.std.specs.Prelude.{◌≡◌, ℕ, List}
 use Rattle.interference.specs.Net.{Net, IsNetwork, count_of}
 use Rattle.node_api.specs.Program.{Program}
 use Rattle.entries.specs.declared.rows.StampedRow.{StampedRow}
-use Rattle.event_machine.specs.State.{State}
-use Rattle.net_core.specs.Whole.{IsWholeReplay}
+use Rattle.event_rule.specs.State.{State}
+use Rattle.event_rule.specs.Whole.{IsWholeReplay}
 use Rattle.program_texts.specs.Texts.{ProgramTexts}
 use Rattle.transcripts.specs.TranscriptText.{stamped_row_text, text_of}
 use Rattle.program_texts.specs.PayloadTexts.{PayloadTexts}

@@ -2,7 +2,7 @@
 
 ghost use Rattle.std.specs.Prelude.{◌≡◌, ◌++◌, IfOk, IfErr, flat_map};
 ghost use Rattle.interference.specs.Net.{IsVertex, vertices};
-ghost use Rattle.event_machine.specs.State.{node_of};
+ghost use Rattle.event_rule.specs.State.{node_of};
 ghost use Rattle.answers.specs.Answers.{IsFaultOfText};
 ghost use Rattle.byte_functions.specs.Ends.{IsEndsAnswer, node_end};
 

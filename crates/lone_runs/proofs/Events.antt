@@ -10,15 +10,15 @@ use Rattle.node_api.specs.Laws.{IsProgram}
 use Rattle.alpha_laws.specs.Counts.{events_of_run}
 use Rattle.alpha_laws.specs.Progress.{HasEnded}
 use Rattle.alpha_laws.proofs.Runs.{runs}
-use Rattle.event_machine.specs.declared.event.Event.{Event}
-use Rattle.event_machine.specs.declared.event.Event.TheVariants.{Pulse, Put, Take}
-use Rattle.event_machine.specs.declared.refused.StepRefused.{StepRefused}
-use Rattle.event_machine.specs.State.{NetView, State, start, node_of, link_at, sent_of}
-use Rattle.event_machine.specs.Simulation.{IsReachable}
-use Rattle.event_machine.specs.Step.{step, run}
-use Rattle.event_machine.specs.Events.{Possible, Steps, IsRunFrom}
-use Rattle.event_machine.proofs.Exactly.{runs-exactly, steps-exactly}
-use Rattle.event_machine.proofs.KeptRuns.{reached_kept}
+use Rattle.event_rule.specs.declared.event.Event.{Event}
+use Rattle.event_rule.specs.declared.event.Event.TheVariants.{Pulse, Put, Take}
+use Rattle.event_rule.specs.declared.refused.StepRefused.{StepRefused}
+use Rattle.event_rule.specs.State.{NetView, State, start, node_of, link_at, sent_of}
+use Rattle.event_rule.specs.Simulation.{IsReachable}
+use Rattle.event_rule.specs.Step.{step, run}
+use Rattle.event_rule.specs.Events.{Possible, Steps, IsRunFrom}
+use Rattle.event_rule.proofs.Exactly.{runs-exactly, steps-exactly}
+use Rattle.event_rule.proofs.KeptRuns.{reached_kept}
 use Rattle.progress_laws.specs.Commute.{vertex_of}
 use Rattle.progress_laws.specs.Endings.{IsTerminal, IsWholeState}
 use Rattle.progress_laws.specs.Laws.{events_in}

@@ -7,13 +7,13 @@ use Rattle.interference.specs.Net.{Net, IsNetwork, IsVertex}
 use Rattle.node_api.specs.Program.{Program}
 use Rattle.alpha_laws.specs.Counts.{events_of_run}
 use Rattle.alpha_laws.proofs.Runs.{Runs}
-use Rattle.event_machine.specs.declared.event.Event.{Event}
-use Rattle.event_machine.specs.declared.event.Event.TheVariants.{Pulse, Put, Take}
-use Rattle.event_machine.specs.State.{State, start}
-use Rattle.event_machine.specs.Step.{run}
-use Rattle.event_machine.specs.Events.{IsRunFrom, Possible}
-use Rattle.event_machine.proofs.Exactly.{runs-exactly}
-use Rattle.event_machine.proofs.KeptRuns.{reached_kept}
+use Rattle.event_rule.specs.declared.event.Event.{Event}
+use Rattle.event_rule.specs.declared.event.Event.TheVariants.{Pulse, Put, Take}
+use Rattle.event_rule.specs.State.{State, start}
+use Rattle.event_rule.specs.Step.{run}
+use Rattle.event_rule.specs.Events.{IsRunFrom, Possible}
+use Rattle.event_rule.proofs.Exactly.{runs-exactly}
+use Rattle.event_rule.proofs.KeptRuns.{reached_kept}
 use Rattle.progress_laws.specs.Commute.{vertex_of}
 use Rattle.progress_laws.specs.Endings.{IsTerminal}
 use Rattle.progress_laws.specs.Laws.{IsEnd}

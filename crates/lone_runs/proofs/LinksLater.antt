@@ -16,13 +16,13 @@ use Rattle.entries.specs.declared.entry.Entry.{Entry}
 use Rattle.entries.specs.declared.entry.Entry.TheVariants as entry
 use Rattle.entries.specs.declared.rows.Row.{Row}
 use Rattle.entries.specs.declared.rows.StampedRow.{StampedRow}
-use Rattle.event_machine.specs.declared.event.Event.{Event}
-use Rattle.event_machine.specs.declared.event.Event.TheVariants.{Pulse, Put, Take}
-use Rattle.event_machine.specs.State.{Link, State, link_at, link_to, node_of, set_link, set_node, sent_of}
-use Rattle.event_machine.specs.Events.{Possible, Ready, Steps}
-use Rattle.event_machine.proofs.LinkTable.{link_other, link_same}
-use Rattle.event_machine.proofs.NetKept.{NetKept}
-use Rattle.net_core.specs.Rows.{next_wire, row_of}
+use Rattle.event_rule.specs.declared.event.Event.{Event}
+use Rattle.event_rule.specs.declared.event.Event.TheVariants.{Pulse, Put, Take}
+use Rattle.event_rule.specs.State.{Link, State, link_at, link_to, node_of, set_link, set_node, sent_of}
+use Rattle.event_rule.specs.Events.{Possible, Ready, Steps}
+use Rattle.event_rule.proofs.LinkTable.{link_other, link_same}
+use Rattle.event_rule.proofs.NetKept.{NetKept}
+use Rattle.event_rule.specs.Rows.{next_wire, row_of}
 use Rattle.progress_laws.specs.Commute.{vertex_of}
 use Rattle.stamps.specs.Merged.{entries_at, puts_at, stamp_behind, takes_at}
 use Rattle.stamps.specs.Stamps.{counter_of, next_stamp, taken_in}

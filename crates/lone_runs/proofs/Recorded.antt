@@ -6,11 +6,11 @@ use Rattle.interference.specs.Net.{Net}
 use Rattle.node_api.specs.Program.{Program}
 use Rattle.entries.specs.Rows.{without_stamp}
 use Rattle.entries.specs.declared.rows.StampedRow.{StampedRow}
-use Rattle.event_machine.specs.declared.event.Event.{Event}
-use Rattle.event_machine.specs.State.{State}
-use Rattle.event_machine.specs.Step.{step}
-use Rattle.net_core.specs.Rows.{event_of, row_of}
-use Rattle.net_core.specs.Whole.{IsStampedReplay}
+use Rattle.event_rule.specs.declared.event.Event.{Event}
+use Rattle.event_rule.specs.State.{State}
+use Rattle.event_rule.specs.Step.{step}
+use Rattle.event_rule.specs.Rows.{event_of, row_of}
+use Rattle.event_rule.specs.Whole.{IsStampedReplay}
 use Rattle.net_core.proofs.WholeReplays.{stamped-next}
 use Rattle.progress_laws.specs.Endings.{IsWholeState}
 use Rattle.stamps.specs.Merged.{IsInPlace}

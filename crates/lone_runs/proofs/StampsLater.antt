@@ -11,8 +11,8 @@ use Rattle.entries.specs.Rows.{stamped_entry, stamped_row, without_vertex}
 use Rattle.entries.specs.declared.entry.Entry.{Entry}
 use Rattle.entries.specs.declared.entry.Entry.TheVariants as entry
 use Rattle.entries.specs.declared.rows.StampedRow.{StampedRow}
-use Rattle.event_machine.specs.declared.event.Event.{Event}
-use Rattle.event_machine.specs.declared.event.Event.TheVariants.{Pulse, Put, Take}
+use Rattle.event_rule.specs.declared.event.Event.{Event}
+use Rattle.event_rule.specs.declared.event.Event.TheVariants.{Pulse, Put, Take}
 use Rattle.progress_laws.specs.Commute.{vertex_of}
 use Rattle.stamps.specs.Merged.{entries_at, puts_at, takes_at}
 use Rattle.stamps.specs.Stamps.{counter_from, counter_of, taken_in}

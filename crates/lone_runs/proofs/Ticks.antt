@@ -14,14 +14,14 @@ use Rattle.entries.specs.Rows.{stamped_row}
 use Rattle.entries.specs.declared.entry.Entry.{Entry}
 use Rattle.entries.specs.declared.entry.Entry.TheVariants as entry
 use Rattle.entries.specs.declared.rows.StampedRow.{StampedRow}
-use Rattle.event_machine.specs.declared.event.Event.{Event}
-use Rattle.event_machine.specs.declared.event.Event.TheVariants.{Pulse, Put, Take}
-use Rattle.event_machine.specs.State.{Link, NetView, State, link_at, no_link, start}
-use Rattle.event_machine.specs.Events.{Possible, Steps}
-use Rattle.event_machine.specs.Simulation.{IsReachable}
-use Rattle.event_machine.specs.Step.{step}
-use Rattle.event_machine.proofs.Exactly.{steps-exactly}
-use Rattle.event_machine.proofs.KeptRuns.{reached_kept}
+use Rattle.event_rule.specs.declared.event.Event.{Event}
+use Rattle.event_rule.specs.declared.event.Event.TheVariants.{Pulse, Put, Take}
+use Rattle.event_rule.specs.State.{Link, NetView, State, link_at, no_link, start}
+use Rattle.event_rule.specs.Events.{Possible, Steps}
+use Rattle.event_rule.specs.Simulation.{IsReachable}
+use Rattle.event_rule.specs.Step.{step}
+use Rattle.event_rule.proofs.Exactly.{steps-exactly}
+use Rattle.event_rule.proofs.KeptRuns.{reached_kept}
 use Rattle.progress_laws.specs.Commute.{vertex_of}
 use Rattle.progress_laws.specs.Endings.{IsTerminal}
 use Rattle.stamps.specs.Merged.{IsInPlace, Precedes}

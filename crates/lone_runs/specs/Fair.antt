@@ -3,10 +3,10 @@ use Rattle.std.specs.Prelude.{◌≡◌, ◌≤◌, ℕ, List, [], ◌∷◌, Al
 use Rattle.interference.specs.Net.{Net, IsVertex}
 use Rattle.node_api.specs.Program.{Program}
 use Rattle.alpha_laws.specs.Counts.{events_of_run}
-use Rattle.event_machine.specs.declared.event.Event.{Event}
-use Rattle.event_machine.specs.State.{State, start}
-use Rattle.event_machine.specs.Step.{run}
-use Rattle.event_machine.specs.Events.{IsRunFrom, Possible}
+use Rattle.event_rule.specs.declared.event.Event.{Event}
+use Rattle.event_rule.specs.State.{State, start}
+use Rattle.event_rule.specs.Step.{run}
+use Rattle.event_rule.specs.Events.{IsRunFrom, Possible}
 use Rattle.progress_laws.specs.Commute.{vertex_of}
 use Rattle.progress_laws.specs.Laws.{IsEnd}
 

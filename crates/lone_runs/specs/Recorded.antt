@@ -3,8 +3,8 @@ use Rattle.std.specs.Prelude.{List}
 use Rattle.interference.specs.Net.{Net}
 use Rattle.node_api.specs.Program.{Program}
 use Rattle.entries.specs.declared.rows.StampedRow.{StampedRow}
-use Rattle.event_machine.specs.State.{NetView, State}
-use Rattle.net_core.specs.Whole.{IsStampedReplay, IsWholeReplay}
+use Rattle.event_rule.specs.State.{NetView, State}
+use Rattle.event_rule.specs.Whole.{IsStampedReplay, IsWholeReplay}
 use Rattle.stamps.specs.Table.{IsTableOf}
 use Rattle.stamps.specs.declared.table.StampTable.{StampTable}
 

@@ -6,10 +6,10 @@ use Rattle.wires.specs.StampedWires.{stamps_of}
 use Rattle.entries.specs.declared.entry.Entry.TheVariants as entry
 use Rattle.entries.specs.declared.rows.StampedRow.{StampedRow}
 use Rattle.entries.specs.Rows.{stamped_row}
-use Rattle.event_machine.specs.declared.event.Event.{Event}
-use Rattle.event_machine.specs.declared.event.Event.TheVariants.{Pulse, Put, Take}
-use Rattle.event_machine.specs.State.{NetView, State, link_at}
-use Rattle.event_machine.specs.Events.{Possible}
+use Rattle.event_rule.specs.declared.event.Event.{Event}
+use Rattle.event_rule.specs.declared.event.Event.TheVariants.{Pulse, Put, Take}
+use Rattle.event_rule.specs.State.{NetView, State, link_at}
+use Rattle.event_rule.specs.Events.{Possible}
 use Rattle.progress_laws.specs.Commute.{vertex_of}
 use Rattle.stamps.specs.Stamps.{counter_of, taken_in}
 use Rattle.stamps.specs.Merged.{Precedes, entries_at, puts_at, takes_at}

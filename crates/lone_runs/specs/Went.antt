@@ -1,7 +1,7 @@
 -- What events in a row lead to, and whether there was one.
 use Rattle.std.specs.Prelude.{◌≡◌, ◌<◌, Bool, true, false}
 use Rattle.node_api.specs.Program.{Program}
-use Rattle.event_machine.specs.State.{NetView}
+use Rattle.event_rule.specs.State.{NetView}
 use Rattle.progress_laws.specs.Laws.{events_in}
 
 -- Events, of which there was one or more if `did`, lead from a state to another: it shows more events then, and else it

@@ -4,17 +4,18 @@ ghost use Rattle.std.specs.Prelude.{◌≡◌, ◌≢◌, ◌≤◌, ◌||◌, f
 ghost use Rattle.interference.specs.Net.{IsVertex};
 ghost use Rattle.alpha_laws.specs.Counts.{events_of_run};
 ghost use Rattle.alpha_laws.specs.Progress.{HasEnded};
-ghost use Rattle.event_machine.specs.declared.event.Event.{Event};
-ghost use Rattle.event_machine.specs.declared.refused.StepRefused.{StepRefused};
-ghost use Rattle.event_machine.specs.Events.{Possible};
-ghost use Rattle.event_machine.specs.Step.{step};
-ghost use Rattle.event_machine.specs.State.{link_at, node_of, sent_of};
+ghost use Rattle.event_rule.specs.declared.event.Event.{Event};
+ghost use Rattle.event_rule.specs.declared.refused.StepRefused.{StepRefused};
+ghost use Rattle.event_rule.specs.Events.{Possible};
+ghost use Rattle.event_rule.specs.Step.{step};
+ghost use Rattle.event_rule.specs.State.{link_at, node_of, sent_of};
 ghost use Rattle.progress_laws.specs.Commute.{vertex_of};
 ghost use Rattle.progress_laws.specs.Endings.{IsTerminal, IsWholeState};
 ghost use Rattle.progress_laws.specs.Laws.{events_in};
 ghost use Rattle.lone_runs.specs.Went.{Went};
 
-use event_machine::{Event, NetState, StepRefused};
+use event_machine::NetState;
+use event_rule::{Event, StepRefused};
 use interference::{Memory, Network};
 use node_api::NodeProgram;
 use std::alloc::Global;

@@ -10,22 +10,23 @@ use Rattle.wires.specs.declared.wire.Wire.{Wire}
 use Rattle.alpha_core.specs.View.{port_at}
 use Rattle.entries.specs.declared.entry.Entry.TheVariants as entry
 use Rattle.entries.specs.Rows.{vertex_row}
-use Rattle.event_machine.specs.declared.event.Event.{Event}
-use Rattle.event_machine.specs.declared.event.Event.TheVariants.{Pulse, Put, Take}
-use Rattle.event_machine.specs.declared.refused.StepRefused.{StepRefused}
-use Rattle.event_machine.specs.declared.refused.RunRefused.TheVariants as run
-use Rattle.event_machine.specs.declared.refused.StepRefused.TheVariants.{LinkEmpty, Memory, NoSuch, NotReady, NothingToPut}
-use Rattle.event_machine.specs.State.{State, link_to, node_of, start}
-use Rattle.event_machine.specs.Step.{go_on, has_port, run_from, step}
-use Rattle.event_machine.proofs.NetKept.{port_from}
+use Rattle.event_rule.specs.declared.event.Event.{Event}
+use Rattle.event_rule.specs.declared.event.Event.TheVariants.{Pulse, Put, Take}
+use Rattle.event_rule.specs.declared.refused.StepRefused.{StepRefused}
+use Rattle.event_rule.specs.declared.refused.RunRefused.TheVariants as run
+use Rattle.event_rule.specs.declared.refused.StepRefused.TheVariants.{LinkEmpty, Memory, NoSuch, NotReady, NothingToPut}
+use Rattle.event_rule.specs.State.{State, link_to, node_of, start}
+use Rattle.event_rule.specs.Step.{go_on, has_port, run_from, step}
+use Rattle.event_rule.proofs.NetKept.{port_from}
 use Rattle.net_core.specs.declared.refused.EntryRefused.{EntryRefused}
 use Rattle.net_core.specs.declared.refused.EntryRefused.TheVariants.{Step, WrongWire}
 use Rattle.net_core.specs.declared.refused.ReplayRefused.{ReplayRefused}
 use Rattle.net_core.specs.declared.refused.ReplayRefused.TheVariants as replay
 use Rattle.net_core.specs.Laws.{ReplaysAreExact}
-use Rattle.net_core.specs.Replays.{IsReplay, Stops, WhyNot, at_entry}
+use Rattle.event_rule.specs.Replays.{IsReplay}
+use Rattle.net_core.specs.Replays.{Stops, WhyNot, at_entry}
 use Rattle.entries.specs.declared.rows.Row.{Row}
-use Rattle.net_core.specs.Rows.{event_of, if_made, row_of, rows_from}
+use Rattle.event_rule.specs.Rows.{event_of, if_made, row_of, rows_from}
 
 head-is : {A : Type 0} (x y : A) (xs ys : List A) → x ∷ xs ≡ y ∷ ys → x ≡ y
 head-is x y xs ys e = cc

@@ -5,4 +5,3 @@ pub mod Replayed
 pub mod WholeReplays
 pub mod Decided
 pub mod Ones
-pub mod Counted

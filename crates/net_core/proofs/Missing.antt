@@ -3,16 +3,16 @@ use Rattle.std.proofs.Common.{◌≡◌, false, Result, Ok, Err, subst, sym}
 use Rattle.std.specs.Result.{IfErr, IsErrAnd}
 use Rattle.interference.specs.Net.{Net}
 use Rattle.node_api.specs.Program.{Program}
-use Rattle.event_machine.specs.declared.event.Event.{Event}
-use Rattle.event_machine.specs.declared.event.Event.TheVariants.{Pulse, Put, Take}
-use Rattle.event_machine.specs.declared.refused.StepRefused.{StepRefused}
-use Rattle.event_machine.specs.declared.refused.StepRefused.TheVariants.{NoSuch}
-use Rattle.event_machine.specs.State.{State}
-use Rattle.event_machine.specs.Step.{step}
+use Rattle.event_rule.specs.declared.event.Event.{Event}
+use Rattle.event_rule.specs.declared.event.Event.TheVariants.{Pulse, Put, Take}
+use Rattle.event_rule.specs.declared.refused.StepRefused.{StepRefused}
+use Rattle.event_rule.specs.declared.refused.StepRefused.TheVariants.{NoSuch}
+use Rattle.event_rule.specs.State.{State}
+use Rattle.event_rule.specs.Step.{step}
 use Rattle.event_machine.proofs.Refusing.{pulse_no_such, put_no_such, take_no_such}
 use Rattle.net_core.specs.declared.refused.EntryRefused.{EntryRefused}
 use Rattle.net_core.specs.declared.refused.EntryRefused.TheVariants.{Step}
-use Rattle.net_core.specs.Rows.{has_place}
+use Rattle.event_rule.specs.Rows.{has_place}
 
 pub nowhere : {S M E : Type 0} (program : Program S M E) (net : Net) (state : State S M) (event : Event) → has_place net event ≡ false
     → step program net state event ≡ Err NoSuch

@@ -1,9 +1,9 @@
 -- What one event of a list comes to, from its index on: as a step does.
 use Rattle.std.proofs.Common.{◌≡◌, ℕ, Result, Ok, Err, refl, ◌∙◌}
-use Rattle.event_machine.specs.declared.refused.StepRefused.{StepRefused}
-use Rattle.event_machine.specs.declared.refused.RunRefused.{RunRefused}
-use Rattle.event_machine.specs.Refusals.{at_index}
-use Rattle.event_machine.specs.Step.{go_on}
+use Rattle.event_rule.specs.declared.refused.StepRefused.{StepRefused}
+use Rattle.event_rule.specs.declared.refused.RunRefused.{RunRefused}
+use Rattle.event_rule.specs.Refusals.{at_index}
+use Rattle.event_rule.specs.Step.{go_on}
 
 pub made : {A : Type 0} (k : ℕ) (r : Result A StepRefused) (all : Result A RunRefused) (x : A) → go_on k r (λ next. Ok next) ≡ Ok x →
     ((y : A) → r ≡ Ok y → all ≡ Ok y) → all ≡ Ok x

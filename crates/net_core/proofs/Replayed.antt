@@ -3,15 +3,15 @@ use Rattle.std.proofs.Common.{◌≡◌, ◌+◌, ◌<◌, ◌∙◌, ℕ, suc, 
 use Rattle.std.proofs.lemmas.List.{map-append}
 use Rattle.interference.specs.Net.{Net}
 use Rattle.node_api.specs.Program.{Program}
-use Rattle.event_machine.specs.declared.event.Event.{Event}
-use Rattle.event_machine.specs.declared.refused.StepRefused.{StepRefused}
-use Rattle.event_machine.specs.State.{State, start}
-use Rattle.event_machine.specs.Step.{go_on, run_from, step}
-use Rattle.event_machine.proofs.Parts.{take-split}
-use Rattle.event_machine.proofs.Reached.{run_push}
+use Rattle.event_rule.specs.declared.event.Event.{Event}
+use Rattle.event_rule.specs.declared.refused.StepRefused.{StepRefused}
+use Rattle.event_rule.specs.State.{State, start}
+use Rattle.event_rule.specs.Step.{go_on, run_from, step}
+use Rattle.event_rule.proofs.Parts.{take-split}
+use Rattle.event_rule.proofs.Reached.{run_push}
 use Rattle.entries.specs.declared.rows.Row.{Row}
-use Rattle.net_core.specs.Rows.{event_of, if_made, row_of, rows_from, rows_of}
-use Rattle.net_core.specs.Replays.{IsReplay}
+use Rattle.event_rule.specs.Rows.{event_of, if_made, row_of, rows_from, rows_of}
+use Rattle.event_rule.specs.Replays.{IsReplay}
 
 module _ {S M E : Type 0} (program : Program S M E) (net : Net) where
   none-behind : (r : Result (State S M) StepRefused) → if_made r (λ next. rows_from program net next []) ≡ []

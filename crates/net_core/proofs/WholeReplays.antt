@@ -1,22 +1,21 @@
 -- Stamped rows, one after the other, and whole replays.
-use Rattle.std.specs.Prelude.{All}
-use Rattle.std.proofs.Common.{◌≡◌, ℕ, suc, ◌+◌, ◌<◌, ◌≤◌, ◌∙◌, List, [], ◌∷◌, ◌++◌, take, drop, length, get_or, Some, Ok, ap, arith, refl, sym, subst, ⊎_elim}
+use Rattle.std.proofs.Common.{◌≡◌, ℕ, suc, ◌+◌, ◌<◌, ◌∙◌, List, [], ◌∷◌, ◌++◌, take, drop, length, get_or, Some, Ok, ap, arith, refl, sym, subst, ⊎_elim}
 use Rattle.std.proofs.lemmas.List.{get_or-map, length-map, map-append, take-map}
 use Rattle.interference.specs.Net.{IsNetwork, Net}
 use Rattle.node_api.specs.Program.{Program}
-use Rattle.event_machine.specs.State.{State, start}
-use Rattle.event_machine.specs.Step.{step}
-use Rattle.event_machine.proofs.Parts.{take-split}
+use Rattle.event_rule.specs.State.{State, start}
+use Rattle.event_rule.specs.Step.{step}
+use Rattle.event_rule.proofs.Parts.{take-split}
 use Rattle.net_core.specs.declared.refused.WholeRefused.{WholeRefused}
 use Rattle.net_core.specs.declared.refused.WholeRefused.TheVariants.{Replay, WrongStamp, NotWhole}
 use Rattle.net_core.specs.declared.refused.EntryRefused.{EntryRefused}
 use Rattle.net_core.specs.declared.refused.ReplayRefused.{ReplayRefused}
-use Rattle.net_core.specs.Replays.{IsReplay, Stops, WhyNot, at_entry}
+use Rattle.event_rule.specs.Replays.{IsReplay}
+use Rattle.net_core.specs.Replays.{Stops, WhyNot, at_entry}
 use Rattle.entries.specs.declared.rows.Row.{Row}
-use Rattle.net_core.specs.Rows.{event_of, row_of}
-use Rattle.net_core.specs.Whole.{IsStampedReplay, IsWhole, IsWholeReplay, ReachesRow, StopsAtEntry, StopsAtStamp, WholeReplaysAreExact, WhyNotWhole}
-use Rattle.net_core.specs.Counted.{EventsBoundStamps}
-use Rattle.net_core.proofs.Counted.{stamps-within}
+use Rattle.event_rule.specs.Rows.{event_of, row_of}
+use Rattle.event_rule.specs.Whole.{IsStampedReplay, IsWhole, IsWholeReplay}
+use Rattle.net_core.specs.Whole.{ReachesRow, StopsAtEntry, StopsAtStamp, WholeReplaysAreExact, WhyNotWhole}
 use Rattle.net_core.proofs.Decided.{decided, refused-not, split-twice}
 use Rattle.net_core.proofs.Replayed.{replay-next, replay-start}
 use Rattle.entries.specs.Rows.{without_stamp}
@@ -93,16 +92,6 @@ module _ {S M E : Type 0} (program : Program S M E) (net : Net) where
     }
 
   module _ (ok : IsNetwork net) where
-    -- there are as many events as rows
-    events-many : (rows : List (StampedRow M)) (last : State S M) → (is : IsReplay program net (rows_in rows) last) → length is.events ≡ length rows
-    events-many rows last is =
-        let events = (decided program net ok).events (rows_in rows) last is in
-        ap (λ l. length l) events ∙ length-map (rows_in rows) (λ row. event_of net row) ∙ length-map rows (λ r. without_stamp r)
-
-    pub stamps-within-events : EventsBoundStamps program net
-    stamps-within-events rows last is =
-        subst (λ n. All (λ (row : StampedRow M). row.stamp ≤ n) rows) (sym (events-many rows last is.replay)) (stamps-within rows is.stamped)
-
     -- where rows stop at an entry, the bare ones do
     stops-bare : (rows : List (StampedRow M)) (refused : ReplayRefused) → StopsAtEntry program net rows refused → Stops program net (rows_in rows) refused
     stops-bare rows refused stops =

@@ -2,23 +2,20 @@
 use Rattle.std.proofs.Common.{◌≡◌, ◌≢◌, ◌<◌, ◌+◌, ◌∙◌, ℕ, Bool, true, false, Option, Some, None, ap, sym}
 use Rattle.std.specs.Prelude.{MatchBool}
 use Rattle.std.specs.Option.{option_map}
-use Rattle.interference.specs.Net.{Net, neighbours, degree_of, neighbour_of, port_to}
-use Rattle.interference.proofs.Members.{place_of-is}
+use Rattle.interference.specs.Net.{Net, degree_of, neighbour_of, port_to}
 use Rattle.node_api.specs.Program.{Program}
 use Rattle.wires.specs.declared.wire.Wire.{Wire}
 use Rattle.entries.specs.declared.entry.Entry.{Entry}
 use Rattle.entries.specs.declared.entry.Entry.TheVariants as entry
 use Rattle.entries.specs.Rows.{vertex_row}
-use Rattle.event_machine.specs.declared.event.Event.{Event}
-use Rattle.event_machine.specs.declared.event.Event.TheVariants.{Put, Take}
-use Rattle.event_machine.specs.State.{State, node_of}
-use Rattle.event_machine.specs.Step.{has_port}
-use Rattle.event_machine.proofs.NetKept.{port_from}
+use Rattle.event_rule.specs.declared.event.Event.{Event}
+use Rattle.event_rule.specs.declared.event.Event.TheVariants.{Put, Take}
+use Rattle.event_rule.specs.State.{State, node_of}
+use Rattle.event_rule.specs.Step.{has_port}
+use Rattle.event_rule.proofs.NetKept.{port_from}
 use Rattle.entries.specs.declared.rows.Row.{Row}
-use Rattle.net_core.specs.Rows.{event_of, event_with, has_place, next_wire, row_of}
-
-leads : (net : Net) (v w : ℕ) → port_to net v w < degree_of net v → neighbour_of net v (port_to net v w) ≡ w
-leads net v w there = place_of-is w (neighbours net v) 0 there
+use Rattle.event_rule.specs.Rows.{event_of, event_with, has_place, next_wire, row_of}
+use Rattle.event_rule.proofs.Writes.{leads, row-is}
 
 pulse-apart : {M : Type 0} (v a b : ℕ) → ◌≡◌ {A = Option (Row M)} (Some (vertex_row v (entry.Pulse a))) (Some (vertex_row v (entry.Pulse b))) → a ≡ b
 pulse-apart {M} v a b e =
@@ -33,12 +30,6 @@ take-apart : {M : Type 0} (w : ℕ) (x y : Wire M) → entry.Take w x ≡ entry.
 take-apart w x y e = cc
 
 module _ {M : Type 0} (net : Net) (v w : ℕ) (there : port_to net v w < degree_of net v) where
-  pub row-is : (make : ℕ → Wire M → Entry M) (oldest : Option (Wire M)) (wire : Wire M) → oldest ≡ Some wire →
-      ◌≡◌ {A = Option (Row M)} (option_map (λ x. vertex_row v (make (neighbour_of net v (port_to net v w)) x)) oldest) (Some (vertex_row v (make w wire)))
-  row-is make oldest wire e =
-      ap (λ o. option_map (λ x. vertex_row v (make (neighbour_of net v (port_to net v w)) x)) o) e
-      ∙ ap (λ u. Some (vertex_row v (make u wire))) (leads net v w there)
-
   row-other : (make : ℕ → Wire M → Entry M) → ((x y : Wire M) → make w x ≡ make w y → x ≡ y) → (oldest : Option (Wire M)) (wire : Wire M) → oldest ≢ Some wire →
       ◌≢◌ {A = Option (Row M)} (option_map (λ x. vertex_row v (make (neighbour_of net v (port_to net v w)) x)) oldest) (Some (vertex_row v (make w wire)))
   row-other make apart None wire other e = absurd cc

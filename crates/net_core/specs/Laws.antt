@@ -2,11 +2,12 @@
 use Rattle.std.specs.Prelude.{◌≡◌, List, map}
 use Rattle.interference.specs.Net.{Net}
 use Rattle.node_api.specs.Program.{Program}
-use Rattle.event_machine.specs.State.{State}
+use Rattle.event_rule.specs.State.{State}
 use Rattle.net_core.specs.declared.refused.ReplayRefused.{ReplayRefused}
 use Rattle.entries.specs.declared.rows.Row.{Row}
-use Rattle.net_core.specs.Rows.{event_of}
-use Rattle.net_core.specs.Replays.{IsReplay, Stops}
+use Rattle.event_rule.specs.Rows.{event_of}
+use Rattle.event_rule.specs.Replays.{IsReplay}
+use Rattle.net_core.specs.Replays.{Stops}
 
 pub record ReplaysAreExact {S M E : Type 0} (program : Program S M E) (net : Net) : Type 0 where
   -- the events of a replay are those that its entries are of

@@ -1,25 +1,18 @@
--- What a replay of entries is, and where entries aren't one.
-use Rattle.std.specs.Prelude.{◌≡◌, ◌≢◌, ℕ, Some, Ok, Err, List, ◌∷◌, ◌++◌, length, map}
+-- Where entries aren't a replay.
+use Rattle.std.specs.Prelude.{◌≡◌, ◌≢◌, ℕ, Some, Ok, Err, List, ◌∷◌, ◌++◌, length}
 use Rattle.interference.specs.Net.{Net}
 use Rattle.node_api.specs.Program.{Program}
-use Rattle.event_machine.specs.declared.event.Event.{Event}
-use Rattle.event_machine.specs.declared.refused.StepRefused.TheVariants as step_refused
-use Rattle.event_machine.specs.State.{NetView, State}
-use Rattle.event_machine.specs.Refusals.{at_index}
-use Rattle.event_machine.specs.Step.{run, step}
+use Rattle.event_rule.specs.declared.refused.StepRefused.TheVariants as step_refused
+use Rattle.event_rule.specs.State.{NetView, State}
+use Rattle.event_rule.specs.Refusals.{at_index}
+use Rattle.event_rule.specs.Step.{step}
 use Rattle.net_core.specs.declared.refused.EntryRefused.{EntryRefused}
 use Rattle.net_core.specs.declared.refused.EntryRefused.TheVariants.{Step, WrongWire}
 use Rattle.net_core.specs.declared.refused.ReplayRefused.{ReplayRefused}
 use Rattle.net_core.specs.declared.refused.ReplayRefused.TheVariants as replay_refused
 use Rattle.entries.specs.declared.rows.Row.{Row}
-use Rattle.net_core.specs.Rows.{event_of, row_of, rows_of}
-
--- Entries are a replay that leads to a state: the events of some run that leads there write down just these.
-pub record IsReplay {S M E : Type 0} (program : Program S M E) (net : Net) (rows : List (Row M)) (last : State S M)
-    : Type 0 where
-  pub events : List Event
-  pub is_run : run program net events ≡ Ok last
-  pub rows_are : rows_of program net events ≡ map Some rows
+use Rattle.event_rule.specs.Rows.{event_of, row_of}
+use Rattle.event_rule.specs.Replays.{IsReplay}
 
 -- The event of an entry is possible, writes down just this entry, and leads to the next state.
 pub record IsMade {S M E : Type 0} (program : Program S M E) (old : NetView S M) (row : Row M) (new : NetView S M)

@@ -2,11 +2,11 @@
 use Rattle.std.specs.Prelude.{◌≡◌, ◌≢◌, List, Result, Ok, Err, MatchResult}
 use Rattle.interference.specs.Net.{Net}
 use Rattle.node_api.specs.Program.{Program}
-use Rattle.event_machine.specs.declared.event.Event.{Event}
-use Rattle.event_machine.specs.declared.refused.RunRefused.{RunRefused}
-use Rattle.event_machine.specs.declared.refused.RunRefused.TheVariants.{Memory}
-use Rattle.event_machine.specs.State.{NetView}
-use Rattle.event_machine.specs.Step.{run}
+use Rattle.event_rule.specs.declared.event.Event.{Event}
+use Rattle.event_rule.specs.declared.refused.RunRefused.{RunRefused}
+use Rattle.event_rule.specs.declared.refused.RunRefused.TheVariants.{Memory}
+use Rattle.event_rule.specs.State.{NetView}
+use Rattle.event_rule.specs.Step.{run}
 
 -- A call of `run` does what the function says: it returns its state, or refuses as it says. Of memory the function says
 -- nothing.

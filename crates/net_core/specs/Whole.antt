@@ -1,46 +1,19 @@
--- A replay of stamped entries that ends whole, and why a list of them isn't one.
-use Rattle.std.specs.Prelude.{◌≡◌, ℕ, ◌<◌, IsTrue, List, [], ◌∷◌, ◌++◌, length, Ok, Some}
-use Rattle.interference.specs.Net.{Net, IsVertex, degree_of}
-use Rattle.node_api.specs.Program.{Program, last_pulse_on}
-use Rattle.alpha_core.specs.View.{is_drained}
-use Rattle.event_machine.specs.State.{State, link_at, node_of}
-use Rattle.event_machine.specs.Step.{step}
+-- Why a list of stamped entries isn't a replay that ends whole.
+use Rattle.std.specs.Prelude.{◌≡◌, ℕ, List, ◌∷◌, ◌++◌, length, Ok, Some}
+use Rattle.interference.specs.Net.{Net}
+use Rattle.node_api.specs.Program.{Program}
+use Rattle.event_rule.specs.State.{State}
+use Rattle.event_rule.specs.Step.{step}
 use Rattle.net_core.specs.declared.refused.EntryRefused.{EntryRefused}
 use Rattle.net_core.specs.declared.refused.ReplayRefused.{ReplayRefused}
 use Rattle.net_core.specs.declared.refused.WholeRefused.{WholeRefused}
 use Rattle.net_core.specs.declared.refused.WholeRefused.TheVariants.{Replay, WrongStamp, NotWhole}
-use Rattle.net_core.specs.Replays.{IsReplay, WhyNot, at_entry}
-use Rattle.net_core.specs.Rows.{event_of, row_of}
+use Rattle.net_core.specs.Replays.{WhyNot, at_entry}
+use Rattle.event_rule.specs.Rows.{event_of, row_of}
+use Rattle.event_rule.specs.Whole.{IsStampedReplay, IsWhole, IsWholeReplay}
 use Rattle.entries.specs.Rows.{without_stamp}
 use Rattle.entries.specs.declared.rows.StampedRow.{StampedRow}
-use Rattle.stamps.specs.Merged.{AreOrdered, AreStampedRows, IsInPlace, rows_in}
-
--- no link out of v holds a wire
-abbrev pub HoldsNothing : {S M : Type 0} → Net → State S M → ℕ → Type 0
-HoldsNothing net state v = (i : ℕ) → i < degree_of net v → (link_at state.links v i).held ≡ []
-
--- v is drained, and no link out of it holds a wire
-abbrev pub IsDone : {S M E : Type 0} → Program S M E → Net → State S M → ℕ → Type 0
-IsDone program net state v =
-    IsTrue (is_drained (last_pulse_on program net) (node_of program net state v).view) × HoldsNothing net state v
-
--- Every node is drained, and every link is empty.
-abbrev pub IsWhole : {S M E : Type 0} → Program S M E → Net → State S M → Type 0
-IsWhole program net state = (v : ℕ) → IsVertex net v → IsDone program net state v
-
--- The rows are a replay that leads to a state. They are in the order of their stamps, and each has the stamp that the
--- counter of its node gives it.
-pub record IsStampedReplay {S M E : Type 0} (program : Program S M E) (net : Net) (rows : List (StampedRow M))
-    (last : State S M) : Type 0 where
-  pub replay : IsReplay program net (rows_in rows) last
-  pub ordered : AreOrdered rows
-  pub stamped : AreStampedRows rows
-
--- That state is whole.
-pub record IsWholeReplay {S M E : Type 0} (program : Program S M E) (net : Net) (rows : List (StampedRow M))
-    (last : State S M) : Type 0 where
-  pub replay : IsStampedReplay program net rows last
-  pub whole : IsWhole program net last
+use Rattle.stamps.specs.Merged.{IsInPlace}
 
 -- the rows before one of them are a stamped replay
 pub record ReachesRow {S M E : Type 0} (program : Program S M E) (net : Net) (rows : List (StampedRow M)) : Type 0 where

@@ -3,12 +3,13 @@
 ghost use Rattle.std.specs.Prelude.{◌≡◌, ◌≢◌, ◌<◌, ◌≤◌, ◌+◌, true, false, IfErr, IfNone, IfOk, IfSome, MatchBool, Some};
 ghost use Rattle.interference.specs.Net.{IsVertex, degree_of, port_to};
 ghost use Rattle.net_core.specs.Replays.{IsMade, IsRefusedEntry};
-ghost use Rattle.net_core.specs.Rows.{event_of, has_place, next_wire, row_of};
+ghost use Rattle.event_rule.specs.Rows.{event_of, has_place, next_wire, row_of};
 
 use crate::refused::EntryRefused;
 use crate::same_wire::carries;
 use entries::{Entry, Row};
-use event_machine::{Event, NetState, StepRefused};
+use event_machine::NetState;
+use event_rule::{Event, StepRefused};
 use interference::Network;
 use node_api::NodeProgram;
 use wires::Wire;

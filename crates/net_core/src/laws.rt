@@ -3,7 +3,7 @@
 ghost use Rattle.interference.specs.Net.{Net};
 ghost use Rattle.node_api.specs.Program.{Program};
 ghost use Rattle.alpha_laws.specs.Laws.{OnEveryNetwork};
-ghost use Rattle.net_core.specs.Counted.{EventsBoundStamps, StampsAreCounted};
+ghost use Rattle.event_rule.specs.Counted.{EventsBoundStamps, StampsAreCounted};
 ghost use Rattle.net_core.specs.Laws.{ReplaysAreExact};
 ghost use Rattle.net_core.specs.Whole.{WholeReplaysAreExact};
 

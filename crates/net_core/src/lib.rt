@@ -8,8 +8,8 @@
 //! of a whole run, and returns the state with its stamps (`StampedState`). `play_answers` calls both for the entries
 //! of a transcript.
 //!
-//! `specs/Runs.antt` has what `run` returns, `specs/Rows.antt` what an event writes down, `specs/Replays.antt` what a
-//! replay is and where it stops.
+//! `specs/Runs.antt` has what `run` returns, `specs/Replays.antt` and `specs/Whole.antt` where entries stop. What an
+//! event writes down, and what a replay is, is in `event_rule`.
 //!
 //! ```text
 //! let entries = [

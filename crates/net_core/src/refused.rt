@@ -3,7 +3,7 @@
 ghost use Rattle.std.specs.Prelude.{◌≡◌};
 ghost use Rattle.net_core.specs.Replays.{at_entry};
 
-use event_machine::{RunRefused, StepRefused};
+use event_rule::{RunRefused, StepRefused};
 use interference::Memory;
 use thiserror::Error;
 
@@ -19,7 +19,7 @@ pub enum ReplayRefused {
 }
 
 impl From<Memory> for ReplayRefused {
-    ghost use Rattle.event_machine.specs.declared.refused.RunRefused.TheVariants.{Memory};
+    ghost use Rattle.event_rule.specs.declared.refused.RunRefused.TheVariants.{Memory};
     ghost use Rattle.net_core.specs.declared.refused.ReplayRefused.TheVariants.{Run};
 
     ghost from_gives = { λ _ refused. refused ≡ Run Memory };
@@ -45,7 +45,7 @@ pub enum WholeRefused {
 }
 
 impl From<Memory> for WholeRefused {
-    ghost use Rattle.event_machine.specs.declared.refused.RunRefused.TheVariants.{Memory};
+    ghost use Rattle.event_rule.specs.declared.refused.RunRefused.TheVariants.{Memory};
     ghost use Rattle.net_core.specs.declared.refused.ReplayRefused.TheVariants.{Run};
     ghost use Rattle.net_core.specs.declared.refused.WholeRefused.TheVariants.{Replay};
 

@@ -1,10 +1,11 @@
 //! Lists of entries.
 
 ghost use Rattle.std.specs.Prelude.{◌≡◌, ◌≢◌, IfErr, IfOk};
-ghost use Rattle.event_machine.specs.declared.refused.RunRefused.TheVariants.{Memory};
-ghost use Rattle.event_machine.specs.Simulation.{IsSimulation};
+ghost use Rattle.event_rule.specs.declared.refused.RunRefused.TheVariants.{Memory};
+ghost use Rattle.event_rule.specs.Simulation.{IsSimulation};
 ghost use Rattle.net_core.specs.declared.refused.ReplayRefused.TheVariants.{Run};
-ghost use Rattle.net_core.specs.Replays.{IsReplay, Stops};
+ghost use Rattle.event_rule.specs.Replays.{IsReplay};
+ghost use Rattle.net_core.specs.Replays.{Stops};
 
 use crate::entry_event::make_entry;
 use crate::refused::ReplayRefused;

@@ -1,12 +1,13 @@
 //! Lists of events.
 
 ghost use Rattle.std.specs.Prelude.{◌≡◌, ◌≢◌, ◌∷◌, [], IfErr, IfOk, Err, Ok};
-ghost use Rattle.event_machine.specs.declared.refused.RunRefused.TheVariants.{Memory};
-ghost use Rattle.event_machine.specs.Simulation.{IsSimulation};
-ghost use Rattle.event_machine.specs.Step.{run_from};
+ghost use Rattle.event_rule.specs.declared.refused.RunRefused.TheVariants.{Memory};
+ghost use Rattle.event_rule.specs.Simulation.{IsSimulation};
+ghost use Rattle.event_rule.specs.Step.{run_from};
 ghost use Rattle.net_core.specs.Runs.{RunMatches};
 
-use event_machine::{Event, NetState, RunRefused};
+use event_machine::NetState;
+use event_rule::{Event, RunRefused};
 use interference::Network;
 use node_api::NodeProgram;
 use std::alloc::Global;

@@ -1,12 +1,13 @@
 //! Lists of stamped entries.
 
 ghost use Rattle.std.specs.Prelude.{ℕ, ◌≡◌, ◌≢◌, ◌<◌, ◌≤◌, ◌+◌, IfErr, IfOk, length, take};
-ghost use Rattle.event_machine.specs.declared.refused.RunRefused.TheVariants.{Memory};
-ghost use Rattle.event_machine.specs.Simulation.{IsSimulation};
-ghost use Rattle.event_machine.specs.State.{start};
+ghost use Rattle.event_rule.specs.declared.refused.RunRefused.TheVariants.{Memory};
+ghost use Rattle.event_rule.specs.Simulation.{IsSimulation};
+ghost use Rattle.event_rule.specs.State.{start};
 ghost use Rattle.net_core.specs.declared.refused.ReplayRefused.TheVariants.{Run};
 ghost use Rattle.net_core.specs.declared.refused.WholeRefused.TheVariants.{Replay};
-ghost use Rattle.net_core.specs.Whole.{IsStampedReplay, IsWholeReplay, WhyNotWhole};
+ghost use Rattle.event_rule.specs.Whole.{IsStampedReplay, IsWholeReplay};
+ghost use Rattle.net_core.specs.Whole.{WhyNotWhole};
 ghost use Rattle.stamps.specs.Merged.{entries_at};
 ghost use Rattle.stamps.specs.Stamps.{counter_of};
 ghost use Rattle.stamps.specs.Table.{IsTableOf, counter_at};

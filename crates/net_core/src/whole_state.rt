@@ -2,8 +2,8 @@
 
 ghost use Rattle.std.specs.Prelude.{◌≡◌, ◌<◌, ℕ, MatchBool, []};
 ghost use Rattle.interference.specs.Net.{IsVertex, degree_of};
-ghost use Rattle.event_machine.specs.State.{link_at};
-ghost use Rattle.net_core.specs.Whole.{HoldsNothing, IsDone, IsWhole};
+ghost use Rattle.event_rule.specs.State.{link_at};
+ghost use Rattle.event_rule.specs.Whole.{HoldsNothing, IsDone, IsWhole};
 
 use event_machine::NetState;
 use node_api::NodeProgram;

@@ -4,8 +4,8 @@ use Rattle.dimacs_col.specs.Lines.{lines_of}
 use Rattle.interference.specs.Net.{IsNetwork, Net}
 use Rattle.node_api.specs.Program.{Program}
 use Rattle.node_api.specs.Run.{last_state}
-use Rattle.event_machine.specs.State.{State}
-use Rattle.event_machine.specs.Step.{run}
+use Rattle.event_rule.specs.State.{State}
+use Rattle.event_rule.specs.Step.{run}
 use Rattle.dimacs_col.proofs.Blank.{fault-of, graph-of}
 use Rattle.event_texts.specs.EventLines.{AreNetworkLines, event_words, network_lines}
 use Rattle.event_texts.specs.Played.{IsFaultOfRun, events_in}

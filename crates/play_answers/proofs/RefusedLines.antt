@@ -5,8 +5,9 @@ use Rattle.std.proofs.lemmas.List.{length-append}
 use Rattle.dimacs_col.specs.Lines.{Line}
 use Rattle.interference.specs.Net.{IsNetwork, Net}
 use Rattle.node_api.specs.Program.{Program}
-use Rattle.event_machine.specs.declared.refused.RunRefused.TheVariants as run
-use Rattle.net_core.specs.Replays.{IsReplay, Stops}
+use Rattle.event_rule.specs.declared.refused.RunRefused.TheVariants as run
+use Rattle.event_rule.specs.Replays.{IsReplay}
+use Rattle.net_core.specs.Replays.{Stops}
 use Rattle.net_core.proofs.Decided.{by-index, decided}
 use Rattle.entries.specs.declared.rows.Row.{Row}
 use Rattle.net_core.specs.declared.refused.ReplayRefused.{ReplayRefused}

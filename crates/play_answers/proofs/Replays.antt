@@ -4,9 +4,9 @@ use Rattle.dimacs_col.specs.Lines.{Line, lines_of}
 use Rattle.interference.specs.Net.{IsNetwork, Net}
 use Rattle.node_api.specs.Program.{Program}
 use Rattle.node_api.specs.Run.{last_state}
-use Rattle.event_machine.specs.State.{State}
-use Rattle.event_machine.specs.Step.{run}
-use Rattle.event_machine.specs.declared.event.Event.{Event}
+use Rattle.event_rule.specs.State.{State}
+use Rattle.event_rule.specs.Step.{run}
+use Rattle.event_rule.specs.declared.event.Event.{Event}
 use Rattle.dimacs_col.proofs.Blank.{fault-of, graph-of}
 use Rattle.event_texts.specs.StateText.{state_text}
 use Rattle.transcripts.specs.Behind.{AreNetworkLines, network_lines, transcript_word}

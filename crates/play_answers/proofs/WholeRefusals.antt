@@ -6,7 +6,7 @@ use Rattle.std.proofs.lemmas.List.{length-map, map-append}
 use Rattle.dimacs_col.specs.Lines.{Line}
 use Rattle.interference.specs.Net.{IsNetwork, Net}
 use Rattle.node_api.specs.Program.{Program}
-use Rattle.event_machine.specs.declared.refused.RunRefused.TheVariants as run
+use Rattle.event_rule.specs.declared.refused.RunRefused.TheVariants as run
 use Rattle.net_core.specs.Replays.{Stops, at_entry}
 use Rattle.net_core.specs.Whole.{StopsAtEntry, StopsAtStamp, WhyNotWhole}
 use Rattle.net_core.specs.declared.refused.ReplayRefused.{ReplayRefused}

@@ -6,8 +6,8 @@ use Rattle.interference.specs.Net.{Net, IsNetwork, IsVertex}
 use Rattle.interference.specs.Making.{IsFaultOf}
 use Rattle.node_api.specs.Program.{Program}
 use Rattle.node_api.specs.Run.{last_state, state_at}
-use Rattle.event_machine.specs.State.{State, node_of}
-use Rattle.event_machine.specs.Step.{run}
+use Rattle.event_rule.specs.State.{State, node_of}
+use Rattle.event_rule.specs.Step.{run}
 use Rattle.event_texts.specs.EventLines.{network_lines}
 use Rattle.event_texts.specs.Played.{IsFaultOfRun, events_in}
 use Rattle.event_texts.specs.Reader.{IsFaultOfReading}

@@ -9,18 +9,20 @@ use Rattle.interference.specs.Net.{Net, IsNetwork}
 use Rattle.interference.specs.Making.{IsFaultOf}
 use Rattle.node_api.specs.Program.{Program}
 use Rattle.node_api.specs.Run.{last_state}
-use Rattle.event_machine.specs.State.{State}
-use Rattle.event_machine.specs.declared.refused.RunRefused.TheVariants as run
+use Rattle.event_rule.specs.State.{State}
+use Rattle.event_rule.specs.declared.refused.RunRefused.TheVariants as run
 use Rattle.event_texts.specs.Missing.{expected_text, missing_text}
 use Rattle.event_texts.specs.StateText.{state_text}
-use Rattle.net_core.specs.Replays.{IsReplay, Stops}
+use Rattle.event_rule.specs.Replays.{IsReplay}
+use Rattle.net_core.specs.Replays.{Stops}
 use Rattle.entries.specs.Rows.{without_stamp}
-use Rattle.net_core.specs.Rows.{event_of}
+use Rattle.event_rule.specs.Rows.{event_of}
 use Rattle.net_core.specs.declared.refused.ReplayRefused.{ReplayRefused}
 use Rattle.net_core.specs.declared.refused.ReplayRefused.TheVariants as replay
 use Rattle.net_core.specs.declared.refused.WholeRefused.{WholeRefused}
 use Rattle.net_core.specs.declared.refused.WholeRefused.TheVariants as whole
-use Rattle.net_core.specs.Whole.{IsWholeReplay, StopsAtEntry, WhyNotWhole}
+use Rattle.event_rule.specs.Whole.{IsWholeReplay}
+use Rattle.net_core.specs.Whole.{StopsAtEntry, WhyNotWhole}
 use Rattle.transcripts.specs.Behind.{entry_lines, entry_on, network_lines, program_in, stamped_entry_on}
 use Rattle.transcripts.specs.Editions.{AnyTranscript, One, Two, any_reading_behind}
 use Rattle.transcripts.specs.Reading.{StampedTranscript, Transcript}

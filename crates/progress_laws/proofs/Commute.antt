@@ -8,12 +8,12 @@ use Rattle.node_api.specs.Program.{Program}
 use Rattle.wires.specs.declared.wire.Wire.{Wire}
 use Rattle.alpha_core.specs.View.{Node, port_at}
 use Rattle.alpha_core.specs.Program.{start_node}
-use Rattle.event_machine.specs.declared.event.Event.{Event}
-use Rattle.event_machine.specs.declared.event.Event.TheVariants.{Pulse, Put, Take}
-use Rattle.event_machine.specs.State.{Link, State, HasLink, node_of, link_at, link_to, set_link, take_one}
-use Rattle.event_machine.specs.Events.{Exists, Steps}
-use Rattle.event_machine.proofs.LinkTable.{link_same, link_other}
-use Rattle.event_machine.proofs.NetKept.{NetKept}
+use Rattle.event_rule.specs.declared.event.Event.{Event}
+use Rattle.event_rule.specs.declared.event.Event.TheVariants.{Pulse, Put, Take}
+use Rattle.event_rule.specs.State.{Link, State, HasLink, node_of, link_at, link_to, set_link, take_one}
+use Rattle.event_rule.specs.Events.{Exists, Steps}
+use Rattle.event_rule.proofs.LinkTable.{link_same, link_other}
+use Rattle.event_rule.proofs.NetKept.{NetKept}
 use Rattle.progress_laws.specs.Commute.{vertex_of}
 use Rattle.progress_laws.proofs.Fires.{Fires, change, fires, leads_to, put_first, steps}
 use Rattle.progress_laws.proofs.Tables.{links-both}

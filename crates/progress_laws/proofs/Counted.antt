@@ -15,11 +15,11 @@ use Rattle.alpha_core.specs.Program.{start_node}
 use Rattle.alpha_laws.proofs.Across.{over}
 use Rattle.alpha_laws.proofs.PulseAfter.{pulsed_pulse, reaction_pulse, start_pulse}
 use Rattle.alpha_laws.proofs.Sums.{by_ports}
-use Rattle.event_machine.specs.declared.event.Event.{Event}
-use Rattle.event_machine.specs.declared.event.Event.TheVariants.{Pulse, Put, Take}
-use Rattle.event_machine.specs.State.{Link, State, no_link, node_of, link_at, link_to, sent_of, set_node, set_link, start}
-use Rattle.event_machine.specs.Events.{Steps}
-use Rattle.event_machine.proofs.NetKept.{NetKept}
+use Rattle.event_rule.specs.declared.event.Event.{Event}
+use Rattle.event_rule.specs.declared.event.Event.TheVariants.{Pulse, Put, Take}
+use Rattle.event_rule.specs.State.{Link, State, no_link, node_of, link_at, link_to, sent_of, set_node, set_link, start}
+use Rattle.event_rule.specs.Events.{Steps}
+use Rattle.event_rule.proofs.NetKept.{NetKept}
 use Rattle.progress_laws.specs.Laws.{events_in}
 
 -- the wires put on a link, and those taken from it

@@ -10,11 +10,11 @@ use Rattle.alpha_laws.proofs.Claims.{simulates}
 use Rattle.alpha_laws.proofs.EachPort.{out_at}
 use Rattle.alpha_laws.proofs.Moves.{moves}
 use Rattle.alpha_laws.proofs.Runs.{Runs}
-use Rattle.event_machine.specs.declared.event.Event.{Event}
-use Rattle.event_machine.specs.declared.event.Event.TheVariants.{Pulse, Put, Take}
-use Rattle.event_machine.specs.State.{State, node_of, link_at, link_to}
-use Rattle.event_machine.specs.Events.{Possible}
-use Rattle.event_machine.proofs.NetKept.{NetKept, all_kept}
+use Rattle.event_rule.specs.declared.event.Event.{Event}
+use Rattle.event_rule.specs.declared.event.Event.TheVariants.{Pulse, Put, Take}
+use Rattle.event_rule.specs.State.{State, node_of, link_at, link_to}
+use Rattle.event_rule.specs.Events.{Possible}
+use Rattle.event_rule.proofs.NetKept.{NetKept, all_kept}
 use Rattle.progress_laws.specs.Endings.{IsWholeState, PossibleWithin}
 
 module _ {S M E : Type 0} {program : Program S M E} {net : Net} (ok : IsNetwork net) (runs : Runs program net) {state : State S M}

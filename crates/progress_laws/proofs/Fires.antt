@@ -6,10 +6,10 @@ use Rattle.node_api.specs.Program.{Program, last_pulse_on}
 use Rattle.wires.specs.declared.wire.Wire.{Wire}
 use Rattle.alpha_core.specs.View.{View, Node, port_at, can_pulse}
 use Rattle.alpha_core.specs.Alpha.{pulse, reaction, put_done}
-use Rattle.event_machine.specs.declared.event.Event.{Event}
-use Rattle.event_machine.specs.declared.event.Event.TheVariants.{Pulse, Put, Take}
-use Rattle.event_machine.specs.State.{Link, State, node_of, link_at, link_to, set_node, set_link, set_link_to, take_one}
-use Rattle.event_machine.specs.Events.{Exists, Steps}
+use Rattle.event_rule.specs.declared.event.Event.{Event}
+use Rattle.event_rule.specs.declared.event.Event.TheVariants.{Pulse, Put, Take}
+use Rattle.event_rule.specs.State.{Link, State, node_of, link_at, link_to, set_node, set_link, set_link_to, take_one}
+use Rattle.event_rule.specs.Events.{Exists, Steps}
 use Rattle.progress_laws.specs.Commute.{vertex_of}
 
 -- a link with the first wire of an out-list put on it

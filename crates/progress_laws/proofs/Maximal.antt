@@ -10,17 +10,17 @@ use Rattle.alpha_laws.proofs.Bounded as nodes
 use Rattle.alpha_laws.proofs.Runs.{Runs}
 use Rattle.alpha_laws.proofs.Whole.{has_ended}
 use Rattle.wires.specs.declared.wire.Wire.{Wire}
-use Rattle.event_machine.specs.declared.event.Event.{Event}
-use Rattle.event_machine.specs.declared.refused.StepRefused.{StepRefused}
-use Rattle.event_machine.specs.State.{State, start, node_of, link_at, link_to, sent_of}
-use Rattle.event_machine.specs.Simulation.{IsSimulation}
-use Rattle.event_machine.specs.Step.{step, run}
-use Rattle.event_machine.specs.Events.{Possible, Steps, IsRunFrom}
-use Rattle.event_machine.proofs.Exactly.{runs-exactly}
-use Rattle.event_machine.proofs.KeptRuns.{start_good, reached_kept, reached_simulates}
-use Rattle.event_machine.proofs.KeptSteps.{Good, step_good}
-use Rattle.event_machine.proofs.NetKept.{NetKept, all_kept}
-use Rattle.event_machine.proofs.Stepping.{Stepped, stepped, steps-step}
+use Rattle.event_rule.specs.declared.event.Event.{Event}
+use Rattle.event_rule.specs.declared.refused.StepRefused.{StepRefused}
+use Rattle.event_rule.specs.State.{State, start, node_of, link_at, link_to, sent_of}
+use Rattle.event_rule.specs.Simulation.{IsSimulation}
+use Rattle.event_rule.specs.Step.{step, run}
+use Rattle.event_rule.specs.Events.{Possible, Steps, IsRunFrom}
+use Rattle.event_rule.proofs.Exactly.{runs-exactly}
+use Rattle.event_rule.proofs.KeptRuns.{start_good, reached_kept, reached_simulates}
+use Rattle.event_rule.proofs.KeptSteps.{Good, step_good}
+use Rattle.event_rule.proofs.NetKept.{NetKept, all_kept}
+use Rattle.event_rule.proofs.Stepping.{Stepped, stepped, steps-step}
 use Rattle.progress_laws.specs.Endings.{HasRoom, IsRunWithin, IsTerminal, IsWholeState}
 use Rattle.progress_laws.specs.Laws.{IsEnd, events_in}
 use Rattle.progress_laws.proofs.Counted.{moved_in, one_more_shows, pulses_in, shows, start_shows}

@@ -7,14 +7,14 @@ use Rattle.alpha_laws.proofs.Across.{over}
 use Rattle.alpha_laws.proofs.Claims.{simulates}
 use Rattle.alpha_laws.proofs.Runs.{Runs}
 use Rattle.alpha_core.specs.View.{port_at}
-use Rattle.event_machine.specs.declared.event.Event.{Event}
-use Rattle.event_machine.specs.declared.event.Event.TheVariants.{Pulse, Put, Take}
-use Rattle.event_machine.specs.State.{State, start, node_of, link_at, sent_of}
-use Rattle.event_machine.specs.Step.{run}
-use Rattle.event_machine.specs.Events.{IsRunFrom, Possible, Steps}
-use Rattle.event_machine.proofs.Exactly.{runs-exactly}
-use Rattle.event_machine.proofs.KeptRuns.{start_good}
-use Rattle.event_machine.proofs.NetKept.{NetKept, all_kept}
+use Rattle.event_rule.specs.declared.event.Event.{Event}
+use Rattle.event_rule.specs.declared.event.Event.TheVariants.{Pulse, Put, Take}
+use Rattle.event_rule.specs.State.{State, start, node_of, link_at, sent_of}
+use Rattle.event_rule.specs.Step.{run}
+use Rattle.event_rule.specs.Events.{IsRunFrom, Possible, Steps}
+use Rattle.event_rule.proofs.Exactly.{runs-exactly}
+use Rattle.event_rule.proofs.KeptRuns.{start_good}
+use Rattle.event_rule.proofs.NetKept.{NetKept, all_kept}
 use Rattle.progress_laws.specs.Endings.{HasRoom, IsRunWithin}
 use Rattle.progress_laws.proofs.Maximal.{next_kept}
 

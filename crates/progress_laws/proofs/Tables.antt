@@ -2,7 +2,7 @@
 use Rattle.std.proofs.Common.{◌≡◌, ℕ, ◌-◌, ◌<◌, List, [], length, get_or, set, sym, ap, ◌∙◌, subst, arith, ⊎_elim}
 use Rattle.std.proofs.lemmas.Bool.{cases_eq}
 use Rattle.std.proofs.lemmas.List.{get_or-set_same, get_or-set_other, set_comm, set-set}
-use Rattle.event_machine.specs.State.{Link, HasLink, no_link, link_at, set_link}
+use Rattle.event_rule.specs.State.{Link, HasLink, no_link, link_at, set_link}
 
 -- an entry becomes what a function makes of it
 abbrev becomes : {A : Type 0} → ℕ → (A → A) → A → List A → List A

@@ -2,11 +2,11 @@
 use Rattle.std.specs.Prelude.{◌≡◌, ℕ}
 use Rattle.interference.specs.Net.{Net}
 use Rattle.node_api.specs.Program.{Program}
-use Rattle.event_machine.specs.declared.event.Event.{Event}
-use Rattle.event_machine.specs.declared.event.Event.TheVariants.{Pulse, Put, Take}
-use Rattle.event_machine.specs.State.{State}
-use Rattle.event_machine.specs.Simulation.{IsReachable}
-use Rattle.event_machine.specs.Events.{Steps}
+use Rattle.event_rule.specs.declared.event.Event.{Event}
+use Rattle.event_rule.specs.declared.event.Event.TheVariants.{Pulse, Put, Take}
+use Rattle.event_rule.specs.State.{State}
+use Rattle.event_rule.specs.Simulation.{IsReachable}
+use Rattle.event_rule.specs.Events.{Steps}
 
 -- whose event it is
 abbrev pub vertex_of : Event → ℕ

@@ -3,10 +3,10 @@ use Rattle.std.specs.Prelude.{◌≡◌, ℕ, ◌<◌, List, [], ◌∷◌, leng
 use Rattle.interference.specs.Net.{Net}
 use Rattle.node_api.specs.Program.{Program}
 use Rattle.alpha_laws.specs.Progress.{IsWhole}
-use Rattle.event_machine.specs.declared.event.Event.{Event}
-use Rattle.event_machine.specs.declared.event.Event.TheVariants.{Pulse, Put, Take}
-use Rattle.event_machine.specs.State.{State, node_of, link_at}
-use Rattle.event_machine.specs.Events.{Possible, Steps}
+use Rattle.event_rule.specs.declared.event.Event.{Event}
+use Rattle.event_rule.specs.declared.event.Event.TheVariants.{Pulse, Put, Take}
+use Rattle.event_rule.specs.State.{State, node_of, link_at}
+use Rattle.event_rule.specs.Events.{Possible, Steps}
 
 -- A state is whole: every node is drained, and no link holds a wire.
 abbrev pub IsWholeState : {S M E : Type 0} → Program S M E → Net → State S M → Type 0

@@ -4,10 +4,10 @@ use Rattle.interference.specs.Net.{Net, IsVertex}
 use Rattle.node_api.specs.Program.{Program, last_pulse_on}
 use Rattle.alpha_laws.specs.Counts.{events_made, events_of_run}
 use Rattle.alpha_laws.specs.Progress.{HasEnded}
-use Rattle.event_machine.specs.declared.event.Event.{Event}
-use Rattle.event_machine.specs.State.{State, start, node_of, link_at, link_to, sent_of}
-use Rattle.event_machine.specs.Step.{run}
-use Rattle.event_machine.specs.Simulation.{IsReachable}
+use Rattle.event_rule.specs.declared.event.Event.{Event}
+use Rattle.event_rule.specs.State.{State, start, node_of, link_at, link_to, sent_of}
+use Rattle.event_rule.specs.Step.{run}
+use Rattle.event_rule.specs.Simulation.{IsReachable}
 use Rattle.progress_laws.specs.Endings.{IsRunWithin, IsTerminal, IsWholeState, PossibleWithin}
 
 -- In every state that is reached an event is possible, or the state is whole; over links of any capacity but none.

@@ -6,7 +6,8 @@ ghost use Rattle.interference.specs.Net.{count_of};
 
 use crate::runs::pair;
 use entries::{Entry, Row};
-use event_machine::{NetState, RunRefused};
+use event_machine::NetState;
+use event_rule::RunRefused;
 use interference::Network;
 use net_core::{ReplayRefused, replay};
 use std::alloc::Global;

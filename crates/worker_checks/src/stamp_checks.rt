@@ -6,7 +6,7 @@ use crate::runs::{pair, small};
 use actor::OpenGate;
 use alpha_core::{Counter, StampFull};
 use entries::{Entries, Entry, StampedEntry, StampedRow};
-use event_machine::RunRefused;
+use event_rule::RunRefused;
 use interference::Network;
 use net_core::{ReplayRefused, WholeRefused, replay_whole};
 use node_pool::run_workers;

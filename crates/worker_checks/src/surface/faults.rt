@@ -4,7 +4,7 @@ use alpha_core::AlphaRefused;
 use answers::PlanFault;
 use channel_plan::CheckFault;
 use dimacs_col::ColFault;
-use event_machine::{RunRefused, StepRefused};
+use event_rule::{RunRefused, StepRefused};
 use interference::NetFault;
 use net_core::{ReplayRefused, WholeRefused};
 use node_api::Refused;

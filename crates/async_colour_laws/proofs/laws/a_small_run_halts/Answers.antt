@@ -3,7 +3,7 @@ use Rattle.std.specs.Prelude.{◌≡◌}
 use Rattle.node_api.specs.Run as sync
 use Rattle.alpha_laws.specs.Counts.{events_of_run}
 use Rattle.sync_rounds.specs.Spread.{spread}
-use Rattle.event_machine.specs.Step.{run}
+use Rattle.event_rule.specs.Step.{run}
 use Rattle.async_colour_laws.specs.Small.{EndsWhole, edge, whole_run}
 use Rattle.async_colour_laws.proofs.Edge.{edge_is_network, whole_if}
 use Rattle.async_colour_laws.proofs.laws.a_small_run_halts.Goals as goal

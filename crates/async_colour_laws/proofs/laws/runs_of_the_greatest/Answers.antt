@@ -1,8 +1,8 @@
 use Rattle.alpha_laws.proofs.Runs.{runs}
 use Rattle.sync_rounds.specs.Spread.{spread}
 use Rattle.sync_rounds.specs.SpreadLaws.{spread_laws}
-use Rattle.event_machine.proofs.KeptRuns.{reached_simulates}
-use Rattle.event_machine.proofs.Exactly.{runs-exactly}
+use Rattle.event_rule.proofs.KeptRuns.{reached_simulates}
+use Rattle.event_rule.proofs.Exactly.{runs-exactly}
 use Rattle.async_colour_laws.proofs.laws.runs_of_the_greatest.Goals as goal
 
 pub returns : goal.returns

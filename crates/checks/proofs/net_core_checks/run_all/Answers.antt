@@ -2,10 +2,10 @@ use Rattle.std.proofs.Common.{◌≡◌, List}
 use Rattle.std.specs.Prelude.{Result, Ok, Err, IfOk}
 use Rattle.interference.specs.Net.{Net}
 use Rattle.node_api.specs.Program.{Program}
-use Rattle.event_machine.specs.declared.event.Event.{Event}
-use Rattle.event_machine.specs.declared.refused.RunRefused.{RunRefused}
+use Rattle.event_rule.specs.declared.event.Event.{Event}
+use Rattle.event_rule.specs.declared.refused.RunRefused.{RunRefused}
 use Rattle.net_core.specs.Runs.{RunMatches}
-use Rattle.event_machine.specs.State.{NetView}
+use Rattle.event_rule.specs.State.{NetView}
 use Rattle.checks.proofs.net_core_checks.run_all.Goals as goal
 
 -- what is run on a network is of it

@@ -1,5 +1,5 @@
 use Rattle.alpha_laws.proofs.Runs.{runs}
-use Rattle.event_machine.proofs.KeptRuns.{reached_simulates}
+use Rattle.event_rule.proofs.KeptRuns.{reached_simulates}
 use Rattle.event_machine.proofs.laws.every_run_simulates.Goals as goal
 
 pub returns : goal.returns

@@ -1,6 +1,6 @@
 use Rattle.alpha_laws.proofs.Runs.{runs}
-use Rattle.event_machine.proofs.Exactly.{steps-exactly}
-use Rattle.event_machine.proofs.KeptRuns.{reached_kept}
+use Rattle.event_rule.proofs.Exactly.{steps-exactly}
+use Rattle.event_rule.proofs.KeptRuns.{reached_kept}
 use Rattle.event_machine.proofs.laws.steps_are_exact.Goals as goal
 
 pub returns : goal.returns

@@ -1,7 +1,7 @@
 use Rattle.std.proofs.Common.{[], ◌∷◌, ◌++◌, replicate, ap, ◌∙◌}
 use Rattle.std.proofs.lemmas.List.{replicate_more}
-use Rattle.event_machine.specs.State.{Link, no_link}
-use Rattle.event_machine.proofs.Parts.{counted}
+use Rattle.event_rule.specs.State.{Link, no_link}
+use Rattle.event_rule.proofs.Parts.{counted}
 use Rattle.event_machine.proofs.links.row.Goals as goal
 
 pub loop-preserved : goal.loop-preserved

@@ -1,5 +1,5 @@
 use Rattle.std.proofs.Common.{◌≡◌, replicate}
-use Rattle.event_machine.specs.State.{no_link}
+use Rattle.event_rule.specs.State.{no_link}
 use Rattle.event_machine.proofs.links.row.Given as goal
 
 abbrev pub invariant-loop : goal.invariant-loop

@@ -5,8 +5,8 @@ use Rattle.interference.specs.Net.{count_of}
 use Rattle.node_api.specs.Program.{last_pulse_on}
 use Rattle.alpha_core.specs.View.{Alpha}
 use Rattle.alpha_core.specs.Program.{start_node}
-use Rattle.event_machine.specs.State.{started_nodes}
-use Rattle.event_machine.proofs.Parts.{map-next}
+use Rattle.event_rule.specs.State.{started_nodes}
+use Rattle.event_rule.proofs.Parts.{map-next}
 use Rattle.event_machine.proofs.state.started_nodes.Goals as goal
 
 pub push_reserved-requires : goal.push_reserved-requires

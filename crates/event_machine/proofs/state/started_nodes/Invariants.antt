@@ -1,7 +1,7 @@
 use Rattle.std.proofs.Common.{◌≡◌, ◌≤◌, vec_capacity}
 use Rattle.std.specs.List.{range_with_len}
 use Rattle.interference.specs.Net.{count_of}
-use Rattle.event_machine.specs.State.{started_nodes}
+use Rattle.event_rule.specs.State.{started_nodes}
 use Rattle.event_machine.proofs.state.started_nodes.Given as goal
 
 abbrev pub invariant-loop-i : goal.invariant-loop-i

@@ -1,5 +1,5 @@
 use Rattle.std.proofs.Common.{◌≡◌, ◌+◌, [], arith, ◌∙◌, ap}
-use Rattle.event_machine.specs.State.{node_of}
+use Rattle.event_rule.specs.State.{node_of}
 use Rattle.event_texts.specs.Missing.{lacking_at}
 use Rattle.number_rows.proofs.Ranges.{texts-more}
 use Rattle.std.specs.List.{flat_map, range_with_len}

@@ -1,6 +1,6 @@
 use Rattle.std.proofs.Common.{◌≡◌, flat_map}
 use Rattle.std.specs.List.{range_with_len}
-use Rattle.event_machine.specs.State.{node_of}
+use Rattle.event_rule.specs.State.{node_of}
 use Rattle.event_texts.specs.Missing.{lacking_at}
 use Rattle.event_texts.proofs.missing.lacking.Given as goal
 

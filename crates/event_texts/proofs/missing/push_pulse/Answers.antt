@@ -4,7 +4,7 @@ use Rattle.std.proofs.lemmas.Result.{IfOk-equal}
 use Rattle.dimacs_col.proofs.Refused.{err_says}
 use Rattle.node_api.specs.Program.{last_pulse_on}
 use Rattle.alpha_core.specs.View.{is_halted}
-use Rattle.event_machine.specs.State.{node_of}
+use Rattle.event_rule.specs.State.{node_of}
 use Rattle.event_texts.specs.Missing.{lack_text}
 use Rattle.event_texts.proofs.Written.{lacks_written, last_written, words_none, words_some}
 use Rattle.event_texts.proofs.missing.push_pulse.Goals as goal

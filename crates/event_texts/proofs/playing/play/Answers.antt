@@ -1,8 +1,8 @@
 use Rattle.std.proofs.Common.{◌∙◌, ap, get_or, subst, sym}
 use Rattle.std.proofs.lemmas.List.{get_or_default}
 use Rattle.dimacs_col.proofs.Refused.{err_says}
-use Rattle.event_machine.specs.declared.event.Event.TheVariants.{Pulse}
-use Rattle.event_machine.specs.Step.{step}
+use Rattle.event_rule.specs.declared.event.Event.TheVariants.{Pulse}
+use Rattle.event_rule.specs.Step.{step}
 use Rattle.event_texts.specs.Played.{IsFaultOfStep}
 use Rattle.event_texts.proofs.Plays.{fault-reported, play-next}
 use Rattle.event_texts.proofs.playing.play.Goals as goal

@@ -1,5 +1,5 @@
 use Rattle.std.proofs.Common.{◌≡◌, take, Ok}
-use Rattle.event_machine.specs.Step.{run}
+use Rattle.event_rule.specs.Step.{run}
 use Rattle.event_texts.specs.Played.{events_in}
 use Rattle.event_texts.proofs.playing.play.Given as goal
 

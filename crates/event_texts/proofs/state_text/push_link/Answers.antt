@@ -2,7 +2,7 @@ use Rattle.std.proofs.Common.{◌≡◌, ◌∙◌, ◌++◌, ap, codes, length,
 use Rattle.std.specs.List.{flat_map}
 use Rattle.dimacs_col.proofs.Refused.{err_says}
 use Rattle.interference.specs.Net.{neighbour_of}
-use Rattle.event_machine.specs.State.{link_at}
+use Rattle.event_rule.specs.State.{link_at}
 use Rattle.number_rows.specs.Row.{numbered}
 use Rattle.program_texts.specs.PayloadTexts.{payload_texts}
 use Rattle.program_texts.specs.WireText.{wire_text}

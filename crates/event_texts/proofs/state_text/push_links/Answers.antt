@@ -1,6 +1,6 @@
 use Rattle.std.proofs.Common.{◌≡◌, ◌+◌, arith, ◌∙◌, ◌++◌, ap, append-nil, sym}
 use Rattle.interference.specs.Net.{neighbour_of, degree_of}
-use Rattle.event_machine.specs.State.{link_at}
+use Rattle.event_rule.specs.State.{link_at}
 use Rattle.program_texts.specs.PayloadTexts.{payload_texts}
 use Rattle.event_texts.specs.StateText.{link_text}
 use Rattle.number_rows.proofs.Ranges.{texts-more}

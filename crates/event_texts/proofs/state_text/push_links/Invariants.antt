@@ -1,7 +1,7 @@
 use Rattle.std.proofs.Common.{◌≡◌, ◌++◌, flat_map}
 use Rattle.std.specs.List.{range_with_len}
 use Rattle.interference.specs.Net.{neighbour_of}
-use Rattle.event_machine.specs.State.{link_at}
+use Rattle.event_rule.specs.State.{link_at}
 use Rattle.program_texts.specs.PayloadTexts.{payload_texts}
 use Rattle.event_texts.specs.StateText.{link_text}
 use Rattle.event_texts.proofs.state_text.push_links.Given as goal

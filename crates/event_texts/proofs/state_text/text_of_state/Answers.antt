@@ -1,5 +1,5 @@
 use Rattle.std.proofs.Common.{◌≡◌, ◌+◌, ◌++◌, [], ℕ, List, arith, ◌∙◌, ap}
-use Rattle.event_machine.specs.State.{node_of}
+use Rattle.event_rule.specs.State.{node_of}
 use Rattle.node_api.specs.Program.{last_pulse_on}
 use Rattle.program_texts.specs.PayloadTexts.{payload_texts}
 use Rattle.event_texts.specs.StateText.{links_text, node_text}

@@ -1,7 +1,7 @@
 use Rattle.std.proofs.Common.{◌≡◌, ◌∙◌, ℕ, ap, flat_map, subst}
 use Rattle.interference.specs.Net.{IsVertex, vertices}
 use Rattle.alpha_laws.specs.Progress.{end_node}
-use Rattle.event_machine.specs.State.{node_of}
+use Rattle.event_rule.specs.State.{node_of}
 use Rattle.byte_functions.specs.Ends.{node_end}
 use Rattle.lone_answers.proofs.Ended.{ends-answer}
 use Rattle.lone_answers.proofs.ends.alone_bytes.Goals as goal

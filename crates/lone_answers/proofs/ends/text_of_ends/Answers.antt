@@ -3,7 +3,7 @@ use Rattle.std.specs.List.{flat_map, range_with_len}
 use Rattle.number_rows.proofs.Ranges.{texts-more}
 use Rattle.dimacs_col.proofs.Refused.{err_says}
 use Rattle.interference.specs.Net.{count_of}
-use Rattle.event_machine.specs.State.{node_of}
+use Rattle.event_rule.specs.State.{node_of}
 use Rattle.lone_answers.proofs.Rows.{at_end}
 use Rattle.byte_functions.specs.Ends.{node_end}
 use Rattle.lone_answers.proofs.ends.text_of_ends.Goals as goal

@@ -1,6 +1,6 @@
 use Rattle.std.proofs.Common.{◌≡◌, flat_map}
 use Rattle.std.specs.List.{range_with_len}
-use Rattle.event_machine.specs.State.{node_of}
+use Rattle.event_rule.specs.State.{node_of}
 use Rattle.byte_functions.specs.Ends.{node_end}
 use Rattle.lone_answers.proofs.ends.text_of_ends.Given as goal
 

@@ -1,6 +1,6 @@
 use Rattle.std.proofs.Common.{arith, subst}
 use Rattle.interference.specs.Net.{IsNetwork}
-use Rattle.event_machine.specs.Events.{Possible}
+use Rattle.event_rule.specs.Events.{Possible}
 use Rattle.lone_runs.proofs.Events.{one_event, impossible}
 use Rattle.lone_runs.proofs.alone.attempt.Goals as goal
 

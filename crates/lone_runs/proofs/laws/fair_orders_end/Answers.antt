@@ -1,6 +1,6 @@
 use Rattle.std.proofs.Common.{[], arith, refl}
 use Rattle.alpha_laws.proofs.Runs.{runs}
-use Rattle.event_machine.specs.State.{start}
+use Rattle.event_rule.specs.State.{start}
 use Rattle.lone_runs.proofs.Fair.{ended}
 use Rattle.lone_runs.proofs.laws.fair_orders_end.Goals as goal
 

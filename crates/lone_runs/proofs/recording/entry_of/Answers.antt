@@ -1,9 +1,9 @@
 use Rattle.std.proofs.Common.{◌≡◌, ◌∙◌, ap, subst, sym, true}
 use Rattle.interference.specs.Net.{IsNetwork, neighbour_of, port_to}
 use Rattle.interference.proofs.Neighbours.{port_to-is}
-use Rattle.event_machine.specs.declared.event.Event.TheVariants.{Put, Take}
-use Rattle.event_machine.proofs.NetKept.{port_from}
-use Rattle.net_core.specs.Rows.{has_place}
+use Rattle.event_rule.specs.declared.event.Event.TheVariants.{Put, Take}
+use Rattle.event_rule.proofs.NetKept.{port_from}
+use Rattle.event_rule.specs.Rows.{has_place}
 use Rattle.lone_runs.proofs.recording.entry_of.Goals as goal
 
 -- the port that leads to the neighbour at a port is this one

@@ -3,8 +3,8 @@ use Rattle.interference.specs.Net.{IsNetwork}
 use Rattle.alpha_core.proofs.PortLists.{can-below}
 use Rattle.alpha_laws.proofs.Runs.{runs}
 use Rattle.node_api.specs.Program.{last_pulse_on}
-use Rattle.event_machine.specs.State.{node_of}
-use Rattle.event_machine.proofs.KeptRuns.{reached_kept}
+use Rattle.event_rule.specs.State.{node_of}
+use Rattle.event_rule.proofs.KeptRuns.{reached_kept}
 use Rattle.lone_runs.proofs.recording.next_pulse.Goals as goal
 
 -- a node that can pulse isn't at the last one

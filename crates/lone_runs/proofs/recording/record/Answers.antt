@@ -3,7 +3,7 @@
 use Rattle.std.proofs.Common.{◌++◌, ◌∷◌, [], refl, subst, sym}
 use Rattle.interference.specs.Net.{IsNetwork}
 use Rattle.entries.specs.declared.rows.StampedRow.{StampedRow}
-use Rattle.net_core.specs.Whole.{IsStampedReplay}
+use Rattle.event_rule.specs.Whole.{IsStampedReplay}
 use Rattle.lone_runs.specs.Recorded.{IsRecorded}
 use Rattle.lone_runs.specs.Ticks.{IsAbove, IsInTurn, IsPassed}
 use Rattle.lone_runs.proofs.LinksLater.{writes_of}

@@ -2,10 +2,10 @@
 -- (is-of); so its step is the definition's, and the test of what it writes down is one of the row.
 use Rattle.std.proofs.Common.{◌≡◌, ◌∙◌, false, ap, subst, sym}
 use Rattle.std.proofs.lemmas.Result.{IfOk-from_err}
-use Rattle.event_machine.specs.Step.{step}
+use Rattle.event_rule.specs.Step.{step}
 use Rattle.net_core.specs.declared.refused.EntryRefused.TheVariants.{Step}
 use Rattle.net_core.specs.Replays.{IsRefusedEntry}
-use Rattle.net_core.specs.Rows.{event_of, has_place, row_of}
+use Rattle.event_rule.specs.Rows.{event_of, has_place, row_of}
 use Rattle.net_core.proofs.Missing.{nowhere, refused-step}
 use Rattle.net_core.proofs.entry_event.make_entry.Goals as goal
 use Rattle.net_core.proofs.entry_event.make_entry.Goals.{In-Some}

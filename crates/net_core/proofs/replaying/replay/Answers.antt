@@ -1,9 +1,10 @@
 use Rattle.std.proofs.Common.{[], ap, drop, suc, sym, take, ◌∙◌, subst}
-use Rattle.event_machine.proofs.Parts.{take-split}
-use Rattle.event_machine.specs.Step.{step}
+use Rattle.event_rule.proofs.Parts.{take-split}
+use Rattle.event_rule.specs.Step.{step}
 use Rattle.net_core.proofs.Replayed.{replay-next, replay-start}
-use Rattle.net_core.specs.Replays.{IsReplay, WhyNot, at_entry}
-use Rattle.net_core.specs.Rows.{event_of, row_of}
+use Rattle.event_rule.specs.Replays.{IsReplay}
+use Rattle.net_core.specs.Replays.{WhyNot, at_entry}
+use Rattle.event_rule.specs.Rows.{event_of, row_of}
 use Rattle.net_core.proofs.replaying.replay.Goals as goal
 
 pub loop-index-init : goal.loop-index-init

@@ -1,5 +1,5 @@
 use Rattle.std.proofs.Common.{◌≡◌, take}
-use Rattle.net_core.specs.Replays.{IsReplay}
+use Rattle.event_rule.specs.Replays.{IsReplay}
 use Rattle.net_core.proofs.replaying.replay.Given as goal
 
 -- the entries so far are a replay that leads to the state

@@ -1,6 +1,6 @@
 use Rattle.std.proofs.Common.{Err, Ok, ap, sym, ◌∙◌}
-use Rattle.event_machine.specs.Refusals.{at_index}
-use Rattle.event_machine.specs.Step.{go_on}
+use Rattle.event_rule.specs.Refusals.{at_index}
+use Rattle.event_rule.specs.Step.{go_on}
 use Rattle.net_core.proofs.running.make.Goals as goal
 
 pub returns-in-Ok-clause-made : goal.returns-in-Ok-clause-made

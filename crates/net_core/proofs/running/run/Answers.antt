@@ -1,9 +1,9 @@
 use Rattle.std.proofs.Common.{◌∷◌, [], ◌+◌, ap, sym, ◌∙◌, get_or, take}
 use Rattle.std.proofs.lemmas.List.{get_or_default}
 use Rattle.std.proofs.lemmas.Result.{err_from_is_err_and}
-use Rattle.event_machine.specs.declared.event.Event.TheVariants.{Pulse}
-use Rattle.event_machine.specs.Step.{run, run_from, step}
-use Rattle.event_machine.proofs.Reached.{run_next, run_stops}
+use Rattle.event_rule.specs.declared.event.Event.TheVariants.{Pulse}
+use Rattle.event_rule.specs.Step.{run, run_from, step}
+use Rattle.event_rule.proofs.Reached.{run_next, run_stops}
 use Rattle.net_core.proofs.Ones.{made, stopped}
 use Rattle.net_core.proofs.running.run.Goals as goal
 

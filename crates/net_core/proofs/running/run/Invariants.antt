@@ -1,5 +1,5 @@
 use Rattle.std.proofs.Common.{◌≡◌, take, Ok}
-use Rattle.event_machine.specs.Step.{run}
+use Rattle.event_rule.specs.Step.{run}
 use Rattle.net_core.proofs.running.run.Given as goal
 
 abbrev pub invariant-loop-index : goal.invariant-loop-index

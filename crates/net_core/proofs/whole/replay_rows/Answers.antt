@@ -1,7 +1,8 @@
 use Rattle.std.proofs.Common.{◌≡◌, ◌+◌, ◌∙◌, [], arith, refl, subst, sym, take}
 use Rattle.std.proofs.lemmas.List.{take_all}
 use Rattle.std.proofs.lemmas.Result.{err_from_is_err_and}
-use Rattle.net_core.specs.Whole.{IsStampedReplay, WhyNotWhole}
+use Rattle.event_rule.specs.Whole.{IsStampedReplay}
+use Rattle.net_core.specs.Whole.{WhyNotWhole}
 use Rattle.stamps.specs.Table.{IsTableOf}
 use Rattle.stamps.proofs.Tables.{empty_table}
 use Rattle.net_core.proofs.WholeReplays.{stamped-start}

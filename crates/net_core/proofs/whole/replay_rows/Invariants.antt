@@ -1,5 +1,5 @@
 use Rattle.std.proofs.Common.{◌≡◌, take}
-use Rattle.net_core.specs.Whole.{IsStampedReplay}
+use Rattle.event_rule.specs.Whole.{IsStampedReplay}
 use Rattle.stamps.specs.Table.{IsTableOf}
 use Rattle.net_core.proofs.whole.replay_rows.Given as goal
 

@@ -1,8 +1,9 @@
 use Rattle.std.proofs.Common.{◌∙◌, ap, arith, subst, sym}
 use Rattle.std.proofs.lemmas.Result.{err_from_is_err_and}
-use Rattle.event_machine.specs.State.{start}
-use Rattle.net_core.specs.Whole.{IsStampedReplay, IsWhole, WhyNotWhole}
-use Rattle.net_core.proofs.Counted.{counters-within}
+use Rattle.event_rule.specs.State.{start}
+use Rattle.event_rule.specs.Whole.{IsStampedReplay, IsWhole}
+use Rattle.net_core.specs.Whole.{WhyNotWhole}
+use Rattle.event_rule.proofs.Counted.{counters-within}
 use Rattle.net_core.proofs.whole.replay_whole.Goals as goal
 
 pub replay_rows-requires-clause-start : goal.replay_rows-requires-clause-start

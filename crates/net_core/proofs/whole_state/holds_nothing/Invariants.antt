@@ -1,5 +1,5 @@
 use Rattle.std.proofs.Common.{◌≡◌, ◌<◌, ℕ, []}
-use Rattle.event_machine.specs.State.{link_at}
+use Rattle.event_rule.specs.State.{link_at}
 use Rattle.net_core.proofs.whole_state.holds_nothing.Given as goal
 
 abbrev pub invariant-loop-port : goal.invariant-loop-port

@@ -1,5 +1,5 @@
 use Rattle.std.proofs.Common.{ℕ, ◌≤◌}
-use Rattle.net_core.specs.Whole.{IsDone}
+use Rattle.event_rule.specs.Whole.{IsDone}
 use Rattle.net_core.proofs.whole_state.is_whole.Given as goal
 
 abbrev pub invariant-loop-i : goal.invariant-loop-i

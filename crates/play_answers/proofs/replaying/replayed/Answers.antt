@@ -1,8 +1,8 @@
 use Rattle.std.proofs.Common.{◌≡◌, ◌∙◌, Ok, ap, subst, sym}
 use Rattle.std.proofs.lemmas.Result.{IfOk-weaker}
 use Rattle.dimacs_col.specs.Lines.{lines_of}
-use Rattle.net_core.specs.Replays.{IsReplay}
-use Rattle.net_core.specs.Whole.{IsWholeReplay}
+use Rattle.event_rule.specs.Replays.{IsReplay}
+use Rattle.event_rule.specs.Whole.{IsWholeReplay}
 use Rattle.transcripts.specs.Editions.{One, Two, said_by}
 use Rattle.program_texts.specs.PayloadTexts.{payload_texts}
 use Rattle.play_answers.specs.ReplayAnswers.{transcript_in}

@@ -2,8 +2,8 @@ use Rattle.std.proofs.Common.{[], ◌∷◌, ◌++◌, map, replicate, sym, ap, 
 use Rattle.std.proofs.lemmas.List.{map-append}
 use Rattle.std.specs.List.{range_with_len}
 use Rattle.interference.specs.Net.{degree_of}
-use Rattle.event_machine.specs.State.{no_link}
-use Rattle.event_machine.proofs.Parts.{map-next}
+use Rattle.event_rule.specs.State.{no_link}
+use Rattle.event_rule.proofs.Parts.{map-next}
 use Rattle.event_machine.proofs.links.Links.new.Goals as goal
 
 pub loop-i-preserved : goal.loop-i-preserved

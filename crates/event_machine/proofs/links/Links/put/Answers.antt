@@ -1,8 +1,8 @@
 use Rattle.std.proofs.Common.{[], ◌∷◌, ◌++◌, map, refl, sym, ap, ◌∙◌, subst}
 use Rattle.std.specs.Vec.{with_item}
-use Rattle.event_machine.specs.State.{Link, HasLink, link_at, set_link}
-use Rattle.event_machine.proofs.Parts.{on_err}
-use Rattle.event_machine.proofs.LinkTable.{link_found, link_written, link_kept}
+use Rattle.event_rule.specs.State.{Link, HasLink, link_at, set_link}
+use Rattle.event_rule.proofs.Parts.{on_err}
+use Rattle.event_rule.proofs.LinkTable.{link_found, link_written, link_kept}
 use Rattle.event_machine.proofs.links.Links.put.Goals as goal
 
 pub returns-in_err-put-clause-refused : goal.returns-in_err-put-clause-refused

@@ -1,7 +1,7 @@
 use Rattle.std.proofs.Common.{map, refl, sym, ap, ◌∙◌, subst}
 use Rattle.std.specs.Vec.{with_item}
-use Rattle.event_machine.specs.State.{HasLink, link_at, set_link, take_one}
-use Rattle.event_machine.proofs.LinkTable.{link_found, link_written}
+use Rattle.event_rule.specs.State.{HasLink, link_at, set_link, take_one}
+use Rattle.event_rule.proofs.LinkTable.{link_found, link_written}
 use Rattle.event_machine.proofs.links.Links.take.Goals as goal
 
 pub returns : goal.returns

@@ -1,5 +1,5 @@
 use Rattle.std.proofs.Common.{subst}
-use Rattle.event_machine.specs.Simulation.{IsReachable, IsSimulation}
+use Rattle.event_rule.specs.Simulation.{IsReachable, IsSimulation}
 use Rattle.event_machine.proofs.Held.{simulation}
 use Rattle.event_machine.proofs.state.NetState.is_simulation.Goals as goal
 

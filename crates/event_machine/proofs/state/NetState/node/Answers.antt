@@ -1,7 +1,7 @@
 use Rattle.std.proofs.Common.{sym, ap, ◌∙◌, arith, subst}
 use Rattle.interference.specs.Net.{IsVertex}
 use Rattle.node_api.specs.Program.{last_pulse_on}
-use Rattle.event_machine.specs.State.{node_of}
+use Rattle.event_rule.specs.State.{node_of}
 use Rattle.event_machine.proofs.Held.{in_nodes, last_is, node_is}
 use Rattle.event_machine.proofs.state.NetState.node.Goals as goal
 

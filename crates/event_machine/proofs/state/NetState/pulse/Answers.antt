@@ -2,12 +2,12 @@
 -- can, no node refuses its pulse (pulse_refused), and it is made as the definition makes it (pulsed).
 use Rattle.std.proofs.Common.{◌≡◌, ◌-◌, ◌<◌, Ok, set, refl, sym, ap, ◌∙◌, subst}
 use Rattle.interference.specs.Net.{IsVertex}
-use Rattle.event_machine.specs.declared.event.Event.TheVariants.{Pulse}
-use Rattle.event_machine.specs.State.{NetView, state_in}
-use Rattle.event_machine.specs.Step.{is_vertex, step}
-use Rattle.event_machine.specs.Simulation.{IsNetState}
-use Rattle.event_machine.proofs.Parts.{fits_index}
-use Rattle.event_machine.proofs.NetKept.{vertex_from}
+use Rattle.event_rule.specs.declared.event.Event.TheVariants.{Pulse}
+use Rattle.event_rule.specs.State.{NetView, state_in}
+use Rattle.event_rule.specs.Step.{is_vertex, step}
+use Rattle.event_rule.specs.Simulation.{IsNetState}
+use Rattle.event_rule.proofs.Parts.{fits_index}
+use Rattle.event_rule.proofs.NetKept.{vertex_from}
 use Rattle.event_machine.proofs.Refusing.{pulse_no_such, not_ready-isnt_memory, no_such-isnt_memory}
 use Rattle.event_machine.proofs.Held.{in_nodes, unchanged, kept_same, pulse_not_ready, pulse_made, pulse_refused}
 use Rattle.event_machine.proofs.state.NetState.pulse.Goals as goal

@@ -3,15 +3,15 @@
 use Rattle.std.proofs.Common.{◌≡◌, ◌<◌, ◌-◌, ◌∷◌, List, Ok, length, set, refl, sym, ap, ◌∙◌, subst}
 use Rattle.interference.specs.Net.{IsVertex, degree_of}
 use Rattle.alpha_core.specs.View.{port_at}
-use Rattle.event_machine.specs.declared.event.Event.TheVariants.{Put}
+use Rattle.event_rule.specs.declared.event.Event.TheVariants.{Put}
 use Rattle.std.proofs.lemmas.Result.{err_from_is_err_and}
-use Rattle.event_machine.specs.State.{NetView, state_in}
-use Rattle.event_machine.specs.declared.refused.StepRefused.TheVariants.{Memory}
-use Rattle.event_machine.specs.Events.{Possible}
-use Rattle.event_machine.specs.Step.{has_port, step}
-use Rattle.event_machine.specs.Simulation.{IsNetState}
-use Rattle.event_machine.proofs.Parts.{first-some, first-none, some-first, fits_index, if_err, on_err}
-use Rattle.event_machine.proofs.NetKept.{port_from}
+use Rattle.event_rule.specs.State.{NetView, state_in}
+use Rattle.event_rule.specs.declared.refused.StepRefused.TheVariants.{Memory}
+use Rattle.event_rule.specs.Events.{Possible}
+use Rattle.event_rule.specs.Step.{has_port, step}
+use Rattle.event_rule.specs.Simulation.{IsNetState}
+use Rattle.event_rule.proofs.Parts.{first-some, first-none, some-first, fits_index, if_err, on_err}
+use Rattle.event_rule.proofs.NetKept.{port_from}
 use Rattle.event_machine.proofs.Refusing.{put_no_such, nothing_to_put-isnt_memory, no_such-isnt_memory}
 use Rattle.event_machine.proofs.Held.{in_nodes, has_link, in_ports, unchanged, kept_same, put_nothing, put_made, put_possible}
 use Rattle.event_machine.proofs.state.NetState.put.Goals as goal

@@ -4,12 +4,12 @@
 use Rattle.std.proofs.Common.{◌≡◌, ◌<◌, ◌-◌, ◌∷◌, List, Ok, set, sym, ap, ◌∙◌, subst}
 use Rattle.std.specs.Prelude.{slice_get}
 use Rattle.interference.specs.Net.{IsVertex, degree_of, neighbour_of}
-use Rattle.event_machine.specs.declared.event.Event.TheVariants.{Take}
-use Rattle.event_machine.specs.State.{HasLink, NetView, link_at, link_to, set_link, state_in, take_one}
-use Rattle.event_machine.specs.Step.{has_port, step}
-use Rattle.event_machine.specs.Simulation.{IsNetState}
-use Rattle.event_machine.proofs.Parts.{first-some, first-none, some-first, fits_index}
-use Rattle.event_machine.proofs.NetKept.{port_from}
+use Rattle.event_rule.specs.declared.event.Event.TheVariants.{Take}
+use Rattle.event_rule.specs.State.{HasLink, NetView, link_at, link_to, set_link, state_in, take_one}
+use Rattle.event_rule.specs.Step.{has_port, step}
+use Rattle.event_rule.specs.Simulation.{IsNetState}
+use Rattle.event_rule.proofs.Parts.{first-some, first-none, some-first, fits_index}
+use Rattle.event_rule.proofs.NetKept.{port_from}
 use Rattle.event_machine.proofs.Refusing.{take_no_such, link_empty-isnt_memory, no_such-isnt_memory}
 use Rattle.event_machine.proofs.Held.{in_nodes, has_link_to, in_ports, room, take_nothing, take_made, take_refused}
 use Rattle.event_machine.proofs.state.NetState.take.Goals as goal

@@ -1,6 +1,6 @@
 use Rattle.std.proofs.Common.{◌<◌, drop, length, ap, ◌∙◌, arith, take, ◌++◌, ◌+◌}
-use Rattle.event_machine.specs.State.{Link, take_one}
-use Rattle.event_machine.proofs.Parts.{take-next}
+use Rattle.event_rule.specs.State.{Link, take_one}
+use Rattle.event_rule.proofs.Parts.{take-next}
 use Rattle.event_machine.proofs.wire_list.Wires.take.Goals as goal
 
 pub returns : goal.returns

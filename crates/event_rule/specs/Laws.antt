@@ -2,11 +2,11 @@
 use Rattle.std.specs.Prelude.{◌≡◌, List, Ok}
 use Rattle.interference.specs.Net.{Net}
 use Rattle.node_api.specs.Program.{Program}
-use Rattle.event_machine.specs.declared.event.Event.{Event}
-use Rattle.event_machine.specs.State.{State}
-use Rattle.event_machine.specs.Step.{run}
-use Rattle.event_machine.specs.Events.{RunsExactly, StepsExactly}
-use Rattle.event_machine.specs.Simulation.{IsReachable, IsSimulation}
+use Rattle.event_rule.specs.declared.event.Event.{Event}
+use Rattle.event_rule.specs.State.{State}
+use Rattle.event_rule.specs.Step.{run}
+use Rattle.event_rule.specs.Events.{RunsExactly, StepsExactly}
+use Rattle.event_rule.specs.Simulation.{IsReachable, IsSimulation}
 
 -- whatever events come, in the state that they reach the nodes simulate the synchronous run
 abbrev pub RunsSimulate : {S M E : Type 0} → Program S M E → Net → Type 0

@@ -5,14 +5,14 @@ use Rattle.node_api.specs.Program.{Program, last_pulse_on}
 use Rattle.wires.specs.declared.wire.Wire.{Wire}
 use Rattle.alpha_core.specs.View.{View, Node, port_at, can_pulse}
 use Rattle.alpha_core.specs.Alpha.{pulse, reaction, put_done}
-use Rattle.event_machine.specs.declared.event.Event.{Event}
-use Rattle.event_machine.specs.declared.event.Event.TheVariants.{Pulse, Put, Take}
-use Rattle.event_machine.specs.declared.refused.StepRefused.{StepRefused}
-use Rattle.event_machine.specs.declared.refused.StepRefused.TheVariants.{NotReady, NothingToPut, LinkEmpty, NoSuch}
-use Rattle.event_machine.specs.declared.refused.RunRefused.{RunRefused}
-use Rattle.event_machine.specs.Refusals.{at_index}
-use Rattle.event_machine.specs.State.{State, start, node_of, link_at, link_to, sent_of, set_node, set_link, set_link_to}
-use Rattle.event_machine.specs.Step.{run, step}
+use Rattle.event_rule.specs.declared.event.Event.{Event}
+use Rattle.event_rule.specs.declared.event.Event.TheVariants.{Pulse, Put, Take}
+use Rattle.event_rule.specs.declared.refused.StepRefused.{StepRefused}
+use Rattle.event_rule.specs.declared.refused.StepRefused.TheVariants.{NotReady, NothingToPut, LinkEmpty, NoSuch}
+use Rattle.event_rule.specs.declared.refused.RunRefused.{RunRefused}
+use Rattle.event_rule.specs.Refusals.{at_index}
+use Rattle.event_rule.specs.State.{State, start, node_of, link_at, link_to, sent_of, set_node, set_link, set_link_to}
+use Rattle.event_rule.specs.Step.{run, step}
 
 -- the vertex and the port that an event names are there
 abbrev pub Exists : Net → Event → Type 0

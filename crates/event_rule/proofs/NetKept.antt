@@ -10,8 +10,8 @@ use Rattle.alpha_core.specs.View.{Node, port_at}
 use Rattle.alpha_core.specs.Program.{start_node}
 use Rattle.alpha_laws.specs.Kept.{KeptAt, NodeKept, AllKept}
 use Rattle.alpha_laws.proofs.Across.{over}
-use Rattle.event_machine.specs.State.{Link, State, sent_of, node_of, link_at, link_to, set_node}
-use Rattle.event_machine.specs.Step.{is_vertex, has_port}
+use Rattle.event_rule.specs.State.{Link, State, sent_of, node_of, link_at, link_to, set_node}
+use Rattle.event_rule.specs.Step.{is_vertex, has_port}
 
 pub record NetKept {S M E : Type 0} (program : Program S M E) (net : Net) (state : State S M) : Type 0 where
   pub nodes : length state.nodes ≡ count_of net

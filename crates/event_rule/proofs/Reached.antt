@@ -2,14 +2,14 @@
 use Rattle.std.proofs.Common.{◌≡◌, ℕ, suc, ◌+◌, ◌<◌, List, [], ◌∷◌, ◌++◌, take, drop, length, get_or, Result, Ok, Err, refl, ap, ◌∙◌, arith}
 use Rattle.interference.specs.Net.{Net}
 use Rattle.node_api.specs.Program.{Program}
-use Rattle.event_machine.specs.declared.event.Event.{Event}
-use Rattle.event_machine.specs.declared.refused.StepRefused.{StepRefused}
-use Rattle.event_machine.specs.declared.refused.RunRefused.{RunRefused}
-use Rattle.event_machine.specs.State.{State, start}
-use Rattle.event_machine.specs.Step.{step, go_on, run_from, run}
-use Rattle.event_machine.specs.Refusals.{at_index}
-use Rattle.event_machine.proofs.Parts.{take-split}
-use Rattle.event_machine.specs.Simulation.{IsReachable}
+use Rattle.event_rule.specs.declared.event.Event.{Event}
+use Rattle.event_rule.specs.declared.refused.StepRefused.{StepRefused}
+use Rattle.event_rule.specs.declared.refused.RunRefused.{RunRefused}
+use Rattle.event_rule.specs.State.{State, start}
+use Rattle.event_rule.specs.Step.{step, go_on, run_from, run}
+use Rattle.event_rule.specs.Refusals.{at_index}
+use Rattle.event_rule.proofs.Parts.{take-split}
+use Rattle.event_rule.specs.Simulation.{IsReachable}
 
 abbrev and_then : {A B : Type 0} → Result A RunRefused → (A → Result B RunRefused) → Result B RunRefused
 and_then (Ok x) f = f x

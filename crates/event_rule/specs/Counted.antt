@@ -2,9 +2,9 @@
 use Rattle.std.specs.Prelude.{◌≤◌, All, List, length}
 use Rattle.interference.specs.Net.{Net}
 use Rattle.node_api.specs.Program.{Program}
-use Rattle.event_machine.specs.State.{State}
+use Rattle.event_rule.specs.State.{State}
 use Rattle.entries.specs.declared.rows.StampedRow.{StampedRow}
-use Rattle.net_core.specs.Whole.{IsStampedReplay}
+use Rattle.event_rule.specs.Whole.{IsStampedReplay}
 
 -- No stamp of a stamped replay passes the number of its entries.
 abbrev pub StampsAreCounted : {S M E : Type 0} → Program S M E → Net → Type 0

@@ -3,4 +3,8 @@ pub mod Refusals
 pub mod Step
 pub mod Events
 pub mod Simulation
+pub mod Rows
+pub mod Replays
+pub mod Whole
+pub mod Counted
 pub mod Laws

@@ -14,13 +14,13 @@ use Rattle.alpha_laws.proofs.NodeTakes.{puts_kept, takes_node}
 use Rattle.alpha_laws.proofs.NodePulses.{pulse_node}
 use Rattle.alpha_laws.proofs.Across.{due_at, allowed_at}
 use Rattle.alpha_laws.proofs.Next.{next_pulse}
-use Rattle.event_machine.specs.declared.event.Event.{Event}
-use Rattle.event_machine.specs.declared.event.Event.TheVariants.{Pulse, Put, Take}
-use Rattle.event_machine.specs.declared.refused.StepRefused.{StepRefused}
-use Rattle.event_machine.specs.State.{Link, State, sent_of, node_of, link_at, link_to, set_node, set_link, set_link_to}
-use Rattle.event_machine.specs.Step.{is_vertex, has_port, else_old, after_put, after_take, step}
-use Rattle.event_machine.proofs.LinkTable.{link_same, link_other, link_field, rows_kept, row_kept}
-use Rattle.event_machine.proofs.NetKept.{NetKept, all_kept, node_changes, vertex_from, port_from}
+use Rattle.event_rule.specs.declared.event.Event.{Event}
+use Rattle.event_rule.specs.declared.event.Event.TheVariants.{Pulse, Put, Take}
+use Rattle.event_rule.specs.declared.refused.StepRefused.{StepRefused}
+use Rattle.event_rule.specs.State.{Link, State, sent_of, node_of, link_at, link_to, set_node, set_link, set_link_to}
+use Rattle.event_rule.specs.Step.{is_vertex, has_port, else_old, after_put, after_take, step}
+use Rattle.event_rule.proofs.LinkTable.{link_same, link_other, link_field, rows_kept, row_kept}
+use Rattle.event_rule.proofs.NetKept.{NetKept, all_kept, node_changes, vertex_from, port_from}
 
 abbrev pub Good : {S M E : Type 0} → Program S M E → Net → Result (State S M) StepRefused → Type 0
 Good program net (Ok state) = NetKept program net state

@@ -2,8 +2,8 @@
 use Rattle.std.proofs.Common.{◌≡◌, ℕ, ◌-◌, ◌<◌, ◌≤◌, List, [], map, length, get_or, set, sym, ap, ◌∙◌, arith, ⊎_elim}
 use Rattle.std.proofs.lemmas.Bool.{cases_eq}
 use Rattle.std.proofs.lemmas.List.{get_or-set_same, get_or-set_other, length-set, get_or_default, get_or-map, length-map, map-set}
-use Rattle.event_machine.specs.State.{Link, HasLink, no_link, link_at, set_link}
-use Rattle.event_machine.proofs.Parts.{set-same}
+use Rattle.event_rule.specs.State.{Link, HasLink, no_link, link_at, set_link}
+use Rattle.event_rule.proofs.Parts.{set-same}
 
 module _ {M : Type 0} (links : List (List (Link M))) (v i : ℕ) (link : Link M) (low : 1 ≤ v) (in_rows : v - 1 < length links)
     (in_row : i < length (get_or links (v - 1) [])) where

@@ -10,14 +10,14 @@ use Rattle.alpha_laws.specs.Kept.{NodeKept}
 use Rattle.alpha_laws.proofs.Runs.{Runs}
 use Rattle.alpha_laws.proofs.NodePulses.{start_kept}
 use Rattle.alpha_laws.proofs.Claims.{simulates}
-use Rattle.event_machine.specs.declared.event.Event.{Event}
-use Rattle.event_machine.specs.declared.refused.StepRefused.{StepRefused}
-use Rattle.event_machine.specs.declared.refused.RunRefused.{RunRefused}
-use Rattle.event_machine.specs.State.{State, sent_of, no_link, link_at, link_to, start}
-use Rattle.event_machine.specs.Step.{step, go_on, run_from}
-use Rattle.event_machine.specs.Simulation.{IsSimulation, IsReachable}
-use Rattle.event_machine.proofs.NetKept.{NetKept, all_kept, node_same}
-use Rattle.event_machine.proofs.KeptSteps.{Good, step_good}
+use Rattle.event_rule.specs.declared.event.Event.{Event}
+use Rattle.event_rule.specs.declared.refused.StepRefused.{StepRefused}
+use Rattle.event_rule.specs.declared.refused.RunRefused.{RunRefused}
+use Rattle.event_rule.specs.State.{State, sent_of, no_link, link_at, link_to, start}
+use Rattle.event_rule.specs.Step.{step, go_on, run_from}
+use Rattle.event_rule.specs.Simulation.{IsSimulation, IsReachable}
+use Rattle.event_rule.proofs.NetKept.{NetKept, all_kept, node_same}
+use Rattle.event_rule.proofs.KeptSteps.{Good, step_good}
 
 -- what a run comes to
 abbrev pub GoodRun : {S M E : Type 0} → Program S M E → Net → Result (State S M) RunRefused → Type 0

@@ -9,14 +9,14 @@ use Rattle.wires.specs.declared.wire.Wire.{Wire}
 use Rattle.alpha_core.specs.View.{port_at, can_pulse}
 use Rattle.alpha_laws.proofs.Runs.{Runs}
 use Rattle.alpha_laws.proofs.Next.{next_pulse, next_reacts}
-use Rattle.event_machine.specs.declared.event.Event.{Event}
-use Rattle.event_machine.specs.declared.event.Event.TheVariants.{Pulse, Put, Take}
-use Rattle.event_machine.specs.declared.refused.StepRefused.{StepRefused}
-use Rattle.event_machine.specs.declared.refused.StepRefused.TheVariants.{NotReady, NoSuch}
-use Rattle.event_machine.specs.State.{State, node_of, link_to, sent_of, set_node, set_link_to}
-use Rattle.event_machine.specs.Step.{is_vertex, has_port, else_old, after_pulse, after_put, after_take, step}
-use Rattle.event_machine.specs.Events.{Exists, Ready, not_ready, WhyNot, Steps}
-use Rattle.event_machine.proofs.NetKept.{NetKept, all_kept, vertex_from, vertex_is, port_from, port_is}
+use Rattle.event_rule.specs.declared.event.Event.{Event}
+use Rattle.event_rule.specs.declared.event.Event.TheVariants.{Pulse, Put, Take}
+use Rattle.event_rule.specs.declared.refused.StepRefused.{StepRefused}
+use Rattle.event_rule.specs.declared.refused.StepRefused.TheVariants.{NotReady, NoSuch}
+use Rattle.event_rule.specs.State.{State, node_of, link_to, sent_of, set_node, set_link_to}
+use Rattle.event_rule.specs.Step.{is_vertex, has_port, else_old, after_pulse, after_put, after_take, step}
+use Rattle.event_rule.specs.Events.{Exists, Ready, not_ready, WhyNot, Steps}
+use Rattle.event_rule.proofs.NetKept.{NetKept, all_kept, vertex_from, vertex_is, port_from, port_is}
 
 false-true : {A : Type 0} {b : Bool} → b ≡ false → b ≡ true → A
 false-true e f = let wrong : false ≡ true = sym e ∙ f in absurd cc

@@ -6,14 +6,14 @@ use Rattle.node_api.specs.Program.{Program, last_pulse_on}
 use Rattle.wires.specs.declared.wire.Wire.{Wire}
 use Rattle.alpha_core.specs.View.{Node, port_at, can_pulse}
 use Rattle.alpha_core.specs.Alpha.{pulse, reaction, put_done}
-use Rattle.event_machine.specs.declared.event.Event.{Event}
-use Rattle.event_machine.specs.declared.event.Event.TheVariants.{Pulse, Put, Take}
-use Rattle.event_machine.specs.declared.refused.StepRefused.{StepRefused}
-use Rattle.event_machine.specs.declared.refused.StepRefused.TheVariants.{NotReady, NothingToPut, LinkEmpty, NoSuch}
-use Rattle.event_machine.specs.declared.refused.StepRefused.TheVariants.{Memory}
-use Rattle.event_machine.specs.declared.refused.RunRefused.{RunRefused}
-use Rattle.event_machine.specs.Refusals.{at_index}
-use Rattle.event_machine.specs.State.{State, NetView, start, node_of, link_at, link_to, set_node, set_link, set_link_to}
+use Rattle.event_rule.specs.declared.event.Event.{Event}
+use Rattle.event_rule.specs.declared.event.Event.TheVariants.{Pulse, Put, Take}
+use Rattle.event_rule.specs.declared.refused.StepRefused.{StepRefused}
+use Rattle.event_rule.specs.declared.refused.StepRefused.TheVariants.{NotReady, NothingToPut, LinkEmpty, NoSuch}
+use Rattle.event_rule.specs.declared.refused.StepRefused.TheVariants.{Memory}
+use Rattle.event_rule.specs.declared.refused.RunRefused.{RunRefused}
+use Rattle.event_rule.specs.Refusals.{at_index}
+use Rattle.event_rule.specs.State.{State, NetView, start, node_of, link_at, link_to, set_node, set_link, set_link_to}
 
 abbrev pub is_vertex : Net → ℕ → Bool
 is_vertex net v = nat_le 1 v && nat_le v (count_of net)

@@ -1,7 +1,7 @@
 //! Why an event, or a list of events, is refused.
 
 ghost use Rattle.std.specs.Prelude.{◌≡◌};
-ghost use Rattle.event_machine.specs.Refusals.{at_index};
+ghost use Rattle.event_rule.specs.Refusals.{at_index};
 
 use interference::Memory;
 use thiserror::Error;
@@ -22,7 +22,7 @@ pub enum StepRefused {
 }
 
 impl From<Memory> for StepRefused {
-    ghost use Rattle.event_machine.specs.declared.refused.StepRefused.TheVariants.{Memory};
+    ghost use Rattle.event_rule.specs.declared.refused.StepRefused.TheVariants.{Memory};
 
     ghost from_gives = { λ _ refused. refused ≡ Memory };
 
@@ -47,7 +47,7 @@ pub enum RunRefused {
 }
 
 impl From<Memory> for RunRefused {
-    ghost use Rattle.event_machine.specs.declared.refused.RunRefused.TheVariants.{Memory};
+    ghost use Rattle.event_rule.specs.declared.refused.RunRefused.TheVariants.{Memory};
 
     ghost from_gives = { λ _ refused. refused ≡ Memory };
 

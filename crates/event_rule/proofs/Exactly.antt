@@ -3,17 +3,17 @@ use Rattle.std.proofs.Common.{◌≡◌, ℕ, suc, ◌+◌, List, [], ◌∷◌,
 use Rattle.interference.specs.Net.{Net, IsNetwork}
 use Rattle.node_api.specs.Program.{Program}
 use Rattle.alpha_laws.proofs.Runs.{Runs}
-use Rattle.event_machine.specs.declared.event.Event.{Event}
-use Rattle.event_machine.specs.declared.refused.StepRefused.{StepRefused}
-use Rattle.event_machine.specs.declared.refused.RunRefused.{RunRefused}
-use Rattle.event_machine.specs.Refusals.{at_index}
-use Rattle.event_machine.specs.State.{State, start}
-use Rattle.event_machine.specs.Step.{step, go_on, run_from, run}
-use Rattle.event_machine.specs.Events.{Steps, StepsExactly, IsRunFrom, StopsFrom, RunsExactly}
-use Rattle.event_machine.proofs.NetKept.{NetKept}
-use Rattle.event_machine.proofs.KeptSteps.{Good, step_good}
-use Rattle.event_machine.proofs.KeptRuns.{start_good}
-use Rattle.event_machine.proofs.Stepping.{Stepped, stepped, steps-step, why-step}
+use Rattle.event_rule.specs.declared.event.Event.{Event}
+use Rattle.event_rule.specs.declared.refused.StepRefused.{StepRefused}
+use Rattle.event_rule.specs.declared.refused.RunRefused.{RunRefused}
+use Rattle.event_rule.specs.Refusals.{at_index}
+use Rattle.event_rule.specs.State.{State, start}
+use Rattle.event_rule.specs.Step.{step, go_on, run_from, run}
+use Rattle.event_rule.specs.Events.{Steps, StepsExactly, IsRunFrom, StopsFrom, RunsExactly}
+use Rattle.event_rule.proofs.NetKept.{NetKept}
+use Rattle.event_rule.proofs.KeptSteps.{Good, step_good}
+use Rattle.event_rule.proofs.KeptRuns.{start_good}
+use Rattle.event_rule.proofs.Stepping.{Stepped, stepped, steps-step, why-step}
 
 -- what a list of events comes to, in the relations
 abbrev Comes : {S M E : Type 0} → Program S M E → Net → ℕ → State S M → List Event → Result (State S M) RunRefused → Type 0

@@ -1,18 +1,27 @@
 -- Stamps, and how many rows there are.
 use Rattle.std.proofs.Common.{◌≡◌, ℕ, zero, suc, ◌+◌, ◌≤◌, Bool, true, false, ◌==◌, ◌&&◌, if◌then◌else◌, List, [], ◌∷◌, ◌++◌, length}
-use Rattle.std.proofs.Common.{append_assoc, arith, refl, sym, subst, ⊎_elim, ◌∙◌}
+use Rattle.std.proofs.Common.{Some, Result, Ok, Err, ap, append_assoc, arith, refl, sym, subst, ⊎_elim, ◌∙◌}
 use Rattle.std.specs.Prelude.{All, slice_index_or}
-use Rattle.std.proofs.lemmas.List.{append-nil, length-append}
+use Rattle.std.proofs.lemmas.List.{append-nil, length-append, length-map}
+use Rattle.interference.specs.Net.{Net}
+use Rattle.node_api.specs.Program.{Program}
 use Rattle.std.proofs.lemmas.List.Elements.{All-cons, All-head, All-nil, All-push, All-tail}
 use Rattle.entries.specs.declared.entry.Entry.{Entry}
 use Rattle.entries.specs.declared.entry.Entry.TheVariants.{Pulse, Put, Take}
-use Rattle.entries.specs.Rows.{stamped_row, without_vertex}
+use Rattle.entries.specs.Rows.{stamped_row, without_stamp, without_vertex}
 use Rattle.wires.specs.declared.stamped.Stamped.{Stamped}
 use Rattle.stamps.specs.Stamps.{counter_from, counter_of, taken_in}
 use Rattle.entries.specs.declared.rows.StampedRow.{StampedRow}
-use Rattle.stamps.specs.Merged.{AreStampedRows, entries_at, puts_at, stamp_behind}
+use Rattle.stamps.specs.Merged.{AreStampedRows, entries_at, puts_at, rows_in, stamp_behind}
 use Rattle.stamps.proofs.Lists.{none_or_one}
 use Rattle.wires.specs.StampedWires.{stamps_of}
+use Rattle.event_rule.specs.declared.event.Event.{Event}
+use Rattle.event_rule.specs.declared.refused.StepRefused.{StepRefused}
+use Rattle.event_rule.specs.State.{State, start}
+use Rattle.event_rule.specs.Step.{go_on, run_from, step}
+use Rattle.event_rule.specs.Rows.{if_made, rows_from}
+use Rattle.event_rule.specs.Replays.{IsReplay}
+use Rattle.event_rule.specs.Counted.{EventsBoundStamps}
 
 pick : {A : Type 0} (P : A → Type 0) (b : Bool) (x y : A) → P x → P y → P (if b then x else y)
 pick P true x y p q = p
@@ -85,3 +94,27 @@ module _ {M : Type 0} where
   -- nor does the counter of a vertex
   pub counters-within : (rows : List (StampedRow M)) → AreStampedRows rows → (v : ℕ) → counter_of (entries_at rows v) ≤ length rows
   counters-within rows right v = counter-within (length rows) 0 v rows (omega arith) (stamps-within rows right)
+
+module _ {S M E : Type 0} (program : Program S M E) (net : Net) where
+  -- the events of a run write down as many rows
+  rows-many : (k : ℕ) (events : List Event) (state last : State S M) → run_from program net k events state ≡ Ok last
+      → length (rows_from program net state events) ≡ length events
+  rows-many k [] state last is = refl
+  rows-many k (event ∷ events) state last is =
+      by-step (step program net state event) is (λ n rest. rows-many (suc k) events n last rest)
+    where
+      by-step : (r : Result (State S M) StepRefused) → go_on k r (λ n. run_from program net (suc k) events n) ≡ Ok last
+          → ((n : State S M) → run_from program net (suc k) events n ≡ Ok last → length (rows_from program net n events) ≡ length events)
+          → suc (length (if_made r (λ n. rows_from program net n events))) ≡ suc (length events)
+      by-step (Ok n) is more = ap (λ l. suc l) (more n is)
+      by-step (Err reason) is more = absurd cc
+
+  -- so there are as many events as rows
+  events-many : (rows : List (StampedRow M)) (last : State S M) → (is : IsReplay program net (rows_in rows) last) → length is.events ≡ length rows
+  events-many rows last is =
+      sym (rows-many 0 is.events (start program net) last is.is_run) ∙ ap (λ l. length l) is.rows_are
+      ∙ length-map (rows_in rows) (λ row. Some row) ∙ length-map rows (λ r. without_stamp r)
+
+  pub stamps-within-events : EventsBoundStamps program net
+  stamps-within-events rows last is =
+      subst (λ n. All (λ (row : StampedRow M). row.stamp ≤ n) rows) (sym (events-many rows last is.replay)) (stamps-within rows is.stamped)

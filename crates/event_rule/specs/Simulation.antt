@@ -4,9 +4,9 @@ use Rattle.interference.specs.Net.{Net, IsNetwork}
 use Rattle.node_api.specs.Program.{Program, last_pulse_on}
 use Rattle.alpha_core.specs.View.{Alpha}
 use Rattle.alpha_laws.specs.Simulates.{Simulates}
-use Rattle.event_machine.specs.declared.event.Event.{Event}
-use Rattle.event_machine.specs.State.{Link, State, node_of, link_at, link_to, sent_of, state_in}
-use Rattle.event_machine.specs.Step.{run}
+use Rattle.event_rule.specs.declared.event.Event.{Event}
+use Rattle.event_rule.specs.State.{Link, State, node_of, link_at, link_to, sent_of, state_in}
+use Rattle.event_rule.specs.Step.{run}
 
 -- the nodes of a state, with the lists put on their links and taken from them, simulate the synchronous run
 abbrev pub IsSimulation : {S M E : Type 0} → Program S M E → Net → State S M → Type 0

@@ -7,10 +7,10 @@ use Rattle.wires.specs.declared.wire.Wire.{Wire}
 use Rattle.entries.specs.declared.entry.Entry.{Entry}
 use Rattle.entries.specs.declared.entry.Entry.TheVariants as entry
 use Rattle.entries.specs.Rows.{vertex_row}
-use Rattle.event_machine.specs.declared.event.Event.{Event}
-use Rattle.event_machine.specs.declared.event.Event.TheVariants.{Pulse, Put, Take}
-use Rattle.event_machine.specs.State.{State, link_to, node_of, start}
-use Rattle.event_machine.specs.Step.{has_port, is_vertex, step}
+use Rattle.event_rule.specs.declared.event.Event.{Event}
+use Rattle.event_rule.specs.declared.event.Event.TheVariants.{Pulse, Put, Take}
+use Rattle.event_rule.specs.State.{State, link_to, node_of, start}
+use Rattle.event_rule.specs.Step.{has_port, is_vertex, step}
 -- an entry with the vertex of its node
 use Rattle.entries.specs.declared.rows.Row.{Row}
 

@@ -1,0 +1,10 @@
+pub mod Parts
+pub mod LinkTable
+pub mod NetKept
+pub mod KeptSteps
+pub mod KeptRuns
+pub mod Reached
+pub mod Stepping
+pub mod Exactly
+pub mod Writes
+pub mod Counted
