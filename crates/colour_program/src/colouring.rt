@@ -12,11 +12,16 @@ use std::alloc::Global;
 use std::marker::Model;
 
 /// A node of the colouring, as a program of nodes. Contracts see the `Node` of `colour_rules`.
-#[derive(Drop)]
 pub struct Colouring {
     // The pulses of which the node knows already that it does nothing if nothing comes.
     idle: IdlePulses,
     node: ColourNode,
+}
+
+impl Drop for Colouring {
+    fn drop(self) {
+        let Colouring { idle: _, node: _ } = self;
+    }
 }
 
 impl Model for Colouring {
