@@ -17,17 +17,18 @@ def command():
 
 def wanted():
     """The line of the kit that these sources are for."""
-    with open(os.path.join(TOP, "build", "kit_name.txt"), encoding="utf-8") as line:
+    return line_in(TOP, "build", "kit_name.txt")
+
+
+def line_in(*path):
+    with open(os.path.join(*path), encoding="utf-8") as line:
         return line.read().strip()
 
 
 def found():
     """The line of the kit that `rt` is of, if it says so."""
     try:
-        with open(
-            os.path.join(os.path.dirname(os.path.dirname(command())), "KIT-ID"), encoding="utf-8"
-        ) as line:
-            return line.read().strip()
+        return line_in(os.path.dirname(os.path.dirname(command())), "KIT-ID")
     except OSError:
         return "no kit that says its name"
 

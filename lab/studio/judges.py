@@ -85,19 +85,21 @@ def judged(network, network_text, text, program):
     entries = {"entries": max(0, text.count("\n") - 1)}
     if not OPENED["is_proved"] or is_own(program):
         return entries | by_definitions(network, text, program)
-    status, output, said = said_by(
-        "forestplay", ["replay", *program_words(program)], network_text, "\n", text
-    )
+    status, output, said = replayed(network_text, text, program)
     return entries | {"ok": status == 0, "said": said or output, "by": MACHINE}
+
+
+def replayed(network_text, text, program):
+    """(status, output, what is said) of the proved program."""
+    words = ["replay", *program_words(program)]
+    return said_by("forestplay", words, network_text, "\n", text)
 
 
 def beginning_judged(network, network_text, entries, program):
     """What is said of the first entries of a run, each without its stamp: {ok, said, pulses, wires, by}."""
     text = as_text([f"transcript 1 {network.nodes}", *entries])
     if OPENED["is_proved"] and not is_own(program):
-        status, output, said = said_by(
-            "forestplay", ["replay", *program_words(program)], network_text, "\n", text
-        )
+        status, output, said = replayed(network_text, text, program)
         at = [int(found.group(1)) for found in re.finditer(r"^node \d+ pulse (\d+)", output, re.M)]
         flying = len(re.findall(r"\b(?:payload|ack|safe|close)\b", output))
         return {"ok": status == 0, "said": said, "pulses": at, "wires": flying, "by": MACHINE}

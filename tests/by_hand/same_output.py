@@ -5,7 +5,6 @@ The commands are those of this tree's pages, and each kind of picture, `simulate
 built. Status, output and errors have to be the same bytes. What differs is printed, and last how
 many did."""
 
-import argparse
 import os
 import subprocess
 import sys
@@ -91,24 +90,23 @@ def outcome(top, command, home):
 
 
 def main():
-    words = argparse.ArgumentParser(usage="python3 -m tests.by_hand.same_output OLD NEW")
-    words.add_argument("old", type=os.path.abspath)
-    words.add_argument("new", type=os.path.abspath)
-    given = words.parse_args()
+    tops = [os.path.abspath(top) for top in sys.argv[1:]]
+    if len(tops) != 2:
+        raise SystemExit(__doc__)
     commands = [*dict.fromkeys([*of_pages(), *of_networks(), *others()])]
     differ = 0
     with tempfile.TemporaryDirectory() as home, ThreadPoolExecutor(2) as pool:
 
         def both(command):
-            return [outcome(top, command, home) for top in (given.old, given.new)]
+            return [outcome(top, command, home) for top in tops]
 
         for command, (old, new) in zip(commands, pool.map(both, commands)):
             if old != new:
                 differ += 1
                 print(f"{command}\n  was {str(old)[:300]}\n  is  {str(new)[:300]}", flush=True)
     print(f"{len(commands)} commands, {differ} differ")
-    return 1 if differ else 0
+    sys.exit(bool(differ))
 
 
 if __name__ == "__main__":
-    sys.exit(main())
+    main()

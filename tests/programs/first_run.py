@@ -11,6 +11,7 @@ import subprocess
 import sys
 import tempfile
 
+from lab.workshop import class_files
 from tests import TOP
 from tests.cases import Case, called, copied, text_in, wait_until
 from tests.running import without_rt
@@ -103,9 +104,7 @@ CRATES = (
 
 
 def write(path, text, mode=0o644):
-    os.makedirs(os.path.dirname(path), exist_ok=True)
-    with open(path, "w", encoding="utf-8") as file:
-        file.write(text)
+    class_files.write(path, text)
     os.chmod(path, mode)
 
 
@@ -328,11 +327,15 @@ class FirstRun(Case):
 
     def run_stopped(self, tree):
         """A call that is stopped keeps what is proved, and leaves nothing at work; a second one waits meanwhile."""
+
+        def is_in_middle():
+            # Before that a shim of `python3` may be at work, too.
+            return tree.at_work() and "== middle" in tree.log()
+
         tree.source("middle", "slow")
         for number, status in ((signal.SIGINT, 130), (signal.SIGTERM, -15), (signal.SIGKILL, -9)):
             with tree.begun() as (first, said):
-                at_work = wait_until(lambda: tree.at_work() and "== middle" in tree.log(), LIMIT)
-                self.note(f"at work until {number.name}", at_work, said())
+                self.note(f"at work until {number.name}", wait_until(is_in_middle, LIMIT), said())
                 if number == signal.SIGINT:
                     with tree.begun() as (second, heard):
                         waits = wait_until(lambda: "waiting for its end" in heard(), LIMIT)
@@ -354,9 +357,7 @@ class FirstRun(Case):
             )
         # If the script alone is killed, the prover goes on, and the next call waits for it. Both name it.
         with tree.begun() as (killed, said):
-            # Before that a shim of `python3` may be at work, too.
-            at_work = wait_until(lambda: tree.at_work() and "== middle" in tree.log(), LIMIT)
-            self.note("at work once more", at_work, said())
+            self.note("at work once more", wait_until(is_in_middle, LIMIT), said())
             prover = tree.at_work()[0]
             parent = int(text_in(f"/proc/{prover}/stat").rpartition(")")[2].split()[1])
             os.kill(parent, signal.SIGKILL)

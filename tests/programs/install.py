@@ -187,15 +187,15 @@ class Install(Case):
     def test_refused(self):
         """A folder that has something, this tree and what is in it among them, stays as it is."""
         file = self.file(os.path.join(self.folder, "clash", "lib"), b"")
-        clash = os.path.dirname(file)
+        clash, new = os.path.dirname(file), os.path.join(self.folder, "new")
         for words in (
             [],
             [self.folder, self.folder],
             ["--all"],
-            [os.path.join(self.folder, "new"), "--prefix", "/usr"],
-            [os.path.join(self.folder, "new"), "--destdir", self.folder],
-            [os.path.join(self.folder, "new"), "--python", "lib"],
-            ["--prefix", os.path.join(self.folder, "new"), "--python", "/lib"],
+            [new, "--prefix", "/usr"],
+            [new, "--destdir", self.folder],
+            [new, "--python", "lib"],
+            ["--prefix", new, "--python", "/lib"],
             ["--prefix", clash],
             [clash],
             [TOP],

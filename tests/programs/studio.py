@@ -18,6 +18,7 @@ from tests import TOP
 from tests.cases import Case, copied, example, examples, said_by, text_in, wait_until
 
 TRIANGLE = "p edge 3 3\ne 1 2\ne 1 3\ne 2 3\n"
+EDGE, ROW = "p edge 2 1\ne 1 2\n", "p edge 3 2\ne 1 2\ne 2 3\n"
 BUILDER = """\
 import sys, time
 print(*sys.argv[1:], '3 of 9 crates proved', file=sys.stderr, flush=True)
@@ -310,20 +311,19 @@ class Answers(Server):
 
     def test_steps(self):
         """A run made by hand: what is possible, what goes wrong without a rule, and the rest of it by chance."""
-        two = "p edge 2 1\ne 1 2\n"
-        start = self.found("steps", network=two)
+        start = self.found("steps", network=EDGE)
         self.note(
             "two greetings are on their way",
             start["steps"] == ["1-2", "2-1"] and not start["made"],
             start,
         )
-        done = self.found("steps", network=two, by=200, seed="3")
+        done = self.found("steps", network=EDGE, by=200, seed="3")
         found = [look["c"] for look in done["looks"]]
         self.note("chance ends it", found == [1, 2] and done["judge"]["ok"], done)
-        other = self.found("steps", network=two, by=200, seed="4")
+        other = self.found("steps", network=EDGE, by=200, seed="4")
         self.note("by its seed", other["made"] != done["made"], other)
-        turn = self.found("steps", network=two, without="fifo", steps="2-1_1-2-1")
-        again = self.found("steps", network=two, without="fifo", list="\n".join(turn["list"]))
+        turn = self.found("steps", network=EDGE, without="fifo", steps="2-1_1-2-1")
+        again = self.found("steps", network=EDGE, without="fifo", list="\n".join(turn["list"]))
         self.note(
             "what overtakes is in the list",
             "take 1 0 1" in turn["list"] and again["made"] == turn["made"],
@@ -334,7 +334,7 @@ class Answers(Server):
         self.note(
             "a held link holds its nodes", at[0] == at[1] == 0 and "1-2" in held["steps"], held
         )
-        held = self.found("steps", network="p edge 3 2\ne 1 2\ne 2 3\n", lazy=[1], by=200)
+        held = self.found("steps", network=ROW, lazy=[1], by=200)
         self.note(
             "a held pulse holds no message",
             [look["p"] for look in held["looks"]] == [0, 1, 2],
@@ -386,12 +386,11 @@ class Answers(Server):
     def test_predictions(self):
         """What a student says comes beside what the definitions find: colours as lesson 3 works them out."""
         petersen = examples()["petersen"].decode()
-        edge = "p edge 2 1\ne 1 2\n"
         for network, asked, found in (
             *((petersen, {"vertex": 8, "pulse": p}, c) for p, c in enumerate("82311", 2)),
             (TRIANGLE, {"vertex": 2, "pulse": 26}, "3"),
             (TRIANGLE, {"vertex": 2, "pulse": 25}, "-"),
-            (edge, {"vertex": 1, "pulse": 1, "program": "leader"}, "leader 2"),
+            (EDGE, {"vertex": 1, "pulse": 1, "program": "leader"}, "leader 2"),
         ):
             for said in (f" {found.upper()} ", f"{found}1"):
                 got = self.found("predict", network=network, said=said, **asked)
@@ -402,16 +401,15 @@ class Answers(Server):
             ("1-2", "ack 2, safe 2"),
             ("2-1_1-2_1-2", "safe 2"),
         ):
-            got = self.found("waits", network=edge, vertex=1, steps=steps, said=found)
+            got = self.found("waits", network=EDGE, vertex=1, steps=steps, said=found)
             self.same(f"what node 1 waits for after {steps}", got["found"], found)
 
     def test_results(self):
         """The picture of what nodes have found, by the program with its option."""
-        edge, row = "p edge 2 1\ne 1 2\n", "p edge 3 2\ne 1 2\ne 2 3\n"
         for network, asked, wanted in (
-            (edge, {"program": "recolouring passes 3"}, ["channel 1", "channel 2"]),
-            (row, {"program": "layers root 3"}, ["layer 2 by 0", "layer 1 by 1", "layer 0"]),
-            (edge, {}, ["channel 1", "channel 2"]),
+            (EDGE, {"program": "recolouring passes 3"}, ["channel 1", "channel 2"]),
+            (ROW, {"program": "layers root 3"}, ["layer 2 by 0", "layer 1 by 1", "layer 0"]),
+            (EDGE, {}, ["channel 1", "channel 2"]),
         ):
             got = self.answer("picture", network=network, kind="results", **asked)
             found = re.findall(r"<title>node \d+: (.*?)</title>", got.get("answer", ""))
@@ -419,25 +417,25 @@ class Answers(Server):
 
     def test_broken(self):
         """What goes wrong without a rule, here or on a smallest network; pages/studio_page.py has the matching."""
-        edge, right = "p edge 2 1\ne 1 2\n", "the rounds of this network go right without it"
-        got = self.found("broken", network=edge, without="shift")
+        right = "the rounds of this network go right without it"
+        got = self.found("broken", network=EDGE, without="shift")
         self.note("without a shift", "<svg" in got["picture"] and got["words"], got["words"])
         all_right = f"{right}, and so do those of all 1,094 networks of up to 5 nodes"
         for program, rule, words, bars in (
             ("recolouring", "bars", right, [[1], [], []]),
             ("matching", "last", all_right, None),
         ):
-            got = self.found("broken", network=edge, program=program, without=rule)
+            got = self.found("broken", network=EDGE, program=program, without=rule)
             found = got["found"] and [node["bars"] for node in got["found"]["nodes"]]
             drawn = "<svg" in (got["picture"] or "")
             shown = (got["here"], got["words"], found, drawn)
             self.same(f"without {rule}", shown, (False, [words], bars, rule != "last"))
-        asked = {"network": edge, "program": "leader", "without": "partner"}
+        asked = {"network": EDGE, "program": "leader", "without": "partner"}
         self.refuses("no rule of the leader", "no such rule", "broken", **asked)
 
     def test_passes_of_a_run(self):
         """A run of two passes ends at pulse 18 + 2 · 2 on an edge, and its text is no run of one pass."""
-        asked = {"network": "p edge 2 1\ne 1 2\n", "policy": "random", "seed": "1"}
+        asked = {"network": EDGE, "policy": "random", "seed": "1"}
         two = {"program": "recolouring passes 2"}
         text = self.found("run", **two, **asked)["text"]
         got = self.answer("picture", kind="run", transcript=text, **two, **asked)

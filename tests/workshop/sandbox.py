@@ -148,11 +148,11 @@ class Sandboxed(Case):
         self.subs = os.path.join(self.folder, "home", "submissions")
         self.room = os.path.join(self.folder, "room")
         self.copy = os.path.join(self.room, "copy")
-        self.file(os.path.join(self.subs, "ben", NODE), "ben's")
+        self.other = self.file(os.path.join(self.subs, "ben", NODE), "ben's")
         self.file("home/secret", "x")
         self.file("beside", "x")
         self.file(os.path.join(self.copy, NODE), "own")
-        os.symlink(os.path.join(self.subs, "ben", NODE), os.path.join(self.copy, "link"))
+        os.symlink(self.other, os.path.join(self.copy, "link"))
 
     def tearDown(self):
         end_all()
@@ -181,7 +181,7 @@ class Sandboxed(Case):
         self.addCleanup(system.shmctl, segment, 0, None)
         return {
             "subs": self.subs,
-            "other": os.path.join(self.subs, "ben", NODE),
+            "other": self.other,
             "right": RIGHT,
             "home": os.path.join(self.folder, "home", "secret"),
             "homes": os.path.join(self.folder, "home", "new"),
@@ -305,8 +305,7 @@ class Sandboxed(Case):
         are made as they would be."""
         need(self, "javac")
         plugin, loot = os.path.join(self.folder, "plugin"), os.path.join(self.folder, "loot")
-        other = os.path.join(self.subs, "ben", NODE)
-        source = self.file(os.path.join(plugin, "Thief.java"), PLUGIN % (other, loot))
+        source = self.file(os.path.join(plugin, "Thief.java"), PLUGIN % (self.other, loot))
         subprocess.run(["javac", "-d", self.copy, source], check=True)
         self.file(
             os.path.join(self.copy, "META-INF/services/com.sun.source.util.Plugin"), "Thief\n"
