@@ -2,6 +2,3 @@ mod Working
 mod Ran
 mod Recording
 mod Ended
-mod Keys
-mod TopKeys
-mod Merge

@@ -1,6 +1,5 @@
 pub mod Workers
 pub mod Ends
 pub mod Transcripts
-pub mod Merge
 pub mod Colours
 pub mod Payloads

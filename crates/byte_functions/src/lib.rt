@@ -16,9 +16,7 @@
 
 mod ends;
 pub mod laws;
-mod left_entries;
 mod merged;
-mod merging;
 mod plan_text;
 mod transcript;
 mod workers;

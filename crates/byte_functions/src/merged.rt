@@ -7,12 +7,13 @@ ghost use Rattle.transcripts.specs.TranscriptText.{first_line_of};
 ghost use Rattle.program_texts.specs.PayloadTexts.{payload_texts};
 ghost use Rattle.byte_functions.specs.Transcripts.{IsMergedText, stamped_edition};
 
-use crate::merging::Merging;
 use interference::Memory;
+use merged_rows::{LeftEntries, push_merged};
+use node_api::NodeProgram;
 use outcomes::Actor;
 use program_texts::ProgramText;
 use std::alloc::{AllocError, Global};
-use transcripts::{push_named_line, push_stamped_line, push_stamped_row};
+use transcripts::{push_named_line, push_stamped_line};
 
 // Appends the first line of a program's transcript with stamps.
 fn push_edition_line<P: ProgramText>(text: &mut Vec<u8>, count: u32) -> Result<(), AllocError>
@@ -23,6 +24,20 @@ fn push_edition_line<P: ProgramText>(text: &mut Vec<u8>, count: u32) -> Result<(
     } else {
         push_stamped_line(text, count)
     }
+}
+
+// The entries of each node, in the order of the nodes.
+fn lefts_of<'a, P: NodeProgram>(
+    alloc: Global,
+    actors: &'a [Actor<P>],
+) -> Result<Vec<LeftEntries<'a, P::Payload>>, AllocError>
+    ensures { IfOk result (λ lefts. lefts.items ≡ map (λ node. node.entries) (map gathered_of actors.now)) }
+{
+    let mut lefts = Vec::new(alloc);
+    for actor in actors {
+        lefts.push(LeftEntries::new(actor.entries().stamped()))?;
+    }
+    Ok(lefts)
 }
 
 /// The transcript of nodes with stamps, in the order of the stamps and then of the vertices. Beside the nodes and the
@@ -42,9 +57,7 @@ pub fn merged_text<P: ProgramText>(
 {
     let mut text = Vec::new(alloc);
     push_edition_line::<P>(&mut text, count)?;
-    let mut merging = Merging::new(alloc, actors.as_slice())?;
-    while let Some(row) = merging.take() {
-        push_stamped_row(&mut text, &row)?;
-    }
+    let lefts = lefts_of(alloc, actors.as_slice())?;
+    push_merged(alloc, &mut text, lefts)?;
     Ok(text)
 }

@@ -1,6 +1,6 @@
 use Rattle.std.specs.BinaryHeap.{heap_items}
-use Rattle.byte_functions.proofs.Keys.{key_added}
-use Rattle.byte_functions.proofs.merging.push_key.Goals as goal
+use Rattle.merged_rows.proofs.Keys.{key_added}
+use Rattle.merged_rows.proofs.merging.push_key.Goals as goal
 
 pub returns-in_ok-push-clause-added : goal.returns-in_ok-push-clause-added
 returns-in_ok-push-clause-added g c =

@@ -1,14 +1,11 @@
 //! The entries that all nodes have left to write, the least first.
 
-ghost use Rattle.std.specs.Prelude.{◌≡◌, ◌<◌, ◌^◌, IfOk, MatchOption, OnOk, drop, length, map};
+ghost use Rattle.std.specs.Prelude.{◌≡◌, ◌<◌, ◌^◌, IfOk, MatchOption, OnOk, drop, length};
 ghost use Rattle.std.specs.BinaryHeap.{KeepsHeap, heap_items, heap_len};
-ghost use Rattle.outcomes.specs.Gathers.{gathered_of};
-ghost use Rattle.byte_functions.specs.Merge.{AreKeys, IsKeyAdded, IsTaken, NoneLeft, key_cmp};
+ghost use Rattle.merged_rows.specs.Merge.{AreKeys, IsKeyAdded, IsTaken, NoneLeft, key_cmp};
 
 use crate::left_entries::LeftEntries;
 use entries::StampedRow;
-use node_api::{NodeProgram, PayloadText};
-use outcomes::Actor;
 use std::alloc::{AllocError, Global};
 use std::cmp::Reverse;
 use std::collections::BinaryHeap;
@@ -58,26 +55,27 @@ fn replace_top<T: Copy>(keys: &mut Keys, left: &LeftEntries<'_, T>, index: usize
     }
 }
 
-impl<'a, T: PayloadText> Merging<'a, T> {
-    /// All entries of these nodes.
+// The keys of lists of entries, each with the index of its list.
+fn keys_of<T: Copy>(alloc: Global, lefts: &[LeftEntries<'_, T>]) -> Result<Keys, AllocError>
+    ensures { IfOk result (λ keys. AreKeys lefts.now (heap_items keys)) }
+{
+    let mut keys = BinaryHeap::new(alloc);
+    for (index, left) in lefts.iter().enumerate() {
+        push_key(&mut keys, left, index)?;
+    }
+    Ok(keys)
+}
+
+impl<'a, T: Copy> Merging<'a, T> {
+    /// All entries of these lists, of which each next one is of the next vertex, from 1.
     ///
     /// # Errors
     /// If memory ran out.
-    pub fn new<P: NodeProgram<Payload = T>>(
-        alloc: Global,
-        actors: &'a [Actor<P>],
-    ) -> Result<Merging<'a, T>, AllocError>
-        ensures lefts { IfOk result (λ merging. merging.lefts.items
-            ≡ map (λ node. node.entries) (map gathered_of actors.now)) }
+    pub fn new(alloc: Global, lefts: Vec<LeftEntries<'a, T>>) -> Result<Merging<'a, T>, AllocError>
+        ensures lefts { IfOk result (λ merging. merging.lefts.items ≡ lefts.entry.items) }
         ensures keys { IfOk result (λ merging. AreKeys merging.lefts.items (heap_items merging.keys)) }
     {
-        let mut lefts = Vec::new(alloc);
-        let mut keys = BinaryHeap::new(alloc);
-        for (index, actor) in actors.iter().enumerate() {
-            let left = LeftEntries::new(actor.entries().stamped());
-            push_key(&mut keys, &left, index)?;
-            lefts.push(left)?;
-        }
+        let keys = keys_of(alloc, lefts.as_slice())?;
         Ok(Merging { lefts, keys })
     }
 

@@ -1,7 +1,7 @@
 -- The entries of all nodes, taken one by one, are a merge.
 use Rattle.std.proofs.Common.{◌≡◌, ◌∙◌, ℕ, suc, ◌+◌, ◌-◌, ◌<◌, ◌≤◌, List, [], ◌∷◌, ◌++◌, length, get_or, set, refl, sym, ap, append_assoc, subst}
 use Rattle.std.proofs.Common.{arith, ⊎_elim, inl}
-use Rattle.std.specs.Prelude.{All}
+use Rattle.std.specs.Prelude.{All, flat_map}
 use Rattle.std.specs.List.{sum_by}
 use Rattle.std.proofs.lemmas.List.Sums.{sum_by-set}
 use Rattle.std.proofs.lemmas.Bool.{cases_eq, cases_lt}
@@ -15,8 +15,8 @@ use Rattle.stamps.specs.Stamps.{Rises}
 use Rattle.entries.specs.declared.rows.StampedRow.{StampedRow}
 use Rattle.stamps.specs.Merged.{AreOrdered, IsMerge, Precedes, entries_at, list_of}
 use Rattle.program_texts.specs.PayloadTexts.{PayloadTexts}
-use Rattle.transcripts.specs.TranscriptText.{stamped_row_text, text_of}
-use Rattle.byte_functions.specs.Merge.{IsTaken, NoneLeft}
+use Rattle.transcripts.specs.TranscriptText.{stamped_row_text}
+use Rattle.merged_rows.specs.Merge.{IsTaken, NoneLeft}
 use Rattle.stamps.proofs.Growing.{ordered_push}
 use Rattle.stamps.proofs.Lists.{entry_here, entry_other}
 use Rattle.stamps.proofs.Sorts.{through}
@@ -157,7 +157,7 @@ module _ {M : Type 0} where
       let was : length (get_or old i []) ≡ suc (length taken.behind) = ap length taken.was in
       subst (λ l. sum_by length l < sum_by length old) (sym taken.is) (omega (arith, all, was))
 
--- a text has the lines of rows that are taken of these lists, behind the first line of an edition and of so many nodes
-abbrev pub HasMerged : {M : Type 0} → PayloadTexts M → List ℕ → List (List (StampedEntry M)) → List (List (StampedEntry M)) → ℕ → List ℕ → Type 0
-HasMerged {M} payloads words wrote lefts count text =
-    (rows : List (StampedRow M)) × IsMerging wrote lefts rows × (text ≡ text_of words (stamped_row_text payloads) count rows)
+-- a text has the lines of rows that are taken of these lists, behind another text
+abbrev pub HasMerged : {M : Type 0} → PayloadTexts M → List (List (StampedEntry M)) → List (List (StampedEntry M)) → List ℕ → List ℕ → Type 0
+HasMerged {M} payloads wrote lefts old new =
+    (rows : List (StampedRow M)) × IsMerging wrote lefts rows × (new ≡ old ++ flat_map (stamped_row_text payloads) rows)

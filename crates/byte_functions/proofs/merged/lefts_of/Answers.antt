@@ -1,0 +1,18 @@
+use Rattle.std.proofs.Common.{◌∙◌, ◌++◌, ◌∷◌, [], ap, map, sym, take}
+use Rattle.std.proofs.lemmas.List.{map-append, take_more}
+use Rattle.outcomes.specs.Gathers.{gathered_of}
+use Rattle.byte_functions.proofs.merged.lefts_of.Goals as goal
+
+-- the entries of one node more
+pub loop-actor-preserved : goal.loop-actor-preserved
+loop-actor-preserved g c =
+    let actors = c.args.actors.now in
+    let i = c.loop-actor.actor-index in
+    let actor = c.actor-item.result in
+    let before = map gathered_of (take i actors) in
+    let wrote = c.new-2.ensures ∙ c.stamped.ensures.items ∙ ap (λ entries. entries.items) c.entries.ensures.entries in
+    c.in_ok-push.ensures.items ∙ ap (λ l. l ++ (c.new-2.result ∷ [])) c.loop-actor.invariant
+    ∙ ap (λ l. map (λ node. node.entries) before ++ (l ∷ [])) wrote
+    ∙ sym (map-append (λ node. node.entries) before (gathered_of actor ∷ []))
+    ∙ ap (map (λ node. node.entries)) (sym (map-append gathered_of (take i actors) (actor ∷ []))
+    ∙ ap (map gathered_of) (ap (λ a. take i actors ++ (a ∷ [])) c.actor-item.is ∙ sym (take_more actors i actor c.loop-actor-test.true)))

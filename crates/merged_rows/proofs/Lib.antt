@@ -1,0 +1,3 @@
+mod Keys
+mod TopKeys
+mod Merge

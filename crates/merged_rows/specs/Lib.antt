@@ -1,0 +1,2 @@
+pub mod Merge
+pub mod Lines
