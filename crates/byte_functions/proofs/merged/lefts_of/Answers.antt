@@ -10,8 +10,8 @@ loop-actor-preserved g c =
     let i = c.loop-actor.actor-index in
     let actor = c.actor-item.result in
     let before = map gathered_of (take i actors) in
-    let wrote = c.new-2.ensures ∙ c.stamped.ensures.items ∙ ap (λ entries. entries.items) c.entries.ensures.entries in
-    c.in_ok-push.ensures.items ∙ ap (λ l. l ++ (c.new-2.result ∷ [])) c.loop-actor.invariant
+    let wrote = c.new.ensures ∙ c.stamped.ensures.items ∙ ap (λ entries. entries.items) c.entries.ensures.entries in
+    c.in_ok-push.ensures.items ∙ ap (λ l. l ++ (c.new.result ∷ [])) c.loop-actor.invariant
     ∙ ap (λ l. map (λ node. node.entries) before ++ (l ∷ [])) wrote
     ∙ sym (map-append (λ node. node.entries) before (gathered_of actor ∷ []))
     ∙ ap (map (λ node. node.entries)) (sym (map-append gathered_of (take i actors) (actor ∷ []))

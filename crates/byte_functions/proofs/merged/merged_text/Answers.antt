@@ -18,7 +18,7 @@ push_merged-requires-clause-few g c =
     omega (arith, many)
 
 pub push_merged-requires-clause-rising : goal.push_merged-requires-clause-rising
-push_merged-requires-clause-rising g c =
+push_merged-requires-clause-rising g c κs within =
     let are = c.in_ok-lefts.ensures ∙ ap (λ actors. map (λ node. node.entries) (map gathered_of actors)) c.as_slice.ensures.value in
     subst (All Rises) (sym are) c.requires.rising
 
@@ -31,8 +31,7 @@ returns g c =
     let line = stamped_row_text (payload_texts g.P.Payload.PayloadText) in
     let head = first_line_of (stamped_edition g.P.ProgramText.texts) c.args.count in
     let first = c.in_ok-push_edition_line.ensures ∙ ap (λ t. t ++ head) c.new-text.ensures.items in
-    let all = c.in_ok-push_merged.ensures in
-    (
+    let all = c.in_ok-push_merged.ensures in (
       all.0,
       subst (λ n. IsMerge n (list_of wrote) all.0) (length-map nodes (λ node. node.entries))
           (subst (λ lists. IsMerge (length lists) (list_of lists) all.0) are all.1),
