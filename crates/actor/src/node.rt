@@ -114,7 +114,7 @@ impl<J: Wiring, P: NodeProgram> Node<J, P> {
         self.refusal
     }
 
-    /// The node taken apart.
+    /// The node taken apart. Its refusal, what a turn set aside, and its counter are dropped.
     pub fn into_parts(self) -> NodeParts<J, P>
         ensures vertex { result.vertex ≡ self.vertex }
         ensures puts { result.puts ≡ self.puts }
