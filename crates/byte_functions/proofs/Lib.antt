@@ -1,4 +1,3 @@
-mod Working
+pub mod Working
 mod Ran
-mod Recording
-mod Ended
+pub mod Recording

@@ -1,9 +1,9 @@
-//! What the commands of `forestplan` and `forestplay` that run worker threads compute, from the bytes of a DIMACS text
-//! to the bytes of an answer. It names no stream, no command line and no system, so that a test or another program
-//! calls the same functions. The functions of all other commands are in `answers`, which needs no thread.
+//! What the commands of `forestplan` that run worker threads compute, from the bytes of a DIMACS text to the bytes of
+//! an answer. It names no stream, no command line and no system, so that a test or another program calls the same
+//! functions. The functions of all other commands are in `answers`, which needs no thread.
 //!
-//! `plan_commands` calls `plan_bytes` or `transcript_bytes` for a command, and `play_commands` calls `run_bytes` or
-//! `run_transcript_bytes`, which are for any program of nodes.
+//! `plan_commands` calls `plan_bytes` or `transcript_bytes` for a command. For any program of nodes, `play_commands`
+//! calls `run_transcript_bytes`, and `run_answers` makes of `whole_run` what `forestplay run` prints.
 //!
 //! ```
 //! let text = b"p edge 3 3\ne 1 2\ne 1 3\ne 2 3\n";
@@ -14,13 +14,12 @@
 //! a fault. Vertex v has the identifier of its line `i`, and without one v.
 #![tactic(auto)]
 
-mod ends;
 pub mod laws;
 mod merged;
 mod plan_text;
 mod transcript;
 mod workers;
 
-pub use ends::run_bytes;
+pub use merged::push_edition_line;
 pub use transcript::{run_transcript_bytes, transcript_bytes};
-pub use workers::plan_bytes;
+pub use workers::{plan_bytes, whole_run};

@@ -15,8 +15,11 @@ use program_texts::ProgramText;
 use std::alloc::{AllocError, Global};
 use transcripts::{push_named_line, push_stamped_line};
 
-// Appends the first line of a program's transcript with stamps.
-fn push_edition_line<P: ProgramText>(text: &mut Vec<u8>, count: u32) -> Result<(), AllocError>
+/// Appends the first line of a program's transcript with stamps.
+///
+/// # Errors
+/// If memory ran out.
+pub fn push_edition_line<P: ProgramText>(text: &mut Vec<u8>, count: u32) -> Result<(), AllocError>
     ensures { IfOk result (λ _. text.new.items ≡ text.old.items ++ first_line_of (stamped_edition P.texts) count) }
 {
     if P::is_named() {

@@ -75,7 +75,7 @@ fn text_in<P: ProgramText>(
 /// It is not promised that the call returns, nor that any number of looks is enough.
 ///
 /// # Errors
-/// As of `run_bytes`.
+/// As of `plan_bytes`; and before the fault of the network `NoRoot` if the root is no vertex.
 pub fn run_transcript_bytes<P: ProgramText, G: Gate + Sync, R: Threads + Wait + Sync>(
     rt: &R,
     alloc: Global,

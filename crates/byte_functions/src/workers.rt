@@ -47,7 +47,7 @@ fn unless_stopped<P: NodeProgram>(
 ///
 /// # Errors
 /// `Pool` with the fault of the run; `Stopped` if not every node was done within the looks.
-pub(crate) fn whole_run<P: NodeProgram, G: Gate + Sync, R: Threads + Wait + Sync>(
+pub fn whole_run<P: NodeProgram, G: Gate + Sync, R: Threads + Wait + Sync>(
     rt: &R,
     alloc: Global,
     network: &Network,

@@ -3,7 +3,7 @@ use Rattle.std.specs.Prelude.{◌≢◌, ℕ, List, None, Some, Result, Ok, Err}
 use Rattle.program_texts.specs.Texts.{ProgramTexts}
 use Rattle.node_api.specs.Program.{Program}
 use Rattle.run_options.specs.declared.Edition.TheVariants as edition
-use Rattle.byte_functions.specs.Ends.{IsEndsAnswer}
+use Rattle.run_answers.specs.Ends.{IsEndsAnswer}
 use Rattle.program_texts.specs.PayloadTexts.{PayloadTexts}
 use Rattle.byte_functions.specs.Payloads.{colouring_payloads}
 use Rattle.byte_functions.specs.Transcripts.{IsProgramTranscript}
@@ -33,7 +33,7 @@ use Rattle.layers.specs.Texts.{layers_texts, layers_texts_from}
 use Rattle.layers.specs.declared.layer.TheConstants.{ROOT_ID}
 use Rattle.leader.specs.Election.{election}
 use Rattle.leader.specs.Texts.{leader_texts}
-use Rattle.lone_answers.specs.Transcripts.{IsLoneTranscript}
+use Rattle.run_answers.specs.Transcripts.{IsLoneTranscript}
 use Rattle.matching.specs.Knowing.{matching}
 use Rattle.matching.specs.Texts.{matching_texts}
 use Rattle.recolouring.specs.Knowing.{recolouring}

@@ -1,4 +1,0 @@
-pub mod Ended
-mod One
-mod Rows
-mod States

@@ -1,0 +1,5 @@
+pub mod Ended
+mod One
+mod Ran
+mod Rows
+mod States
