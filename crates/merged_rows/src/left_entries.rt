@@ -8,10 +8,18 @@ use std::marker::Model;
 
 /// The entries that a node has left, by value, seen as their list. The first of them is read ahead, so that its stamp
 /// is known while it is left.
-#[derive(Drop)]
 pub struct LeftEntries<'a, T> {
     first: Option<StampedEntry<T>>,
     behind: StampedIter<'a, T>,
+}
+
+impl<'a, T: Drop> Drop for LeftEntries<'a, T> {
+    fn drop(self) {
+        let LeftEntries {
+            first: _,
+            behind: _,
+        } = self;
+    }
 }
 
 impl<'a, T> Model for LeftEntries<'a, T> {

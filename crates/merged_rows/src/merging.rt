@@ -70,6 +70,7 @@ impl<'a, T: Copy> Merging<'a, T> {
     /// All entries of these lists, of which each next one is of the next vertex, from 1.
     ///
     /// # Errors
+    ///
     /// If memory ran out.
     pub fn new(alloc: Global, lefts: Vec<LeftEntries<'a, T>>) -> Result<Merging<'a, T>, AllocError>
         ensures lefts { IfOk result (λ merging. merging.lefts.items ≡ lefts.entry.items) }

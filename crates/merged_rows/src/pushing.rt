@@ -15,6 +15,7 @@ use transcripts::push_stamped_row;
 /// has the entries of the next vertex, from 1. Beside the lists and the text it takes memory by the number of nodes.
 ///
 /// # Errors
+///
 /// If memory ran out; `text` may then end in some of the lines, and in a beginning of one.
 pub fn push_merged<T: PayloadText>(
     alloc: Global,
