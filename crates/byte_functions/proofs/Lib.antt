@@ -1,3 +1,4 @@
+mod Editions
 pub mod Working
 mod Ran
 pub mod Recording

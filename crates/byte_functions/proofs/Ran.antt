@@ -1,5 +1,5 @@
 -- What is returned of a run of workers.
-use Rattle.std.proofs.Common.{◌≡◌, ◌≢◌, Bool, true, false, refl}
+use Rattle.std.proofs.Common.{◌≡◌, ◌≢◌, Bool, true, false, ap, refl}
 use Rattle.std.specs.Prelude.{if◌then◌else◌, IfErr, IfOk, Result, Ok, Err}
 use Rattle.interference.specs.Net.{Net}
 use Rattle.run_options.specs.Ranges.{AreInRange}
@@ -33,6 +33,13 @@ if-stopped : {S M : Type 0} (o : Options) (outcome : Outcome S M) (whole : Bool)
     → IfErr (if whole then Ok outcome else Err plan.Stopped) (IsFaultOfRun o)
 if-stopped o outcome true range = tt
 if-stopped o outcome false range = range
+
+-- what is returned of an outcome, by whether it is whole
+pub kept : {S M : Type 0} (outcome : Outcome S M) → is_whole outcome ≡ true → whole_after (Ok outcome) ≡ Ok outcome
+kept outcome whole = ap (λ b. if b then Ok outcome else Err plan.Stopped) whole
+
+pub stopped : {S M : Type 0} (outcome : Outcome S M) → is_whole outcome ≡ false → whole_after (Ok outcome) ≡ Err plan.Stopped
+stopped outcome whole = ap (λ b. if b then Ok outcome else Err plan.Stopped) whole
 
 pub whole-is : {S M : Type 0} (ran : Ran S M) → IfOk (whole_after ran) (λ outcome. is_whole outcome ≡ true)
 whole-is (Ok outcome) = is-whole outcome (is_whole outcome) refl

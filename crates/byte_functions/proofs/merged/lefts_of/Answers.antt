@@ -1,5 +1,6 @@
 use Rattle.std.proofs.Common.{◌∙◌, ◌++◌, ◌∷◌, [], ap, map, sym, take}
-use Rattle.std.proofs.lemmas.List.{map-append, take_more}
+use Rattle.std.proofs.lemmas.List.{map-append, take_all, take_more}
+use Rattle.std.proofs.lemmas.Result.{IfOk-from_err}
 use Rattle.outcomes.specs.Gathers.{gathered_of}
 use Rattle.byte_functions.proofs.merged.lefts_of.Goals as goal
 
@@ -16,3 +17,15 @@ loop-actor-preserved g c =
     ∙ sym (map-append (λ node. node.entries) before (gathered_of actor ∷ []))
     ∙ ap (map (λ node. node.entries)) (sym (map-append gathered_of (take i actors) (actor ∷ []))
     ∙ ap (map gathered_of) (ap (λ a. take i actors ++ (a ∷ [])) c.actor-item.is ∙ sym (take_more actors i actor c.loop-actor-test.true)))
+
+pub loop-actor-init : goal.loop-actor-init
+loop-actor-init g c = c.new-lefts.ensures.items
+
+pub returns : goal.returns
+returns g c =
+    c.loop-actor.invariant
+    ∙ ap (λ actors. map (λ node. node.entries) (map gathered_of actors))
+    (take_all c.loop-actor.actor-index c.args.actors.now c.loop-actor-test.false)
+
+pub returns-in_err-push : goal.returns-in_err-push
+returns-in_err-push g c = IfOk-from_err c.from_residual.result _ c.from_residual.ensures.0

@@ -1,6 +1,7 @@
 use Rattle.std.proofs.Common.{◌∙◌, ◌++◌, ap, arith, flat_map, length, map, subst, sym}
 use Rattle.std.specs.Prelude.{All}
 use Rattle.std.proofs.lemmas.List.{length-map}
+use Rattle.std.proofs.lemmas.Result.{IfOk-from_err}
 use Rattle.stamps.specs.Merged.{IsMerge, list_of}
 use Rattle.stamps.specs.Stamps.{Rises}
 use Rattle.transcripts.specs.TranscriptText.{first_line_of, stamped_row_text}
@@ -37,3 +38,12 @@ returns g c =
           (subst (λ lists. IsMerge (length lists) (list_of lists) all.0) are all.1),
       all.2 ∙ ap (λ t. t ++ flat_map line all.0) first,
     )
+
+pub returns-in_err-push_edition_line : goal.returns-in_err-push_edition_line
+returns-in_err-push_edition_line g c = IfOk-from_err c.from_residual.result _ c.from_residual.ensures.0
+
+pub returns-in_err-lefts : goal.returns-in_err-lefts
+returns-in_err-lefts g c = IfOk-from_err c.from_residual-in_err-lefts.result _ c.from_residual-in_err-lefts.ensures.0
+
+pub returns-in_err-push_merged : goal.returns-in_err-push_merged
+returns-in_err-push_merged g c = IfOk-from_err c.from_residual-in_err-push_merged.result _ c.from_residual-in_err-push_merged.ensures.0

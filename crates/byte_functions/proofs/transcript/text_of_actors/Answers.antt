@@ -1,15 +1,22 @@
-use Rattle.std.proofs.Common.{◌++◌, [], ◌∙◌, ap, ap₂, append_assoc, flat_map, map, map-id, rules, sym}
+use Rattle.std.proofs.Common.{◌++◌, [], ◌∙◌, ap, ap₂, append-nil, append_assoc, flat_map, map, map-id, rules, sym}
 use Rattle.std.proofs.lemmas.Grind.{flat_map-append}
 use Rattle.std.proofs.lemmas.Iterator.Adapters.{YieldsList-from_vec}
 use Rattle.std.proofs.lemmas.Iterator.Consumers.{YieldsList-end}
 use Rattle.std.proofs.lemmas.List.{flat_map_more}
 use Rattle.std.proofs.lemmas.List.Folds.{flat_map-map}
+use Rattle.std.proofs.lemmas.Result.{IfOk-from_err}
 use Rattle.entries.specs.Rows.{bare_of, vertex_row}
 use Rattle.outcomes.specs.Gathers.{gathered_of}
 use Rattle.program_texts.specs.PayloadTexts.{payload_texts}
 use Rattle.transcripts.specs.TranscriptText.{first_line, row_text}
 use Rattle.byte_functions.specs.Transcripts.{rows_in}
 use Rattle.byte_functions.proofs.transcript.text_of_actors.Goals as goal
+
+-- the first line is there
+pub loop-actor-init : goal.loop-actor-init
+loop-actor-init g c =
+    let first = first_line c.args.count in
+    c.in_ok-push_first_line.ensures.text ∙ ap (λ t. t ++ first) c.new-text.ensures.items ∙ sym (append-nil first)
 
 -- the lines of one node more
 pub loop-actor-preserved : goal.loop-actor-preserved
@@ -36,3 +43,9 @@ returns g c =
     c.loop-actor.invariant
     ∙ ap (λ rows. first_line c.args.count ++ flat_map (row_text (payload_texts g.P.Payload.PayloadText)) rows)
     (ap (flat_map (λ a. rows_in (gathered_of a))) all ∙ sym (flat_map-map rows_in gathered_of c.args.actors.items))
+
+pub returns-in_err-push_first_line : goal.returns-in_err-push_first_line
+returns-in_err-push_first_line g c = IfOk-from_err c.from_residual.result _ c.from_residual.ensures.0
+
+pub returns-in_err-pushed : goal.returns-in_err-pushed
+returns-in_err-pushed g c = IfOk-from_err c.from_residual-in_err-pushed.result _ c.from_residual-in_err-pushed.ensures.0
