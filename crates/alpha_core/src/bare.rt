@@ -7,7 +7,7 @@ use std::mem::size_of;
 use wires::Wire;
 
 /// A wire of an out-list, without its payload.
-#[derive(Debug, Clone, Copy, PartialEq, Eq)]
+#[derive(Clone, Copy)]
 pub(crate) enum BareWire {
     Payload(u32),
     Ack(u32),

@@ -1,12 +1,13 @@
 //! The wires that a node has still to put, by port.
 
-ghost use Rattle.std.specs.Prelude.{◌≡◌, ◌<◌, ◌≤◌, ◌++◌, ◌∷◌, [], IfOk, cond, drop, length, replicate};
+ghost use Rattle.std.specs.Prelude.{◌≡◌, ◌<◌, ◌≤◌, ◌++◌, ◌∷◌, [], IfOk, drop, length, replicate};
 ghost use Rattle.std.specs.Prelude.{slice_get, slice_index_or, slice_set};
 ghost use Rattle.arrayvec.specs.ArrayVec.{array_vec_len};
 ghost use Rattle.alpha_core.specs.OutLists.{PayloadFits, payloads_in, payloads_out, wires_of};
 ghost use Rattle.alpha_core.specs.Rows.{all_within, out_at, push_out};
 
 use crate::bare::{BareWire, bare_of};
+use crate::marks::one_if;
 use crate::payloads::Payloads;
 use arrayvec::ArrayVec;
 use interference::Memory;
@@ -153,11 +154,4 @@ fn take_first(wires: &mut ArrayVec<BareWire, ROOM>) -> BareWire
         return wires.remove(0);
     }
     wires.pop().unwrap()
-}
-
-// One if it holds, else none.
-fn one_if(holds: bool) -> usize
-    ensures one { result ≡ cond holds 1 0 }
-{
-    usize::from(holds)
 }
