@@ -1,0 +1,11 @@
+use Rattle.std.proofs.Common.{◌<◌, length, sym, ap, ◌∙◌, subst}
+use Rattle.alpha_core.specs.View.{port_at}
+use Rattle.alpha_core.proofs.node.AlphaNode.is_safe.Goals as goal
+
+pub marks-requires : goal.marks-requires
+marks-requires g c = record { port = subst (λ n. c.args.port < n) (sym (ap (λ a. length a.node.view.ports) c.self.view_is)) c.requires.port }
+
+pub returns : goal.returns
+returns g c = record {
+  safe = ap (λ m. m.safe) c.marks.ensures.marks ∙ ap (λ a. (port_at a.node.view c.args.port).safe) c.self.view_is;
+}
