@@ -13,3 +13,4 @@ pub mod HasStamps
 mod Recorded
 pub mod Keeping
 pub mod Counting
+pub mod Attempts

@@ -47,7 +47,7 @@ module _ {J P T : Type 0} {j : wiring.Ghosts J} {p : program.Ghosts P T} {t : te
   }
 
   -- it ended early
-  stepped-early : {old new : Node J P T j p t q} {r : Result Bool TurnRefused} (why : TurnRefused) → IsErrAnd r (λ error. error ≡ why)
+  pub stepped-early : {old new : Node J P T j p t q} {r : Result Bool TurnRefused} (why : TurnRefused) → IsErrAnd r (λ error. error ≡ why)
       → new.vertex ≡ old.vertex → new.degree ≡ old.degree → new.refusal ≡ old.refusal → CountsOn old new → (why ≡ Memory → IsTrue j.transcript)
       → (why ≡ StampFull → 2 ^ 64 ≤ max new.counter (aside_stamp new.aside) + 1) → Stepped old new r
   stepped-early {r = Ok did} why is vertex degree refusal counts memory full = absurd is

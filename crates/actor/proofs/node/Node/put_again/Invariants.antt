@@ -1,9 +1,6 @@
-use Rattle.std.proofs.Common.{◌≡◌, None, Ok, false}
-use Rattle.actor.specs.Stepped.{Stepped}
+use Rattle.std.proofs.Common.{◌≡◌, None}
+use Rattle.actor.proofs.Attempts.{Begun}
 use Rattle.actor.proofs.node.Node.put_again.Given as goal
 
 abbrev pub invariant-loop : goal.invariant-loop
-invariant-loop g l = record {
-  stepped : Stepped l.fn.self l.self (Ok false);
-  going : l.self.aside ≡ None;
-}
+invariant-loop g l = record { begun : Begun l.fn.self l.self 0; going : l.self.aside ≡ None }
