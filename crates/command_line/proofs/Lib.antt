@@ -7,7 +7,6 @@ mod Lines
 mod Numbers
 mod Passing
 mod Played
-mod Refused
 mod RunOptions
 mod Used
 mod Walked
