@@ -1,3 +1,5 @@
 pub mod Refusing
 pub mod Held
 pub mod Started
+pub mod Replayed
+pub mod Stamped

@@ -1,7 +1,6 @@
 pub mod Ports
 pub mod Missing
 pub mod Writes
-pub mod Replayed
 pub mod WholeReplays
 pub mod Decided
 pub mod Ones

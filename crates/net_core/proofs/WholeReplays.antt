@@ -1,62 +1,27 @@
 -- Stamped rows, one after the other, and whole replays.
-use Rattle.std.proofs.Common.{◌≡◌, ℕ, suc, ◌+◌, ◌<◌, ◌∙◌, List, [], ◌∷◌, ◌++◌, take, drop, length, get_or, Some, Ok, ap, arith, refl, sym, subst, ⊎_elim}
-use Rattle.std.proofs.lemmas.List.{get_or-map, length-map, map-append, take-map}
+use Rattle.std.proofs.Common.{◌≡◌, ℕ, suc, ◌<◌, ◌∙◌, List, ◌∷◌, ◌++◌, take, drop, length, get_or, Some, Ok, ap, refl, sym, subst, ⊎_elim}
+use Rattle.std.proofs.lemmas.List.{length-map, map-append}
 use Rattle.interference.specs.Net.{IsNetwork, Net}
 use Rattle.node_api.specs.Program.{Program}
-use Rattle.event_rule.specs.State.{State, start}
+use Rattle.event_rule.specs.State.{State}
 use Rattle.event_rule.specs.Step.{step}
 use Rattle.event_rule.proofs.Parts.{take-split}
 use Rattle.net_core.specs.declared.refused.WholeRefused.{WholeRefused}
 use Rattle.net_core.specs.declared.refused.WholeRefused.TheVariants.{Replay, WrongStamp, NotWhole}
 use Rattle.net_core.specs.declared.refused.EntryRefused.{EntryRefused}
 use Rattle.net_core.specs.declared.refused.ReplayRefused.{ReplayRefused}
-use Rattle.event_rule.specs.Replays.{IsReplay}
 use Rattle.net_core.specs.Replays.{Stops, WhyNot, at_entry}
 use Rattle.entries.specs.declared.rows.Row.{Row}
 use Rattle.event_rule.specs.Rows.{event_of, row_of}
 use Rattle.event_rule.specs.Whole.{IsStampedReplay, IsWhole, IsWholeReplay}
 use Rattle.net_core.specs.Whole.{ReachesRow, StopsAtEntry, StopsAtStamp, WholeReplaysAreExact, WhyNotWhole}
 use Rattle.net_core.proofs.Decided.{decided, refused-not, split-twice}
-use Rattle.net_core.proofs.Replayed.{replay-next, replay-start}
 use Rattle.entries.specs.Rows.{without_stamp}
 use Rattle.entries.specs.declared.rows.StampedRow.{StampedRow}
-use Rattle.stamps.specs.Merged.{AreOrdered, AreStampedRows, IsInPlace, rows_in}
-use Rattle.stamps.proofs.Growing.{all_before, ordered_push, stamped_none, stamped_push}
-
--- the rows up to one, and that one
-pub rows-more : {A : Type 0} (rows : List A) (i : ℕ) (row : A) → i < length rows → row ≡ get_or rows i row → take i rows ++ (row ∷ []) ≡ take (i + 1) rows
-rows-more rows i row lt here =
-    let e : suc i ≡ i + 1 = omega arith in
-    sym (take-split rows i row lt here).0 ∙ ap (λ k. take k rows) e
+use Rattle.stamps.specs.Merged.{AreOrdered, IsInPlace, rows_in}
+use Rattle.stamps.proofs.Growing.{all_before}
 
 module _ {S M E : Type 0} (program : Program S M E) (net : Net) where
-  pub stamped-start : IsStampedReplay program net [] (start program net)
-  stamped-start = record { replay = replay-start program net; ordered = tt; stamped = stamped_none }
-
-  replay-more : (rows : List (StampedRow M)) (i : ℕ) (row : StampedRow M) (state next : State S M) → i < length rows → row ≡ get_or rows i row
-      → IsReplay program net (rows_in (take i rows)) state → step program net state (event_of net (without_stamp row)) ≡ Ok next
-      → row_of program net state (event_of net (without_stamp row)) ≡ Some (without_stamp row) → IsReplay program net (rows_in (take (i + 1) rows)) next
-  replay-more rows i row state next lt is replay leads writes =
-      let f : StampedRow M → Row M = λ r. without_stamp r in
-      let one : Row M = without_stamp row in
-      let bare = rows_in rows in
-      let many : i < length bare = let n = length-map rows f in omega (arith, lt, n) in
-      let at : one ≡ get_or bare i one = ap f is ∙ sym (get_or-map f rows i row one lt) in
-      subst (λ l. IsReplay program net l next) (take-map f (i + 1) rows)
-      (replay-next program net bare i one state next many at (subst (λ l. IsReplay program net l state) (sym (take-map f i rows)) replay) leads writes)
-
-  pub stamped-next : (rows : List (StampedRow M)) (i : ℕ) (row : StampedRow M) (state next : State S M) → i < length rows → row ≡ get_or rows i row
-      → IsStampedReplay program net (take i rows) state → step program net state (event_of net (without_stamp row)) ≡ Ok next
-      → row_of program net state (event_of net (without_stamp row)) ≡ Some (without_stamp row) → IsInPlace (take i rows) row
-      → IsStampedReplay program net (take (i + 1) rows) next
-  stamped-next rows i row state next lt here is leads writes place =
-      let more = rows-more rows i row lt here in
-      record {
-        replay = replay-more rows i row state next lt here is.replay leads writes;
-        ordered = subst AreOrdered more (ordered_push (take i rows) row is.ordered place.0);
-        stamped = subst AreStampedRows more (stamped_push (take i rows) row is.stamped place.1);
-      }
-
   -- the row at an index, where the rows before it lead
   module _ (rows : List (StampedRow M)) (i : ℕ) (row : StampedRow M) (state : State S M) (lt : i < length rows) (here : row ≡ get_or rows i row)
       (is : IsStampedReplay program net (take i rows) state) where

@@ -2,7 +2,7 @@ use Rattle.std.proofs.Common.{◌≡◌, ◌∙◌, ap, subst, sym}
 use Rattle.interference.specs.Net.{IsNetwork}
 use Rattle.event_rule.specs.State.{start}
 use Rattle.event_rule.specs.Whole.{IsStampedReplay}
-use Rattle.net_core.proofs.WholeReplays.{stamped-start}
+use Rattle.event_machine.proofs.Stamped.{stamped-start}
 use Rattle.progress_laws.specs.Endings.{IsWholeState}
 use Rattle.stamps.specs.Table.{IsTableOf}
 use Rattle.stamps.proofs.Tables.{empty_table}

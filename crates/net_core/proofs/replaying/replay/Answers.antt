@@ -1,7 +1,7 @@
 use Rattle.std.proofs.Common.{[], ap, drop, suc, sym, take, ◌∙◌, subst}
 use Rattle.event_rule.proofs.Parts.{take-split}
 use Rattle.event_rule.specs.Step.{step}
-use Rattle.net_core.proofs.Replayed.{replay-next, replay-start}
+use Rattle.event_machine.proofs.Replayed.{replay-next, replay-start}
 use Rattle.event_rule.specs.Replays.{IsReplay}
 use Rattle.net_core.specs.Replays.{WhyNot, at_entry}
 use Rattle.event_rule.specs.Rows.{event_of, row_of}

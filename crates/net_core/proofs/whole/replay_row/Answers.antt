@@ -2,7 +2,8 @@ use Rattle.std.proofs.Common.{◌∙◌, ap, subst, take}
 use Rattle.net_core.specs.declared.refused.WholeRefused.TheVariants.{Replay}
 use Rattle.net_core.specs.Replays.{IsMade, WhyNot, at_entry}
 use Rattle.stamps.specs.Table.{IsTableOf}
-use Rattle.net_core.proofs.WholeReplays.{rows-more, stamped-next, stops-entry, stops-stamp}
+use Rattle.event_machine.proofs.Stamped.{rows-more, stamped-next}
+use Rattle.net_core.proofs.WholeReplays.{stops-entry, stops-stamp}
 use Rattle.net_core.proofs.whole.replay_row.Goals as goal
 
 pub returns-in-Err-clause-refuses : goal.returns-in-Err-clause-refuses

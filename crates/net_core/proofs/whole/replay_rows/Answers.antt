@@ -5,7 +5,7 @@ use Rattle.event_rule.specs.Whole.{IsStampedReplay}
 use Rattle.net_core.specs.Whole.{WhyNotWhole}
 use Rattle.stamps.specs.Table.{IsTableOf}
 use Rattle.stamps.proofs.Tables.{empty_table}
-use Rattle.net_core.proofs.WholeReplays.{stamped-start}
+use Rattle.event_machine.proofs.Stamped.{stamped-start}
 use Rattle.net_core.proofs.whole.replay_rows.Goals as goal
 
 pub loop-index-init : goal.loop-index-init
