@@ -19,6 +19,15 @@ module _ {T : Type 0} where
       omega (arith, ap (λ l. length l) all, length-append taken (held_stamped met)) in
       ap (λ n. take n (put_of met)) long ∙ ap (λ l. take (length taken) l) all ∙ take_front taken (held_stamped met)
 
+  -- no link
+  pub none_met : (mets : List (Met T)) → mets ≡ [] → AreMet mets [] []
+  none_met mets none = record {
+    puts_are = ap (map put_of) none;
+    takens_are = ap (map taken_of) none;
+    splits = All-same (λ m. put_of m ≡ taken_of m ++ held_stamped m) mets [] none (λ k m lt. absurd (omega arith));
+  }
+
+  -- and one more
   pub one_met : (mets new : List (Met T)) (puts takens puts' takens' : List (List (Stamped T))) (met : Met T) (name : Option LinkName)
       (put taken : List (Stamped T)) → new ≡ mets ++ met ∷ [] → puts' ≡ puts ++ put ∷ [] → takens' ≡ takens ++ taken ∷ []
       → HasMet met name put taken → AreMet mets puts takens → AreMet new puts' takens'

@@ -6,6 +6,7 @@ use Rattle.entries.specs.Recorded.{entries_by}
 use Rattle.worker_deques.proofs.Views.{as_many}
 use Rattle.port_rows.proofs.ReadLists.{both_pushed}
 use Rattle.port_rows.specs.Rows.{rows_of}
+use Rattle.outcomes.proofs.Meetings.{err_says}
 use Rattle.outcomes.proofs.taking_apart.split_ends.Given.{Over}
 use Rattle.outcomes.proofs.taking_apart.split_ends.Goals.{In-Some}
 use Rattle.outcomes.proofs.taking_apart.split_ends.Goals as goal
@@ -15,6 +16,25 @@ left g c =
     (YieldsList-turn (YieldsList-from_vec {s = c.into_iter-node-iterator.result} c.args.nodes.items (search rules) (search rules))
     c.loop-node.yielded c.loop-node.node-iterator c.loop-node.yielded_by c.next.result c.next.new.self c.in-Some.node c.in-Some.is
     c.next.ensures.steps).0
+
+-- memory was refused
+pub returns-in_err-all : goal.returns-in_err-all
+returns-in_err-all g c = record {
+  vertices = err_says _ c.from_residual.result c.from_residual.ensures.0;
+  alphas = err_says _ c.from_residual.result c.from_residual.ensures.0;
+  entries = err_says _ c.from_residual.result c.from_residual.ensures.0;
+  puts = err_says _ c.from_residual.result c.from_residual.ensures.0;
+  takes = err_says _ c.from_residual.result c.from_residual.ensures.0;
+}
+
+pub returns-in_err-left : goal.returns-in_err-left
+returns-in_err-left g c = record {
+  vertices = err_says _ c.from_residual-in_err-left.result c.from_residual-in_err-left.ensures.0;
+  alphas = err_says _ c.from_residual-in_err-left.result c.from_residual-in_err-left.ensures.0;
+  entries = err_says _ c.from_residual-in_err-left.result c.from_residual-in_err-left.ensures.0;
+  puts = err_says _ c.from_residual-in_err-left.result c.from_residual-in_err-left.ensures.0;
+  takes = err_says _ c.from_residual-in_err-left.result c.from_residual-in_err-left.ensures.0;
+}
 
 pub loop-node-init : goal.loop-node-init
 loop-node-init g c =
