@@ -1,6 +1,6 @@
 //! The links of a network.
 
-ghost use Rattle.std.specs.Prelude.{◌≡◌, ◌<◌, ◌≤◌, ◌+◌, ℕ, [], IfOk, length, vec_len};
+ghost use Rattle.std.specs.Prelude.{◌≡◌, ◌<◌, ◌≤◌, ◌+◌, ◌++◌, ◌∷◌, ℕ, [], IfOk, length, vec_len};
 ghost use Rattle.interference.specs.Net.{IsVertex, count_of, degree_of, neighbour_of};
 ghost use Rattle.port_rows.specs.Rows.{row_at, rows_of};
 ghost use Rattle.node_runs.specs.Makes.{AreMade, AreMadeBefore, row_more};
@@ -54,6 +54,32 @@ fn push_to<T: Drop>(rows: &mut Vec<Vec<T>>, v: u32, thing: T) -> Result<(), Allo
     Ok(())
 }
 
+// Appends two things.
+fn push_two<T: Drop>(things: &mut Vec<T>, one: T, two: T) -> Result<(), AllocError>
+    ensures { IfOk result (λ _. things.new.items ≡ (things.old.items ++ one ∷ []) ++ two ∷ []) }
+{
+    things.push(one)?;
+    things.push(two)?;
+    Ok(())
+}
+
+// Appends a thing to the row of a vertex, and then another to that of a second one.
+fn push_to_both<T: Drop>(
+    rows: &mut Vec<Vec<T>>,
+    v: u32,
+    thing: T,
+    w: u32,
+    other: T,
+) -> Result<(), AllocError>
+    requires row { (1 ≤ v) × (v ≤ vec_len rows.old) }
+    requires other_row { (1 ≤ w) × (w ≤ vec_len rows.old) }
+    ensures rows { IfOk result (λ _.
+        rows_of rows.new.items ≡ row_more (row_more (rows_of rows.old.items) v thing) w other) }
+{
+    push_to(rows, v, thing)?;
+    push_to(rows, w, other)
+}
+
 // Makes both links of an edge, out of `v` by port `i` and back.
 fn make_edge<P: NodeProgram>(
     alloc: Global,
@@ -76,8 +102,6 @@ fn make_edge<P: NodeProgram>(
     let (back, other_put, take) = Link::<P>::new(alloc, net, w, j, capacity)?;
     let put_index = made.links.len() as u32;
     let take_index = put_index + 1;
-    made.links.push(out)?;
-    made.links.push(back)?;
     let ends = PortEnds {
         put_index,
         put,
@@ -90,8 +114,8 @@ fn make_edge<P: NodeProgram>(
         take_index: put_index,
         take: other_take,
     };
-    push_to(&mut made.ends, v, ends)?;
-    push_to(&mut made.ends, w, others)?;
+    push_two(&mut made.links, out, back)?;
+    push_to_both(&mut made.ends, v, ends, w, others)?;
     Ok(())
 }
 

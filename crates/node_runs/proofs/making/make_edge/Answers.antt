@@ -9,8 +9,7 @@ returns g c =
     record {
       made = edge-pushed c.args.net.now c.args.capacity c.neighbour-w.ensures.network c.args.v c.args.i c.neighbour-w.result c.back_port-j.result
           c.requires.vertex c.requires.port c.requires.greater c.neighbour-w.ensures.value c.back_port-j.ensures.value c.in_ok-out.out c.in_ok-back.back so_far
-          c.in_ok-push.ensures.items c.in_ok-push-2.ensures.items c.in_ok-push_to.ensures.rows c.in_ok-push_to-2.ensures.rows
-          long refl (refl, refl)
+          refl c.in_ok-push_two.ensures refl c.in_ok-push_to_both.ensures.rows long refl (refl, refl)
           (c.in_ok-out.ensures.capacity, c.in_ok-back.ensures.capacity) c.in_ok-out.ensures.put_end c.in_ok-out.ensures.take_end
           c.in_ok-back.ensures.put_end c.in_ok-back.ensures.take_end;
     }
