@@ -1,3 +1,2 @@
 pub mod EventAnswers
-pub mod RoundAnswers
 pub mod ReplayAnswers

@@ -11,7 +11,7 @@ use Rattle.byte_functions.specs.Workers.{IsFaultOfWorkers}
 use Rattle.answers.specs.Answers.{IsFaultOfText}
 use Rattle.play_answers.specs.EventAnswers.{IsEventsAnswer, IsFaultOfEvents}
 use Rattle.play_answers.specs.ReplayAnswers.{IsFaultOfReplay, IsReplayAnswer}
-use Rattle.play_answers.specs.RoundAnswers.{IsRoundsAnswer}
+use Rattle.run_answers.specs.RoundAnswers.{IsRoundsAnswer}
 use Rattle.answers.specs.declared.fault.PlanFault.{PlanFault}
 use Rattle.answers.specs.declared.fault.PlanFault.TheVariants.{Pool}
 use Rattle.answers.specs.declared.setting.Root.{Root}

@@ -1,5 +1,6 @@
 pub mod Ended
 mod One
+mod Quiet
 mod Ran
 mod Rows
 mod States

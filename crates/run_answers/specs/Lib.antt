@@ -1,2 +1,5 @@
 pub mod Ends
 pub mod Transcripts
+pub mod PutsText
+pub mod RoundsText
+pub mod RoundAnswers

@@ -1,6 +1,7 @@
-//! What the commands `run`, `alone` and `ends` of `forestplay` compute, from the bytes of a DIMACS text to the bytes of
-//! an answer: what the nodes of a program come to that worker threads run, or one thread without a common clock or in
-//! rounds. It names no stream, no command line and no system. `play_commands` calls it.
+//! What the commands `run`, `alone`, `ends` and `rounds` of `forestplay` compute, from the bytes of a DIMACS text to
+//! the bytes of an answer: what the nodes of a program come to that worker threads run, or one thread without a common
+//! clock or in rounds, and what they send in rounds, pulse by pulse. It names no stream, no command line and no system.
+//! `play_commands` calls it.
 //!
 //! ```
 //! let text = b"p edge 2 1\ne 1 2\n";
@@ -15,10 +16,14 @@ mod ends;
 mod last_states;
 pub mod laws;
 mod lines;
+mod puts;
+mod round_texts;
+mod rounds;
 mod run;
 mod transcript;
 
 pub use ends::alone_bytes;
 pub use last_states::ends_bytes;
+pub use rounds::rounds_bytes;
 pub use run::run_bytes;
 pub use transcript::alone_transcript_bytes;

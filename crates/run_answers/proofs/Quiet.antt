@@ -4,7 +4,7 @@ use Rattle.std.specs.List.{flat_map}
 use Rattle.interference.specs.Net.{Net, neighbours, port_to}
 use Rattle.node_api.specs.Boxes.{at_port, nothing}
 use Rattle.program_texts.specs.PayloadTexts.{PayloadTexts}
-use Rattle.round_texts.specs.PutsText.{put_text, puts_text}
+use Rattle.run_answers.specs.PutsText.{put_text, puts_text}
 
 none_at : {M : Type 0} (n i : ℕ) → get_or {A = Option M} (replicate n None) i None ≡ None
 none_at zero i = refl

@@ -3,11 +3,11 @@
 ghost use Rattle.std.specs.Prelude.{IfOk, IfErr};
 ghost use Rattle.program_texts.specs.PayloadTexts.{payload_texts};
 ghost use Rattle.answers.specs.Answers.{IsFaultOfText};
-ghost use Rattle.play_answers.specs.RoundAnswers.{IsRoundsAnswer};
+ghost use Rattle.run_answers.specs.RoundAnswers.{IsRoundsAnswer};
 
+use crate::round_texts::rounds_text;
 use answers::{PlanFault, Setting, network_of_text};
 use program_texts::ProgramText;
-use round_texts::rounds_text;
 use std::alloc::Global;
 
 /// The synchronous run of a program on the network that a DIMACS text describes: of each pulse what the program says of

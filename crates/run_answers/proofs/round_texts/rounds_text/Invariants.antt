@@ -2,8 +2,8 @@ use Rattle.std.proofs.Common.{◌≡◌, ◌+◌, ◌++◌, flat_map}
 use Rattle.std.specs.List.{range_with_len}
 use Rattle.sync_rounds.specs.Rounds.{AtPulse}
 use Rattle.program_texts.specs.PayloadTexts.{payload_texts}
-use Rattle.round_texts.specs.RoundsText.{pulse_text}
-use Rattle.round_texts.proofs.rounds.rounds_text.Given as goal
+use Rattle.run_answers.specs.RoundsText.{pulse_text}
+use Rattle.run_answers.proofs.round_texts.rounds_text.Given as goal
 
 abbrev pub invariant-loop-done : goal.invariant-loop-done
 invariant-loop-done g l =

@@ -4,7 +4,7 @@ ghost use Rattle.std.specs.Prelude.{◌≡◌, ◌++◌, IfOk};
 ghost use Rattle.interference.specs.Net.{IsVertex};
 ghost use Rattle.node_api.specs.Run.{outbox_at};
 ghost use Rattle.program_texts.specs.PayloadTexts.{payload_texts};
-ghost use Rattle.round_texts.specs.PutsText.{puts_text};
+ghost use Rattle.run_answers.specs.PutsText.{puts_text};
 
 use entries::{Entry, Row};
 use program_texts::ProgramText;

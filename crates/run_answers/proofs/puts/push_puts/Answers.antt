@@ -6,10 +6,10 @@ use Rattle.interference.proofs.Neighbours.{port_to-is}
 use Rattle.node_api.specs.Boxes.{at_port}
 use Rattle.node_api.specs.Run.{outbox_at}
 use Rattle.program_texts.specs.PayloadTexts.{PayloadTexts, payload_texts}
-use Rattle.round_texts.specs.PutsText.{put_text, puts_text}
-use Rattle.round_texts.proofs.Quiet.{quiet_text}
-use Rattle.round_texts.proofs.puts.push_puts.Goals as goal
-use Rattle.round_texts.proofs.puts.push_puts.Goals.{in-Some+in_ok-push_row, in_default}
+use Rattle.run_answers.specs.PutsText.{put_text, puts_text}
+use Rattle.run_answers.proofs.Quiet.{quiet_text}
+use Rattle.run_answers.proofs.puts.push_puts.Goals as goal
+use Rattle.run_answers.proofs.puts.push_puts.Goals.{in-Some+in_ok-push_row, in_default}
 
 -- the lines of the neighbours up to a port, and what is put behind them
 one_more : {M : Type 0} (payloads : PayloadTexts M) (net : Net) (p v port : ℕ) (out : List (Option M)) (front so_far next : List ℕ)

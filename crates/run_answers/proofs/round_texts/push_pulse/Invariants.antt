@@ -1,8 +1,8 @@
 use Rattle.std.proofs.Common.{◌≡◌, ◌++◌, flat_map}
 use Rattle.std.specs.List.{range_with_len}
 use Rattle.program_texts.specs.PayloadTexts.{payload_texts}
-use Rattle.round_texts.specs.RoundsText.{pulse_line, vertex_text}
-use Rattle.round_texts.proofs.rounds.push_pulse.Given as goal
+use Rattle.run_answers.specs.RoundsText.{pulse_line, vertex_text}
+use Rattle.run_answers.proofs.round_texts.push_pulse.Given as goal
 
 abbrev pub invariant-loop-i : goal.invariant-loop-i
 invariant-loop-i g l =

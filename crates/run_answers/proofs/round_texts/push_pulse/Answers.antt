@@ -1,8 +1,8 @@
 use Rattle.std.proofs.Common.{◌≡◌, ◌+◌, ◌++◌, arith}
 use Rattle.program_texts.specs.PayloadTexts.{payload_texts}
-use Rattle.round_texts.specs.RoundsText.{pulse_line, vertex_text}
+use Rattle.run_answers.specs.RoundsText.{pulse_line, vertex_text}
 use Rattle.number_rows.proofs.Ranges.{texts-more}
-use Rattle.round_texts.proofs.rounds.push_pulse.Goals as goal
+use Rattle.run_answers.proofs.round_texts.push_pulse.Goals as goal
 
 pub loop-i-preserved : goal.loop-i-preserved
 loop-i-preserved g c =

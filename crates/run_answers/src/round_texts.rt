@@ -1,10 +1,19 @@
 //! The text of the rounds, pulse by pulse.
+//!
+//! What nodes send is written in the entries of a transcript, so that these lines are those that a whole transcript has
+//! of payloads put, in another order. The first line, the words of a pulse and the lines of a node are the program's
+//! own, by its `ProgramText`.
+//!
+//! ```text
+//! let text = rounds_text::<Colouring>(alloc, &net)?;
+//! // "rounds 1 2 1 1 18", "pulse 0 greet", "1 put 2 payload 0 hello 1", ..
+//! ```
 
 ghost use Rattle.std.specs.Prelude.{◌≡◌, ◌≤◌, ◌++◌, IfOk};
 ghost use Rattle.interference.specs.Net.{IsVertex};
 ghost use Rattle.node_api.specs.Program.{last_pulse_on};
 ghost use Rattle.program_texts.specs.PayloadTexts.{payload_texts};
-ghost use Rattle.round_texts.specs.RoundsText.{pulse_line, pulse_text, rounds_text, vertex_text};
+ghost use Rattle.run_answers.specs.RoundsText.{pulse_line, pulse_text, rounds_text, vertex_text};
 
 use crate::puts::push_puts;
 use interference::{Memory, Network};
@@ -62,7 +71,7 @@ fn push_pulse<P: ProgramText>(text: &mut Vec<u8>, rounds: &Rounds<'_, P>) -> Res
 /// # Errors
 ///
 /// If memory is refused.
-pub fn rounds_text<P: ProgramText>(alloc: Global, net: &Network) -> Result<Vec<u8>, Memory>
+pub(crate) fn rounds_text<P: ProgramText>(alloc: Global, net: &Network) -> Result<Vec<u8>, Memory>
     ensures text { IfOk result (λ text. text.items
         ≡ rounds_text P.program P.texts (payload_texts P.Payload.PayloadText.own) net.now) }
 {

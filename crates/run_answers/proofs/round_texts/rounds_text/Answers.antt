@@ -1,9 +1,9 @@
 use Rattle.std.proofs.Common.{◌≡◌, ◌∙◌, ◌+◌, ◌++◌, ap, arith}
 use Rattle.sync_rounds.specs.Rounds.{AtPulse}
 use Rattle.program_texts.specs.PayloadTexts.{payload_texts}
-use Rattle.round_texts.specs.RoundsText.{pulse_text}
+use Rattle.run_answers.specs.RoundsText.{pulse_text}
 use Rattle.number_rows.proofs.Ranges.{texts-more}
-use Rattle.round_texts.proofs.rounds.rounds_text.Goals as goal
+use Rattle.run_answers.proofs.round_texts.rounds_text.Goals as goal
 
 pub loop-done-preserved : goal.loop-done-preserved
 loop-done-preserved g c =

@@ -2,10 +2,10 @@ use Rattle.std.proofs.Common.{◌≡◌, ◌∙◌, ap}
 use Rattle.dimacs_col.specs.Lines.{lines_of}
 use Rattle.interference.specs.Net.{IsNetwork}
 use Rattle.node_api.specs.Run.{last_state}
-use Rattle.round_texts.specs.RoundsText.{rounds_text}
+use Rattle.run_answers.specs.RoundsText.{rounds_text}
 use Rattle.program_texts.specs.PayloadTexts.{payload_texts}
 use Rattle.answers.proofs.Settings.{lines-more}
-use Rattle.play_answers.proofs.rounds.rounds_bytes.Goals as goal
+use Rattle.run_answers.proofs.rounds.rounds_bytes.Goals as goal
 
 -- the last states of the network that was read are what the program is for
 pub returns-clause-ok : goal.returns-clause-ok

@@ -4,7 +4,7 @@ use Rattle.interference.specs.Net.{IsNetwork}
 use Rattle.node_api.specs.Program.{Program}
 use Rattle.node_api.specs.Run.{last_state}
 use Rattle.program_texts.specs.Texts.{ProgramTexts}
-use Rattle.round_texts.specs.RoundsText.{rounds_text}
+use Rattle.run_answers.specs.RoundsText.{rounds_text}
 use Rattle.program_texts.specs.PayloadTexts.{PayloadTexts}
 use Rattle.answers.specs.Answers.{ReadsAs}
 use Rattle.answers.specs.Settings.{OfSet}

@@ -7,7 +7,7 @@ use Rattle.node_api.specs.Run.{outbox_at, state_at}
 use Rattle.program_texts.specs.Texts.{ProgramTexts}
 use Rattle.number_rows.specs.Row.{numbered}
 use Rattle.program_texts.specs.PayloadTexts.{PayloadTexts}
-use Rattle.round_texts.specs.PutsText.{puts_text}
+use Rattle.run_answers.specs.PutsText.{puts_text}
 
 -- `pulse P`, and the program's words for it
 abbrev pub pulse_line : {S : Type 0} → ProgramTexts S → Net → ℕ → List ℕ

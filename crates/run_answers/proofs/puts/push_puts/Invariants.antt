@@ -3,8 +3,8 @@ use Rattle.interference.specs.Net.{neighbours, port_to}
 use Rattle.node_api.specs.Boxes.{at_port}
 use Rattle.node_api.specs.Run.{outbox_at}
 use Rattle.program_texts.specs.PayloadTexts.{payload_texts}
-use Rattle.round_texts.specs.PutsText.{put_text}
-use Rattle.round_texts.proofs.puts.push_puts.Given as goal
+use Rattle.run_answers.specs.PutsText.{put_text}
+use Rattle.run_answers.proofs.puts.push_puts.Given as goal
 
 abbrev pub invariant-loop-port : goal.invariant-loop-port
 invariant-loop-port g l =

@@ -1,2 +1,0 @@
-pub mod PutsText
-pub mod RoundsText
