@@ -1,5 +1,5 @@
--- The two places of the payloads of a port: the first has the oldest, and one more is put into the first if it is free, or else into the second.
-use Rattle.std.proofs.Common.{◌≡◌, ◌≤◌, Option, Some, None, true, false, [], ◌∷◌, ◌++◌, length, slice_get, refl, arith}
+-- A payload more in the two places of a port: the first if it is free, or else the second.
+use Rattle.std.proofs.Common.{◌≡◌, ◌≤◌, Option, Some, None, true, false, [], ◌∷◌, ◌++◌, length, refl, arith}
 use Rattle.std.specs.Prelude.{is_some}
 use Rattle.alpha_core.specs.OutLists.{led_by, payloads_of}
 
@@ -20,8 +20,3 @@ module _ {M : Type 0} where
   second-put None b x taken few = absurd cc
   second-put (Some y) None x taken few = refl
   second-put (Some y) (Some z) x taken few = absurd (omega (arith, few))
-
-  pub first-is : (a b : Option M) → (a ≡ None → b ≡ None) → a ≡ slice_get (payloads_of a b) 0
-  first-is None None none = refl
-  first-is None (Some y) none = let wrong = none refl in absurd cc
-  first-is (Some x) b none = refl
