@@ -7,6 +7,7 @@ mod Lines
 mod Numbers
 mod Passing
 mod Played
+mod Refused
 mod RunOptions
 mod Used
 mod Walked

@@ -1,7 +1,4 @@
 //! The commands in `clap`'s builders.
-//!
-//! Results are taken apart by `let Ok`: the prover lists the fields of each local at each step, and a `?` has two more
-//! locals of the type of a command, which has 53.
 
 ghost use Rattle.std.specs.Prelude.{◌≡◌, IfOk};
 ghost use Rattle.clap.specs.Words.{app_of, new_app, with_subcommand};
@@ -56,9 +53,7 @@ fn with_network_commands<'a>(alloc: Global, program: Command<'a>) -> Result<Comm
     ensures shape { IfOk result (λ c. app_of c ≡ with_network_commands (app_of program.entry)) }
     ensures local { IfOk result IsLocal }
 {
-    let Ok(program) = with_command(program, command(alloc, "forests", help::FORESTS)) else {
-        return Err(AllocError);
-    };
+    let program = with_command(program, command(alloc, "forests", help::FORESTS))?;
     with_command(program, command(alloc, "plain", help::PLAIN))
 }
 
@@ -75,9 +70,7 @@ fn transcript_command<'a>(alloc: Global) -> Result<Command<'a>, AllocError>
     ensures shape { IfOk result (λ c. app_of c ≡ transcript_command) }
     ensures local { IfOk result IsLocal }
 {
-    let Ok(transcript) = worker_command(alloc, "transcript", help::TRANSCRIPT) else {
-        return Err(AllocError);
-    };
+    let transcript = worker_command(alloc, "transcript", help::TRANSCRIPT)?;
     with_edition(alloc, transcript)
 }
 
@@ -87,9 +80,7 @@ fn with_plan_command<'a>(alloc: Global, program: Command<'a>) -> Result<Command<
     ensures shape { IfOk result (λ c. app_of c ≡ with_subcommand (app_of program.entry) plan_command.top) }
     ensures local { IfOk result IsLocal }
 {
-    let Ok(plan) = worker_command(alloc, "plan", help::PLAN) else {
-        return Err(AllocError);
-    };
+    let plan = worker_command(alloc, "plan", help::PLAN)?;
     with_command(program, plan)
 }
 
@@ -102,9 +93,7 @@ fn with_transcript_command<'a>(
     ensures shape { IfOk result (λ c. app_of c ≡ with_subcommand (app_of program.entry) transcript_command.top) }
     ensures local { IfOk result IsLocal }
 {
-    let Ok(transcript) = transcript_command(alloc) else {
-        return Err(AllocError);
-    };
+    let transcript = transcript_command(alloc)?;
     with_command(program, transcript)
 }
 
@@ -114,9 +103,7 @@ fn with_worker_commands<'a>(alloc: Global, program: Command<'a>) -> Result<Comma
     ensures shape { IfOk result (λ c. app_of c ≡ with_worker_commands (app_of program.entry)) }
     ensures local { IfOk result IsLocal }
 {
-    let Ok(program) = with_plan_command(alloc, program) else {
-        return Err(AllocError);
-    };
+    let program = with_plan_command(alloc, program)?;
     with_transcript_command(alloc, program)
 }
 
@@ -126,12 +113,8 @@ fn with_plan_commands<'a>(alloc: Global, program: Command<'a>) -> Result<Command
     ensures shape { IfOk result (λ c. app_of c ≡ with_plan_commands (app_of program.entry)) }
     ensures local { IfOk result IsLocal }
 {
-    let Ok(program) = with_network_commands(alloc, program) else {
-        return Err(AllocError);
-    };
-    let Ok(program) = with_worker_commands(alloc, program) else {
-        return Err(AllocError);
-    };
+    let program = with_network_commands(alloc, program)?;
+    let program = with_worker_commands(alloc, program)?;
     with_command(program, command(alloc, "check", help::CHECK))
 }
 
@@ -140,12 +123,8 @@ fn play_command<'a>(alloc: Global, name: &'a str, help: Help) -> Result<Command<
     ensures shape { IfOk result (λ c. app_of c ≡ play_command name.entry.now) }
     ensures local { IfOk result IsLocal }
 {
-    let Ok(play) = with_program(alloc, command(alloc, name, help)) else {
-        return Err(AllocError);
-    };
-    let Ok(play) = with_root(alloc, play) else {
-        return Err(AllocError);
-    };
+    let play = with_program(alloc, command(alloc, name, help))?;
+    let play = with_root(alloc, play)?;
     with_passes(alloc, play)
 }
 
@@ -161,9 +140,7 @@ fn with_play_command<'a>(
         (λ c. app_of c ≡ with_subcommand (app_of program.entry) (play_command name.entry.now).top) }
     ensures local { IfOk result IsLocal }
 {
-    let Ok(play) = play_command(alloc, name, help) else {
-        return Err(AllocError);
-    };
+    let play = play_command(alloc, name, help)?;
     with_command(program, play)
 }
 
@@ -172,12 +149,8 @@ fn run_command<'a>(alloc: Global) -> Result<Command<'a>, AllocError>
     ensures shape { IfOk result (λ c. app_of c ≡ run_command) }
     ensures local { IfOk result IsLocal }
 {
-    let Ok(run) = play_command(alloc, "run", help::RUN) else {
-        return Err(AllocError);
-    };
-    let Ok(run) = with_run_options(alloc, run) else {
-        return Err(AllocError);
-    };
+    let run = play_command(alloc, "run", help::RUN)?;
+    let run = with_run_options(alloc, run)?;
     with_transcript(alloc, run)
 }
 
@@ -186,9 +159,7 @@ fn alone_command<'a>(alloc: Global) -> Result<Command<'a>, AllocError>
     ensures shape { IfOk result (λ c. app_of c ≡ alone_command) }
     ensures local { IfOk result IsLocal }
 {
-    let Ok(alone) = play_command(alloc, "alone", help::ALONE) else {
-        return Err(AllocError);
-    };
+    let alone = play_command(alloc, "alone", help::ALONE)?;
     with_transcript(alloc, alone)
 }
 
@@ -199,18 +170,10 @@ fn with_run_commands<'a>(alloc: Global, program: Command<'a>) -> Result<Command<
     ensures shape { IfOk result (λ c. app_of c ≡ with_run_commands (app_of program.entry)) }
     ensures local { IfOk result IsLocal }
 {
-    let Ok(run) = run_command(alloc) else {
-        return Err(AllocError);
-    };
-    let Ok(program) = with_command(program, run) else {
-        return Err(AllocError);
-    };
-    let Ok(alone) = alone_command(alloc) else {
-        return Err(AllocError);
-    };
-    let Ok(program) = with_command(program, alone) else {
-        return Err(AllocError);
-    };
+    let run = run_command(alloc)?;
+    let program = with_command(program, run)?;
+    let alone = alone_command(alloc)?;
+    let program = with_command(program, alone)?;
     with_play_command(alloc, program, "ends", help::ENDS)
 }
 
@@ -220,15 +183,9 @@ fn with_play_commands<'a>(alloc: Global, program: Command<'a>) -> Result<Command
     ensures shape { IfOk result (λ c. app_of c ≡ with_play_commands (app_of program.entry)) }
     ensures local { IfOk result IsLocal }
 {
-    let Ok(program) = with_play_command(alloc, program, "events", help::EVENTS) else {
-        return Err(AllocError);
-    };
-    let Ok(program) = with_play_command(alloc, program, "replay", help::REPLAY) else {
-        return Err(AllocError);
-    };
-    let Ok(program) = with_play_command(alloc, program, "rounds", help::ROUNDS) else {
-        return Err(AllocError);
-    };
+    let program = with_play_command(alloc, program, "events", help::EVENTS)?;
+    let program = with_play_command(alloc, program, "replay", help::REPLAY)?;
+    let program = with_play_command(alloc, program, "rounds", help::ROUNDS)?;
     with_run_commands(alloc, program)
 }
 
@@ -242,15 +199,11 @@ pub fn whole_line<'a>(alloc: Global, executable: Executable) -> Result<Command<'
 {
     match executable {
         Executable::Forestplan => {
-            let Ok(command) = without_commands(alloc, "forestplan", help::FORESTPLAN) else {
-                return Err(AllocError);
-            };
+            let command = without_commands(alloc, "forestplan", help::FORESTPLAN)?;
             with_plan_commands(alloc, command)
         }
         Executable::Forestplay => {
-            let Ok(command) = without_commands(alloc, "forestplay", help::FORESTPLAY) else {
-                return Err(AllocError);
-            };
+            let command = without_commands(alloc, "forestplay", help::FORESTPLAY)?;
             with_play_commands(alloc, command)
         }
     }

@@ -33,17 +33,13 @@ fn number<'a>(
         .help(help)
 }
 
-/// A command with an option after its others. Each option is added here, since a call of `arg` is dear to prove.
-///
-/// # Errors
-/// If memory ran out.
-pub fn with_arg<'a>(command: Command<'a>, arg: Arg<'a>) -> Result<Command<'a>, AllocError>
+fn with_number<'a>(command: Command<'a>, number: Arg<'a>) -> Result<Command<'a>, AllocError>
     requires locals { IsLocal command }
-    requires local { arg.global ≡ false }
-    ensures shape { IfOk result (λ c. app_of c ≡ with_rule (app_of command.entry) (rule_of arg.entry)) }
+    requires local { number.global ≡ false }
+    ensures shape { IfOk result (λ c. app_of c ≡ with_rule (app_of command.entry) (rule_of number.entry)) }
     ensures local { IfOk result IsLocal }
 {
-    command.arg(arg)
+    command.arg(number)
 }
 
 /// A command with the options of a run of workers: `--workers`, `--capacity` and `--turns`.
@@ -55,19 +51,15 @@ pub fn with_run_options<'a>(alloc: Global, command: Command<'a>) -> Result<Comma
     ensures shape { IfOk result (λ c. app_of c ≡ with_run_options (app_of command.entry)) }
     ensures local { IfOk result IsLocal }
 {
-    let Ok(command) = with_arg(
+    let command = with_number(
         command,
         number(alloc, "workers", 1, u64::from(MAX_WORKERS), "4", WORKERS),
-    ) else {
-        return Err(AllocError);
-    };
-    let Ok(command) = with_arg(
+    )?;
+    let command = with_number(
         command,
         number(alloc, "capacity", 1, u64::from(MAX_CAPACITY), "4", CAPACITY),
-    ) else {
-        return Err(AllocError);
-    };
-    with_arg(
+    )?;
+    with_number(
         command,
         number(alloc, "turns", 0, MAX_TURNS, "1000000000", TURNS),
     )
@@ -83,7 +75,7 @@ pub fn with_edition<'a>(alloc: Global, command: Command<'a>) -> Result<Command<'
     ensures local { IfOk result IsLocal }
 {
     let edition = number(alloc, "edition", 1, u64::from(MAX_EDITION), "2", EDITION);
-    with_arg(command, edition)
+    with_number(command, edition)
 }
 
 /// The number that an option has, if it fits.

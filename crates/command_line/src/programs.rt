@@ -9,7 +9,7 @@ ghost use Rattle.command_line.specs.NodePrograms.{rooted_program, shown_of, tran
 ghost use Rattle.command_line.specs.NodePrograms.{with_root, with_transcript};
 
 use crate::help::{PASSES, PROGRAM, ROOT, SHOW_TRANSCRIPT};
-use crate::options::{small_number, with_arg};
+use crate::options::small_number;
 use clap::builder::ValueParser;
 use clap::{Arg, ArgAction, ArgMatches, Command};
 use graph_limits::MAX_NODES;
@@ -102,7 +102,7 @@ pub fn with_program<'a>(alloc: Global, command: Command<'a>) -> Result<Command<'
     ensures shape { IfOk result (λ c. app_of c ≡ with_program (app_of command.entry)) }
     ensures local { IfOk result IsLocal }
 {
-    with_arg(command, program(alloc))
+    command.arg(program(alloc))
 }
 
 /// A command with the option `--root`.
@@ -114,7 +114,7 @@ pub fn with_root<'a>(alloc: Global, command: Command<'a>) -> Result<Command<'a>,
     ensures shape { IfOk result (λ c. app_of c ≡ with_root (app_of command.entry)) }
     ensures local { IfOk result IsLocal }
 {
-    with_arg(command, root(alloc))
+    command.arg(root(alloc))
 }
 
 /// A command with the option `--passes`.
@@ -126,7 +126,7 @@ pub fn with_passes<'a>(alloc: Global, command: Command<'a>) -> Result<Command<'a
     ensures shape { IfOk result (λ c. app_of c ≡ with_passes (app_of command.entry)) }
     ensures local { IfOk result IsLocal }
 {
-    with_arg(command, number_of_passes(alloc))
+    command.arg(number_of_passes(alloc))
 }
 
 /// A command with the option `--transcript` after its others.
@@ -138,7 +138,7 @@ pub fn with_transcript<'a>(alloc: Global, command: Command<'a>) -> Result<Comman
     ensures shape { IfOk result (λ c. app_of c ≡ with_transcript (app_of command.entry)) }
     ensures local { IfOk result IsLocal }
 {
-    with_arg(command, transcript(alloc))
+    command.arg(transcript(alloc))
 }
 
 // The first value of an option.
