@@ -5,6 +5,7 @@ import importlib.util
 import os
 import re
 import shutil
+import subprocess
 import sys
 
 from tests import browser
@@ -12,13 +13,27 @@ from tests import browser
 ENDING = "isn't installed"
 
 
-# What Debian's packages have for its own Python, whose version is in the name of that.
+# Debian's Python, and what Debian's packages have for it.
+SYSTEM = "/usr/bin/python3"
 OF_SYSTEM = "/usr/lib/python3/dist-packages"
+# The same by its version, which this Python may have, too.
 OWN = "/usr/bin/python{}.{}".format(*sys.version_info)
 
 
+def has_module(python: str, module: str) -> bool:
+    """Whether a Python is there and can import a module."""
+    if not shutil.which(python):
+        return False
+    return subprocess.run([python, "-c", f"import {module}"], capture_output=True).returncode == 0
+
+
 def is_installed(tool):
-    """Whether a tool is there; this Python takes a module that it lacks from the system's, if that has its version."""
+    """Whether a tool is there: a command by its name or its path, a module of this Python, or `MODULE of PYTHON`.
+
+    This Python takes a module that it lacks from the system's, if that has its version."""
+    module, _, python = tool.partition(" of ")
+    if python:
+        return has_module(python, module)
     if tool in ("networkx", "matplotlib", "igraph", "pandas"):
         if importlib.util.find_spec(tool) is None and os.path.exists(OWN):
             sys.path.append(OF_SYSTEM)

@@ -9,7 +9,12 @@ from tests.cases import Case, called, copied
 # What the script itself calls.
 TOOLS = ("bash", "dirname", "env", "grep", "sleep", "timeout", "tr")
 TEST = "#!/bin/sh\necho said by the test\necho 3 passed, 1 failed\nexit 1\n"
-ALL = "black flake8 mypy python3-networkx bubblewrap chromium zsh"
+# Packages whose command is called as they are, and all others.
+BY_NAME = "black flake8 mypy zsh groff chromium"
+ALL = (
+    "black flake8 mypy bubblewrap zsh graphviz groff binutils default-jdk-headless chromium "
+    "python3-networkx python3-scipy python3-igraph python3-pandas python3-matplotlib"
+)
 
 # Its `apt-get` ends like this; $LOG has its words, and $HERE is the folder of all programs.
 FAILS = "exit 100"
@@ -38,6 +43,7 @@ class Ci(Case):
             self.program(os.path.join(here, name), "#!/bin/sh\n")
         self.file(log, "")
         env = {"PATH": here, "LOG": log, "HERE": here, "CI_APT_LIMIT": str(limit)}
+        env["CI_PYTHON"] = os.path.join(here, "python3")
         done = called(os.path.join(tree, ".ci", "run"), env=env, limit=300)
         with open(log, encoding="utf-8") as file:
             return done, [line.split()[-1] for line in file]
@@ -59,7 +65,8 @@ class Ci(Case):
         done, _ = self.run_with(HANGS, limit=2)
         self.check("apt hangs", done, ALL)
         done, _ = self.run_with(INSTALLS)
-        self.check("apt installs all but one", done, "python3-networkx bubblewrap chromium")
+        left = [name for name in ALL.split() if name not in BY_NAME.split() or name == "chromium"]
+        self.check("apt installs all but one", done, " ".join(left))
         done, calls = self.run_with(FAILS, user=1000)
         self.check("not root", done, ALL)
         self.same("not root: apt isn't called", calls, [])

@@ -3,10 +3,12 @@ import os
 import re
 import shutil
 import subprocess
+from collections.abc import Iterator
 
 from tests import TOP
 from tests.cases import Case
 from tests.programs.own_networks import by_names
+from tests.tools import SYSTEM, need
 
 # What a shell finds: the commands of the repository, and Debian's Python with its packages.
 PATH = f"{TOP}/bin:/usr/bin:/bin"
@@ -39,6 +41,10 @@ ASKED = (
     ({"a.gv": "graph { Ulm -- Aue }", "s.csv": "site\nUlm\nAue\n"}, "a.gv --sites s.csv", 1),
     ({"a.net": '*Vertices 2\n1 "Ulm"\n2 "Aue"\n*Edges\n1 2\n'}, "a.net", 1),
 )
+# What the commands call that a refusal of a file with such an ending names. Both make a form that networkx reads.
+NETWORKX = f"networkx of {SYSTEM}"
+BY_GRAPHVIZ = ("/usr/bin/gv2gml", NETWORKX)
+NEEDED = {".dot": BY_GRAPHVIZ, ".gv": BY_GRAPHVIZ, ".net": (f"igraph of {SYSTEM}", NETWORKX)}
 MATRIX = "%%MatrixMarket matrix coordinate pattern symmetric\n% of 3\n3 3 1\n3 1\n"
 
 
@@ -55,10 +61,10 @@ def joined(text):
     return {name: near for name, (*_, near) in by_names(text).items()}
 
 
-def has_package(name):
-    """Whether Debian's Python has it."""
-    done = subprocess.run(["/usr/bin/python3", "-c", f"import {name}"], capture_output=True)
-    return done.returncode == 0
+def needed_by(names: dict) -> Iterator[str]:
+    """The tools without which what is said of these files can't be typed."""
+    for name in names:
+        yield from NEEDED.get(os.path.splitext(name)[1], ())
 
 
 class Stated(Case):
@@ -95,19 +101,19 @@ class Stated(Case):
             os.mkdir(self.folder)
             for name, data in files.items():
                 self.file(name, data)
-            needed = {".net": "igraph", ".gv": "networkx", ".dot": "networkx"}
-            package = next((needed[end] for end in needed if end in words), None)
-            if package and not has_package(package):
-                continue
-            found = self.networks(words)
-            good = [text for text in found if joined(text) == EDGE]
-            self.note(f"{files} {words}", len(good) == count, found)
+            with self.subTest(words):
+                for tool in needed_by(files):
+                    need(self, tool)
+                found = self.networks(words)
+                good = [text for text in found if joined(text) == EDGE]
+                self.note(f"{files} {words}", len(good) == count, found)
 
     def test_matrix_market(self):
         """The matrix's rows by their numbers."""
+        for tool in (f"scipy of {SYSTEM}", NETWORKX):
+            need(self, tool)
         self.file("m.mtx", MATRIX)
-        if has_package("scipy") and has_package("networkx"):
-            found = self.networks("m.mtx")
-            self.same(
-                "a matrix", [joined(text) for text in found], [{"0": {"2"}, "1": set(), "2": {"0"}}]
-            )
+        found = self.networks("m.mtx")
+        self.same(
+            "a matrix", [joined(text) for text in found], [{"0": {"2"}, "1": set(), "2": {"0"}}]
+        )
