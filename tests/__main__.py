@@ -5,7 +5,8 @@ is printed module by module, and last 'N passed, M failed' over all of them, in 
 a test has one or many.
 
 NAME is a module, a class or a test as --list prints them; one part of such a name, as
-a folder, a module or a class; or a word of a test's name. Without NAME all tests run.
+a folder, a module or a class; or a word of a test's name. `test_` may be left out of it.
+Without NAME all tests run.
 
 The programs are those that `rt ci`, or ./forestplan and forestplay, have built. It
 needs a C compiler, `cc`. What is in tests/by_hand/ has to be called by hand."""
@@ -27,7 +28,12 @@ from tests.settings import MORE_HELP, NAMED, PATHS
 from tests.tools import not_run
 
 # The modules that take longest, which begin first.
-LONGEST = ("programs.own_algorithms", "programs.sequels", "programs.hostile", "programs.schedules")
+LONGEST = (
+    "programs.test_own_algorithms",
+    "programs.test_sequels",
+    "programs.test_hostile",
+    "programs.test_schedules",
+)
 
 
 def options():
@@ -54,10 +60,12 @@ def options():
 
 
 def is_named(name, test):
-    """Whether a name of the command line means a test, which is named MODULE.CLASS.test_x."""
+    """Whether a name of the command line means a test, which is named MODULE.CLASS.test_x. The prefix `test_` of
+    modules and methods may be left out."""
     for begin in ("tests/", "tests."):
         name = name.removeprefix(begin)
-    name = name.removesuffix(".py").rstrip("/").replace("/", ".")
+    name = name.removesuffix(".py").rstrip("/").replace("/", ".").replace("test_", "")
+    test = test.replace("test_", "")
     *folders, last = test.split(".")
     return f"{test}.".startswith(f"{name}.") or name in folders or name in last
 

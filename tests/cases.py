@@ -126,7 +126,7 @@ def said_by(*words, **more):
 
 def in_process(name, main, *words, data=b""):
     """The same of a command of forestlab, whose `main` is called in this process; how a process ends is for
-    tests/programs/endings.py."""
+    tests/programs/test_endings.py."""
     given, out, errors = (
         io.TextIOWrapper(io.BytesIO(text), "utf-8", write_through=True) for text in (data, b"", b"")
     )

@@ -1,7 +1,7 @@
 """The one table of all commands: those of the programs and of forestlab.
 
 Each has a small input and the answer to it, worked by hand. What tests every command reads it from here, and
-tests/programs/commands.py fails if a command is missing. In the texts '|' is a line feed."""
+tests/programs/test_commands.py fails if a command is missing. In the texts '|' is a line feed."""
 from dataclasses import dataclass
 
 EDGE, TRIANGLE, APART, ALONE = (
@@ -184,7 +184,7 @@ SCRIPTS = (
         "transcript 2 1|1 1 pulse 1|",
         r'{"edition": 2, "nodes": 1}\n{"line": 2, "stamp": 1, "node": 1, "kind": "pulse", "pulse": 1}\n',
     ),
-    # It doesn't end by itself; tests/programs/studio.py asks it more.
+    # It doesn't end by itself; tests/programs/test_studio.py asks it more.
     Script("studio", ("--help",), "", r"usage: forestlab studio [^\0]*"),
     Script("workshop", ("--help",), "", r"usage: forestlab workshop [^\0]*"),
     Script("sheet", ("--seed", "7", "--lesson", "2"), "", r"<!doctype html>[^\0]*</html>\n"),

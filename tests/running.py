@@ -2,7 +2,7 @@
 
   python3 -m tests.running MODULE [TEST ..]
 
-A test is a method of a `unittest.TestCase`; a module without one is a helper that others import. It prints each row
+A test is a method of a `unittest.TestCase` in a module named `test_*`; any other module is a helper. It prints each row
 that failed or was skipped, and last 'N passed, M failed'. A test that takes longer than the limit ends it, with the
 place where it waits."""
 import faulthandler
@@ -26,13 +26,9 @@ def without_rt(path):
 
 
 def modules():
-    """The names of all modules of tests/, without the package's and what is called by hand."""
-    paths = sorted(glob.glob("**/[!_]*.py", root_dir=os.path.join(TOP, "tests"), recursive=True))
-    return [
-        path.removesuffix(".py").replace("/", ".")
-        for path in paths
-        if not path.startswith("by_hand/")
-    ]
+    """The names of all modules of tests/ that have tests."""
+    paths = sorted(glob.glob("**/test_*.py", root_dir=os.path.join(TOP, "tests"), recursive=True))
+    return [path.removesuffix(".py").replace("/", ".") for path in paths]
 
 
 def tests_of(module):

@@ -14,13 +14,13 @@ Settings are variables, here with their defaults:
   TESTS_CRATE_TESTS  the tests of crates/checks: crates/checks/out/checks_tests
   TESTS_LIMIT        1200: how many seconds a test may take; one that takes longer is
                      ended, and has failed
-  TESTS_TEXTS        10000: how many random texts programs.hostile makes
+  TESTS_TEXTS        10000: how many random texts programs.test_hostile makes
   TESTS_SEED         2026: the seed of these random texts
-  TESTS_GRAPHS       33: how many random graphs programs.in_python plans
-  TESTS_LARGE        4: how many large networks programs.own_networks numbers
-  TESTS_FILES        8: how many files of each form programs.written has read
-  TESTS_RUNS         40: how many runs of threads programs.transcripts checks
-  TESTS_SEQUELS      12: how many networks by chance programs.sequel_runs plays
+  TESTS_GRAPHS       33: how many random graphs programs.test_in_python plans
+  TESTS_LARGE        4: how many large networks programs.test_own_networks numbers
+  TESTS_FILES        8: how many files of each form programs.test_written has read
+  TESTS_RUNS         40: how many runs of threads programs.test_transcripts checks
+  TESTS_SEQUELS      12: how many networks by chance programs.test_sequel_runs plays
 """
 DEFAULTS = {
     "limit": "1200",

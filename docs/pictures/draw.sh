@@ -1,5 +1,5 @@
 #!/bin/sh
-# Draws the stored pictures anew, at the top of the repository: sh docs/pictures/draw.sh. tests/programs/install.py
+# Draws the stored pictures anew, at the top of the repository: sh docs/pictures/draw.sh. tests/programs/test_install.py
 # compares what is stored with what these commands draw.
 set -e
 PATH=$PWD/bin:$PATH

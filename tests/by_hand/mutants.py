@@ -10,7 +10,7 @@ import sys
 import tempfile
 
 from tests.workshop.base import EXAMPLES, call
-from tests.workshop.nodes import RESERVED, tried
+from tests.workshop.test_nodes import RESERVED, tried
 
 RIGHT = os.path.join(EXAMPLES, "python")
 # By a typical mistake, which says how it is tried, the file and its classes; all of them if none is named.

@@ -35,8 +35,8 @@ LIMIT = 120
 
 def of_pages():
     """The commands of the pages of the tree in which this runs."""
-    from tests.pages.pages import PAGES, lines_of
-    from tests.programs.install import listed_commands, shown_commands
+    from tests.pages.test_pages import PAGES, lines_of
+    from tests.programs.test_install import listed_commands, shown_commands
 
     for page in PAGES:
         lines = lines_of(page)

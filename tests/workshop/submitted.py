@@ -5,7 +5,7 @@ import re
 
 from tests.cases import Case
 from tests.workshop.base import EXAMPLES, call
-from tests.workshop.misbehaving import left_at_last
+from tests.workshop.test_misbehaving import left_at_last
 
 RIGHT = os.path.join(EXAMPLES, "python")
 # Nodes that answer at each message, with a channel or without flushing.

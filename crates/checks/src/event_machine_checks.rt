@@ -1,6 +1,6 @@
-//! A network that is played to its end though memory is refused once: tests/faults/refused_memory.py runs this test
-//! with each allocation refused in turn. What memory was refused to is tried again, as is every call here that isn't
-//! refused.
+//! A network that is played to its end though memory is refused once: tests/faults/test_refused_memory.py runs this
+//! test with each allocation refused in turn. What memory was refused to is tried again, as is every call here that
+//! isn't refused.
 
 ghost use Rattle.std.specs.Prelude.{◌≡◌};
 ghost use Rattle.interference.specs.Net.{count_of, degree_of};

@@ -97,8 +97,8 @@ fn pair_again(rt: &impl Abort, alloc: Global) -> Result<Network, NetFault>
     }
 }
 
-// tests/faults/refused_memory.py runs this test with each allocation refused in turn. What memory was refused to is
-// tried again.
+// tests/faults/test_refused_memory.py runs this test with each allocation refused in turn. What memory was refused to
+// is tried again.
 #[test]
 fn a_link_meets_again_after_a_refused_growth(rt: HostRuntime) {
     let network = pair_again(&rt, rt.alloc()).expect(&rt, "network");

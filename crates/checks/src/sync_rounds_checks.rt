@@ -36,7 +36,7 @@ fn path_ends_with<const D: u32>(alloc: Global, wanted: &[u128]) -> bool {
     }
 }
 
-// This and the next test do the same but for the number of pulses: tests/faults/allocations.py compares how
+// This and the next test do the same but for the number of pulses: tests/faults/test_allocations.py compares how
 // often they allocate.
 #[test]
 fn greatest_within_1_link(rt: HostRuntime) {

@@ -119,8 +119,8 @@ fn whole_run<const D: u32>(alloc: Global, wires: u32) -> bool {
     }
 }
 
-// This and the next test do the same but for the number of pulses: tests/faults/allocations.py compares how often they
-// allocate.
+// This and the next test do the same but for the number of pulses: tests/faults/test_allocations.py compares how often
+// they allocate.
 #[test]
 fn a_node_of_1_pulse(rt: HostRuntime) {
     assert!(rt; whole_run::<1>(rt.alloc(), 4));

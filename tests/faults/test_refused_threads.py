@@ -1,0 +1,147 @@
+"""`plan` and `transcript` if a thread is refused, or memory while threads run: they end in one line or in the right
+answer, and each thread that was started comes to its end. A push to a deque that is refused changes nothing in the
+answer."""
+import time
+from itertools import product
+
+from lab.definitions.colours import plan_text
+from lab.networks.network_text import network_of
+from lab.transcripts.check import whole_run
+from lab.transcripts.reading import Wrong
+from tests.cases import Case, example, text
+from tests.commands import EDGE
+from tests.commands import TRIANGLE as THREE
+from tests.faults.test_refused_memory import LIMIT, THREADS, build_front, under
+from tests.settings import PLAN, PLAY
+
+MOST_WORKERS = 64
+TRIANGLE, ONE_EDGE = text(THREE), text(EDGE)
+MEMORY = (4, b"", b"forestplan: memory\n")
+# Network, workers, and how many microseconds a worker is stopped at a time.
+STOPPED = [
+    (ONE_EDGE, 4, 5),
+    (TRIANGLE, 4, 5),
+    (TRIANGLE, 4, 20),
+    (ONE_EDGE, 3, 200),
+    (TRIANGLE, 8, 20),
+    (TRIANGLE, 1, 5),
+]
+
+
+def is_right(command, answer, data=TRIANGLE):
+    status, output, fault = answer
+    if (status, fault) != (0, b""):
+        return False
+    if command == "plan":
+        return output == plan_text(network_of(data))
+    try:
+        return whole_run(network_of(data), output)[1].startswith("whole run")
+    except Wrong:
+        return False
+
+
+class RefusedThreads(Case):
+    def setUp(self):
+        self.front = build_front(self.folder, "refuse_growth", "refuse_thread")
+
+    def run_of(self, program, words, data=TRIANGLE, growth=0, thread=0):
+        """The answer; how many growths were asked for; and how many threads were, how many started, and how many
+        ended."""
+        answer, counts = under(
+            self.front, [program, *words], data, REFUSE=growth, REFUSE_THREAD=thread
+        )
+        return answer, counts[0], counts[2:]
+
+    def test_threads(self):
+        """With each number of workers: as many threads are asked for, and if the first, the second, .. of them is
+        refused, no other is asked for, and those before it end."""
+        rows = [
+            *((TRIANGLE, workers) for workers in range(1, MOST_WORKERS + 1)),
+            (example("queen5_5"), 4),
+        ]
+        for data, workers in rows:
+            wrong, plan = [], plan_text(network_of(data))
+            for thread in range(workers + 1):
+                answer, _, threads = self.run_of(
+                    PLAN, ["plan", "--workers", str(workers)], data, thread=thread
+                )
+                wanted = (
+                    (THREADS, [thread, thread - 1, thread - 1])
+                    if thread
+                    else ((0, plan, b""), [workers] * 3)
+                )
+                if (answer, threads) != wanted:
+                    wrong.append((thread, answer, threads))
+            self.note(
+                f"each of {workers} threads refused in turn: plan of {data[:12]}",
+                not wrong,
+                wrong[:3],
+            )
+        got = [self.run_of(PLAN, ["plan", word])[2] for word in ("--workers=+7", "--workers=007")]
+        self.same("a number of workers with a sign or zeros before it", got, [[7, 7, 7]] * 2)
+
+    def test_threads_of_other_runs(self):
+        """`transcript` and `run` start as many threads as `--workers` says, whatever nodes run and what is printed."""
+        runs = [
+            (PLAY, ["run", "--program", program, *shown])
+            for program, shown in product(("colouring", "leader", "layers"), ([], ["--transcript"]))
+        ]
+        for (program, words), workers in product(
+            [(PLAN, ["transcript"]), *runs], (1, 2, 5, MOST_WORKERS)
+        ):
+            words = [*words, "--workers", str(workers)]
+            answer, _, threads = self.run_of(program, words)
+            self.same(f"threads of {words}", (answer[0], threads), (0, [workers] * 3))
+
+    def test_growths_of_workers(self):
+        """With several workers a growth of one number is another one in each run. Each is refused, up to twenty more
+        than there were in a run without refusals, and that twice for each number of workers."""
+        for command in ("plan", "transcript"):
+            wrong, late, whole = [], 0, 0
+            for workers in (2, 4, 16) * 2:
+                words = [command, "--workers", str(workers)]
+                _, ample, _ = self.run_of(PLAN, words)
+                for growth in range(1, ample + 20):
+                    answer, _, (_, started, ended) = self.run_of(PLAN, words, growth=growth)
+                    is_refused = answer in (THREADS, MEMORY)
+                    late += answer == MEMORY and started == workers
+                    whole += not is_refused
+                    if not (is_refused or is_right(command, answer)) or ended != started:
+                        wrong.append((workers, growth, answer, started, ended))
+            good = not wrong and whole > 0 and (late > 0 or command == "plan")
+            self.note(
+                f"each growth refused in turn: {command} with 2, 4 and 16 workers, {late} of them once all "
+                "threads were started",
+                good,
+                wrong[:3] or (late, whole),
+            )
+
+    def test_pushes(self, enough=8, patience=5 * LIMIT):
+        """Runs of several workers that are refused all memory they ask for, until `enough` of them were refused some;
+        on a busy machine few are, so after LIMIT seconds one is enough, and the row fails if none was after `patience`
+        seconds. A worker asks for none but in a push, and in this only if a thief that has claimed a place of the deque
+        is stopped before it gives it free, while the owner comes round to the place again: so the workers are stopped
+        all the time, and the networks are small. With one worker there is no thief. If a refused push dropped its node,
+        the run wouldn't end, or the nodes couldn't be gathered."""
+        front = build_front(self.folder, "refuse_in_threads")
+        wrong, counts, begin = [], [], time.monotonic()
+        while (
+            sum(map(bool, counts)) < enough
+            and not wrong
+            and (time.monotonic() - begin < (LIMIT if any(counts) else patience))
+        ):
+            for data, workers, stop in STOPPED:
+                answer, refused = under(
+                    front, [PLAN, "plan", "--workers", str(workers)], data, STOP=stop
+                )
+                counts.append(sum(refused))
+                if answer != (0, plan_text(network_of(data)), b"") or (
+                    workers == 1 and counts[-1] > 0
+                ):
+                    wrong.append((data, workers, stop, answer, counts[-1]))
+        self.note(
+            f"pushes refused in the middle of a run: in {sum(map(bool, counts))} of {len(counts)} runs of plan "
+            f"with up to 8 workers, {sum(counts)} refusals",
+            not wrong and any(counts),
+            wrong[:3] or f"none in {patience} seconds",
+        )

@@ -1,0 +1,232 @@
+"""Checks pages against what they are made from.
+
+Nothing is built or run. What pages show and link is checked by test_pages.py beside this.
+"""
+import glob
+import os
+import re
+
+from build.crate_lists import PROGRAMS, listed, with_below
+from lab.__main__ import COMMANDS as OF_LAB
+from tests import TOP
+from tests.cases import Case, text_in
+from tests.commands import COMMANDS
+from tests.pages.test_pages import PAGES, lines_of
+
+README_WORDS, README_COLUMNS = 750, 120
+
+# The constants of limits, and what is said of them elsewhere, with line ends as blanks.
+LIMITS = (
+    "graph_limits/src/limits.rt",
+    "interference/src/limits.rt",
+    "run_options/src/lib.rt",
+    "command_line/src/programs.rt",
+    "whole_streams/src/source.rt",
+)
+OF_NETWORKS = ("MAX_NODES", "MAX_EDGES", "MAX_CHANNEL", "MAX_BARS")
+
+
+def assigned(*names):
+    """The lines of Python that give constants their numbers."""
+    return [f"{name} = {{{name}}} " for name in names]
+
+
+SAID_OF_LIMITS = {
+    "README.md": (
+        "{MAX_NODES:,} nodes, {MAX_EDGES:,} edges, {MAX_DEGREE:,} neighbours and {MAX_BARS:,} barred",
+        "channels of a node, {MAX_WORKERS} threads",
+    ),
+    "docs/claim/DEFINITIONS.md": (
+        "`MAX_NODES`, {MAX_NODES:,}, `MAX_EDGES`, {MAX_EDGES:,}, `MAX_CHANNEL`, {MAX_CHANNEL:,} (",
+        "`MAX_BARS`, {MAX_BARS:,} (",
+        "`MAX_DEGREE`, {MAX_DEGREE:,} (",
+        "`MAX_WORKERS`, {MAX_WORKERS}, `MAX_CAPACITY`, {MAX_CAPACITY}, and ",
+        "F7: NODES above {MAX_NODES:,}",
+        "name {ABOVE_EDGES:,} different edges",
+        "0 or above {MAX_CHANNEL:,}; F14",
+        "bar {ABOVE_BARS:,} different channels",
+        "at most {MAX_BARS:,}, each below {MAX_CHANNEL:,}.",
+        "more than {MAX_DEGREE:,} neighbours",
+        "1 to {MAX_WORKERS} workers and a capacity of 1 to {MAX_CAPACITY}.",
+    ),
+    "docs/claim/FORMATS.md": (
+        "hasn't ended after {READ_LIMIT:,} reads",
+        "| F7 | NODES is above {MAX_NODES:,}, or",
+        "that is number {ABOVE_EDGES:,} |",
+        "is number {ABOVE_BARS:,} |",
+        "| F13 | a barred channel is 0 or above {MAX_CHANNEL:,} |",
+        "a vertex has more than {MAX_DEGREE:,} neighbours",
+        "| `--workers` | 1 | {MAX_WORKERS} |",
+        "| `--capacity` | 1 | {MAX_CAPACITY} |",
+        "| 0 | {MAX_TURNS} |",
+        "| `--edition` | 1 | {MAX_EDITION} |",
+        "a vertex, from 1 to {MAX_NODES:,}",
+        "anew, from 1 to {MAX_PASSES};",
+        "from 1 to {MAX_CHANNEL:,}, up to {MAX_BARS:,} of them at one vertex",
+    ),
+    "docs/claim/PROMISES.md": (
+        "{MAX_NODES:,} vertices and {MAX_EDGES:,} edges, {MAX_DEGREE:,} neighbours, {MAX_WORKERS} workers",
+        " workers, {MAX_PASSES} passes, {READ_LIMIT:,} reads",
+        "and B at most {MAX_BARS:,}.",
+    ),
+    "docs/learn/TUTORIAL.md": ("every network of up to {MAX_NODES:,} nodes",),
+    "docs/work/LOOKUP.md": ("{MAX_DEGREE:,} + {MAX_BARS:,}, below `COLOURS`, {MAX_CHANNEL:,}",),
+    "lab/networks/network_text.py": assigned(*OF_NETWORKS, "MAX_DEGREE"),
+    "lab/definitions/programs.py": assigned("MAX_PASSES"),
+    "lab/networks/codes.py": ("it names one more than {MAX_EDGES:,} different edges",),
+    "lab/python/forestplan/__init__.py": (
+        "`workers`, 1 to {MAX_WORKERS},",
+        "more than {MAX_DEGREE:,} neighbours",
+    ),
+    "lab/python/forestplan/_graphs.py": assigned(*OF_NETWORKS, "MAX_WORKERS", "MAX_PASSES"),
+    "lab/studio/page/draw.js": (" > {MAX_CHANNEL})", "numbers from 1 to {MAX_CHANNEL:,},"),
+    "lab/studio/page/page.html": (
+        'id="workers" type="number" min="1" max="{MAX_WORKERS}"',
+        'id="capacity" type="number" min="1" max="{MAX_CAPACITY}"',
+    ),
+}
+
+
+def one_line(text):
+    return re.sub(r"\s+", " ", text)
+
+
+class Index(Case):
+    needs_programs = False
+
+    def test_readme(self):
+        text = text_in("README.md")
+        self.assertLessEqual(len(text.split()), README_WORDS, "words of README.md")
+        wide = [
+            number for number, line in enumerate(text.split("\n"), 1) if len(line) > README_COLUMNS
+        ]
+        self.assertEqual(wide, [], f"lines of README.md above {README_COLUMNS} columns")
+        before, _, after = text.partition("## The claim")
+        self.assertEqual(
+            (before.count("!["), after.count("![")), (1, 0), "one picture, before the claim"
+        )
+
+    def test_kit(self):
+        """README names the kit for which the sources are."""
+        kit = text_in("build", "kit_name.txt").split()[0]
+        self.same("kits of README", re.findall(r"rattle-kit-\w+", text_in("README.md")), [kit])
+
+    def test_crates_below(self):
+        """LAYERS says how many crates are above each, and LOOKUP which ones a first call of each program
+        leaves unproved: those that aren't below it."""
+        below = {crate: with_below([crate], listed()) for crate in listed()}
+        found = re.findall(r"^\| `(\w+)` \| (\d+) \| ", text_in("docs", "work", "LAYERS.md"), re.M)
+        above = {crate: str(sum(crate in below[other] for other in below) - 1) for crate in below}
+        self.same(
+            "crates above each",
+            dict(found),
+            {
+                crate: count
+                for crate, count in above.items()
+                if crate not in ("checks", "worker_checks")
+            },
+        )
+        found = re.findall(
+            r"`(\w+)` leaves ((?:`\w+`(?:, | and |))+)",
+            one_line(text_in("docs", "work", "LOOKUP.md")),
+        )
+        self.same(
+            "what first calls leave",
+            {name: sorted(re.findall(r"`(\w+)`", left)) for name, left in found},
+            {name: sorted(below.keys() - set(below[name])) for name in PROGRAMS},
+        )
+
+    def test_readme_has_each_command(self):
+        """Each command of forestlab and of the programs is in the table."""
+        rows = [
+            re.findall(r"[a-z]+", row)
+            for row in re.findall(r"^(`[^|]*`) \| ", text_in("README.md"), re.M)
+        ]
+        wanted = {(it.program, it.name) for it in COMMANDS} | {
+            ("forestlab", name) for name in OF_LAB
+        }
+        self.same(
+            "commands of README",
+            {(program, name) for program, *names in rows for name in names},
+            wanted,
+        )
+
+    def test_layers_of_lab(self):
+        """A package of lab/ imports only those before it; what is in lab/ itself belongs to none."""
+        order = "definitions networks transcripts schedules pictures workshop studio".split()
+        packages = glob.glob("*/__init__.py", root_dir=os.path.join(TOP, "lab"))
+        self.same("packages", sorted(order), sorted(map(os.path.dirname, packages)))
+        for at, package in enumerate(order):
+            for path in glob.glob(os.path.join(TOP, "lab", package, "**", "*.py"), recursive=True):
+                names = re.findall(r"^\s*(?:from|import) lab\.(\w+)", text_in(path), re.M)
+                later = set(names).intersection(order[at + 1 :])
+                self.same(f"{os.path.relpath(path, TOP)}: later packages", later, set())
+
+    def test_names_in_files(self):
+        """Each name that a page gives with its file, as in "`crates/pool/src/run.rt`: `start`, `join_all`", in two
+        cells of a row, or in "`start` and `join_all` of `pool/src/run.rt`", is there; a file without a folder is
+        beside the one named before it in the line."""
+        count = 0
+        for page in PAGES:
+            for number, line in enumerate(lines_of(page), 1):
+                folder = ""
+                named = re.findall(
+                    r"`([\w/-]+\.(?:rt|antt))`(?::| \|) ((?:`\w+`(?:, | and |))*)", line
+                )
+                named += [
+                    (path, names)
+                    for names, path in re.findall(
+                        r"((?:`\w+`(?:, | and |))+) of `((?:crates/)?\w+/(?:src|specs)/[\w/-]+\.(?:rt|antt))`",
+                        line,
+                    )
+                ]
+                for path, names in named:
+                    folder = os.path.dirname(path) or folder
+                    above = "" if folder.split("/")[0] == "crates" else "crates"
+                    file = (above, folder, os.path.basename(path))
+                    for name in re.findall(r"`(\w+)`", names):
+                        count += 1
+                        self.note(
+                            f"{page}:{number} {name}",
+                            re.search(rf"\b{name}\b", text_in(*file)),
+                            "isn't there",
+                        )
+        self.assertGreater(count, 50, "names with their files")
+
+    def test_synopsis(self):
+        """FORMATS shows each option of a command that takes options, as its help lists them."""
+        page = text_in("docs", "claim", "FORMATS.md")
+        for command in ("plan", "transcript"):
+            line = re.search(rf"(?m)^    forestplan {command} .*", page)[0]
+            helped = text_in("lab", "help", f"forestplan-{command}.txt")
+            options = set(re.findall(r"^\s+(?:-\w, )?(--\w+)", helped, re.M)) - {"--help"}
+            self.note(
+                f"options of {command}",
+                len(options) > 2 and set(re.findall(r"--\w+", line)) == options,
+                options,
+            )
+
+    def test_limits(self):
+        """Pages, and what of lab/ has a limit of its own, have the numbers of the constants."""
+        text = "".join(text_in("crates", file) for file in LIMITS)
+        limits = {
+            name: int(number.replace("_", ""))
+            for name, number in re.findall(r"^pub const (\w+): \w+ = ([\d_]+);", text, re.M)
+        }
+        above = {name.replace("MAX", "ABOVE"): number + 1 for name, number in limits.items()}
+        limits = above | limits
+        for path, rows in SAID_OF_LIMITS.items():
+            for row in rows:
+                self.note(
+                    f"{path}: {row}",
+                    row.format_map(limits) in one_line(text_in(path)),
+                    row.format_map(limits),
+                )
+
+    def test_stored_transcript(self):
+        """FORMATS says how many bytes a line of the stored transcript takes."""
+        transcript = text_in("docs", "pictures", "petersen.transcript")
+        average = round(len(transcript) / transcript.count("\n"))
+        self.assertIn(
+            f"takes {average} bytes a line", one_line(text_in("docs", "claim", "FORMATS.md"))
+        )

@@ -1,0 +1,279 @@
+"""Checks what the pages README.md and docs/ show and name. Their commands are run by tests/programs/test_install.py.
+
+- Each table of docs/learn/TUTORIAL.md is worked out from the definitions (lab/definitions/), not from the program.
+- Each excerpt of code, a fence whose first line names its file, has its lines in that file, in this order; a comment
+  `..` means lines that are left out.
+- No line of a page is wider than 150 columns.
+- Each file named in backquotes exists, also if it is named without its folder; each link leads to a page and a
+  heading, and each function and clause that docs/claim/PROMISES.md names is in the code. It names each public law, with
+  all its clauses.
+"""
+import glob
+import os
+import re
+
+from lab.definitions.colours import colours
+from lab.definitions.nodes import DROPPED, NetState, last_pulse, text_of_wire
+from lab.definitions.rounds import Rounds
+from lab.networks.network_text import network_of
+from tests import TOP
+from tests.cases import Case, contents, text_in
+
+PAGES = ["README.md"] + sorted(
+    os.path.relpath(path, TOP)
+    for path in glob.glob(os.path.join(TOP, "docs", "**", "*.md"), recursive=True)
+)
+WIDEST = 150
+
+
+def lines_of(page):
+    return text_in(page).split("\n")
+
+
+def tables_of(lines):
+    """(line number, line above, rows) of each table; a row is its cells."""
+    start = None
+    for number, line in enumerate(lines + [""]):
+        if line.startswith("|") and start is None:
+            start = number
+        elif not line.startswith("|") and start is not None:
+            rows = [
+                [cell.strip() for cell in row.strip("|").split("|")] for row in lines[start:number]
+            ]
+            yield start + 1, next((above for above in reversed(lines[:start]) if above), ""), rows
+            start = None
+
+
+def played(net, rows):
+    """The rows of a run, event by event: its events with their wires, and the nodes' pulses after each row."""
+    state, wanted = NetState(net), [rows[0][1:4]]
+    for row in rows[2:]:
+        wires = []
+        for kind, v, _, port in re.findall(r"(Pulse|Put|Take)\((\d+)(,(\d+))?\)", row[1]):
+            wire = state.step(kind, int(v), int(port) if port else None)
+            wires += [f"`{text_of_wire(wire)}`"] if port else []
+        pulses = ", ".join(str(node.pulse_number) for _, node in sorted(state.nodes.items()))
+        wanted.append([row[1], " ".join(wires), pulses])
+    return wanted
+
+
+def greatest_colours(digits):
+    """The greatest colour after each of four bit steps from numbers of that many digits: in place i and its own digit,
+    1."""
+    for _ in range(4):
+        greatest = 2 * (digits - 1) + 1
+        yield str(greatest)
+        digits = greatest.bit_length()
+
+
+def forest_table(net, f):
+    """The colours in a forest, pulse by pulse; those that a drop has changed are bold."""
+    joined = [v for v in net.vertices if net.neighbours[v]]
+    lists = Rounds(net).colours[f]
+    rows = [[str(v) for v in joined], [str(net.parent(f, v) or "-") for v in joined]]
+    for p, colours_then in lists.items():
+        row = {v: str(colours_then[v]) for v in joined}
+        if p in DROPPED:
+            row |= {v: f"**{said}**" for v, said in row.items() if said != str(lists[p - 1][v])}
+        rows.append([*row.values()])
+    return rows
+
+
+def sizes_of(net):
+    used = max(colours(net).values(), default=-1) + 1
+    numbers = (net.nodes, net.greatest_degree, net.forest_count, last_pulse(net), used)
+    return [*map(str, numbers)]
+
+
+def tutorial_table(title, rows):
+    """What the rows of a table have to be, after the first cell of each; None for a table that isn't worked out."""
+    found = re.match(r"Forest (\d+) of `(.*)`, pulse by pulse:", title)
+    if found:
+        return forest_table(network_of(contents(found.group(2))), int(found.group(1)))
+    found = re.match(r"Events on `(.*)`:", title)
+    if found:
+        return played(network_of(contents(found.group(1))), rows)
+    if rows[0][0] == "network":
+        nets = [network_of(contents(row[0].strip("`"))) for row in rows[2:]]
+        return [rows[0][1:]] + [sizes_of(net) for net in nets]
+    if rows[0][0].startswith("identifiers"):
+        return [rows[0][1:]] + [list(greatest_colours(int(row[0].split()[0]))) for row in rows[2:]]
+    return None
+
+
+def words_of_sources():
+    """The words of all files of the tree but pages, and of their names; and the script and the sample of pages."""
+    found = {"draw.sh", "flood.py"}
+    for folder in ("crates", "lab", "build", "tests", "bench", "examples"):
+        for at, below, names in os.walk(os.path.join(TOP, folder)):
+            below[:] = [name for name in below if name not in ("out", "target", "__pycache__")]
+            for name in names:
+                text = contents(at, name).decode("latin-1")
+                found |= {name, *re.findall(r"\w+", name), *re.findall(r"\w+", text)}
+    return found
+
+
+def heading_anchor(line):
+    text = re.sub(r"[`*,.:;()?/+·']", "", line.lstrip("#").strip().lower())
+    return text.replace(" ", "-")
+
+
+def crate_files(pattern):
+    """The paths of the files in crates/ that a pattern means."""
+    return sorted(glob.glob(f"{TOP}/crates/{pattern}", recursive=True))
+
+
+def clauses_of_crate(crate):
+    """The names of the clauses of each function and type of a crate, and under `ghost` those of its ghost members."""
+    text = "\n".join(map(text_in, crate_files(f"{crate}/src/**/*.rt")))
+    found = {
+        name: set() for name in re.findall(r"\bimpl(?:<[^{]*?>)? (?:[\w:<>, ]* for )?(\w+)", text)
+    }
+    _, *parts = re.split(
+        r"^\s*(?:pub(?:\(\w+\))? )?(?:fn|trait|struct|enum|type|const) (\w+)", text, flags=re.M
+    )
+    for name, body in zip(parts[::2], parts[1::2]):
+        found.setdefault(name, set()).update(
+            re.findall(r"^\s*(?:ensures|requires) (\w+) ", body, re.M)
+        )
+    return found | {"ghost": set(re.findall(r"^\s*(?:pub )?ghost (\w+)\s*[:=]", text, re.M))}
+
+
+def laws_of_crates():
+    """Each public law, by its path: `crate::function`, or `crate::laws::function`. Its body is empty or calls laws."""
+    found = set()
+    for file in crate_files("*/src/l*.rt"):
+        *_, crate, _, module = file.split(os.sep)
+        is_inside = module == "laws.rt" and "pub mod laws;" in text_in(
+            "crates", crate, "src", "lib.rt"
+        )
+        if module in ("lib.rt", "laws.rt"):
+            found |= {
+                f"{crate}::laws::{name}" if is_inside else f"{crate}::{name}"
+                for name in re.findall(
+                    r"^pub fn (\w+)[^\n]*\n(?:    .*\n)+\{(?:\n(?:    \w+\(\);\n)+)?\}$",
+                    text_in(file),
+                    re.M,
+                )
+            }
+    return found
+
+
+def paths_in(line):
+    """The files that a line of a page names with their folder; of a crate without `crates/`."""
+    folders = "crates|docs|tests|lab|build|bin|bench|examples"
+    of_crates = re.findall(r"`(\w+/(?:src|specs|proofs)(?:/[\w./-]+)?)`", line)
+    return re.findall(rf"`((?:{folders})/[\w./-]+)`", line) + [f"crates/{it}" for it in of_crates]
+
+
+def names_in(line):
+    """The names with an underscore in what a line of a page has in backquotes, but in paths from the root."""
+    quoted = " ".join(re.findall(r"`([^/`][^`]*)`", line))
+    return re.findall(r"\b[a-z]\w*_\w+", quoted)
+
+
+class Pages(Case):
+    needs_programs = False
+
+    def test_names(self):
+        """Files named in backquotes, with their folder or without; other names with an underscore; where links lead."""
+        there, count = words_of_sources(), 0
+        for page in PAGES:
+            for number, line in enumerate(lines_of(page), 1):
+                for path in paths_in(line):
+                    is_there = "NAME" in path or os.path.exists(os.path.join(TOP, path))
+                    self.note(f"{page}:{number} {path}", is_there, "there is no such file")
+                last = re.findall(r"`(?:[\w/]+/)?(\w*[a-z]\w*\.(?:py|rt|antt|js|sh))`", line)
+                # DECISIONS speaks of what isn't there, too.
+                if not page.endswith("DECISIONS.md"):
+                    last += names_in(line)
+                count += len(last)
+                for name in last:
+                    is_there = "NAME" in name or {name, f"test_{name}"} & there
+                    self.note(f"{page}:{number} {name}", is_there, "there is no such name")
+                for target in re.findall(r"\]\((?!https?:)([^)]*)\)", line):
+                    self.note(
+                        f"{page}:{number} {target}",
+                        self.leads(page, target),
+                        "the link leads nowhere",
+                    )
+        self.note("names on pages", count > 1000, count)
+
+    def leads(self, page, target):
+        path, _, anchor = target.partition("#")
+        path = os.path.normpath(os.path.join(os.path.dirname(page), path)) if path else page
+        return os.path.exists(os.path.join(TOP, path)) and (
+            not anchor
+            or anchor in {heading_anchor(head) for head in lines_of(path) if head.startswith("#")}
+        )
+
+    def test_tutorial(self):
+        count = 0
+        for number, title, rows in tables_of(lines_of("docs/learn/TUTORIAL.md")):
+            wanted = tutorial_table(title, rows)
+            if wanted is not None:
+                count += 1
+                got = [row[1 : 1 + len(wanted[0])] for row in rows[:1] + rows[2:]]
+                self.note(f"docs/learn/TUTORIAL.md:{number}", got == wanted, f"wanted {wanted}")
+        self.note("tables of the tutorial", count == 4, count)
+
+    def test_excerpts(self):
+        """Excerpts leave lines out, so their lines are looked for one after another."""
+        for page in PAGES:
+            found = re.findall(
+                r"(?m)^ *```(?:rust|antt)\n *(?://|--) (\S+)\n((?:.*\n)*?) *```$", text_in(page)
+            )
+            fences = len(re.findall(r"(?m)^ *```(?:rust|antt)$", text_in(page)))
+            self.same(f"{page}: fences that name their file", len(found), fences)
+            for path, block in found:
+                excerpt = [
+                    line.strip()
+                    for line in block.splitlines()
+                    if line.strip() not in ("// ..", "-- ..")
+                ]
+                source = iter([line.strip() for line in lines_of(path)])
+                missing = [line for line in excerpt if line not in source]
+                self.same(
+                    f"{page} excerpt of {path}: lines that aren't there, or not in this order",
+                    missing,
+                    [],
+                )
+
+    def test_promises(self):
+        """A promise is written as `crate::function`: `clause`, `clause`; it may go on in the next line."""
+        text = " ".join(line.strip() for line in lines_of("docs/claim/PROMISES.md"))
+        crates, named = {}, {}
+        promises = re.findall(r"`((?!crate::)[a-z_]+(?:::\w+)+)`(?:: ((?:`\w+`(?:, |))+))?", text)
+        for path, clauses in promises:
+            parts = path.split("::")
+            crate = crates.setdefault(parts[0], clauses_of_crate(parts[0]))
+            name = parts[-1]
+            said = set(re.findall(r"`(\w+)`", clauses))
+            named.setdefault(path, set()).update(said)
+            known = crate.get(name, set()) | crate["ghost"]
+            missing = sorted(said - known) if name in crate else [name]
+            self.note(f"docs/claim/PROMISES.md {path}", not missing, f"not in the code: {missing}")
+        laws = laws_of_crates()
+        for law in sorted(laws & named.keys()):
+            crate, *_, name = law.split("::")
+            lacking = crates[crate][name] - named[law]
+            self.note(f"clauses of {law}", not lacking, f"not named: {sorted(lacking)}")
+        missing = sorted(laws - {path for path, _ in promises})
+        self.note(
+            "laws in docs/claim/PROMISES.md",
+            len(laws) > 50 and not missing,
+            f"{len(laws)} are found, not named: {missing}",
+        )
+        self.note(
+            "promises of docs/claim/PROMISES.md", len(promises) > 200, f"{len(promises)} are found"
+        )
+
+    def test_lengths(self):
+        for page in PAGES:
+            # A row of a table can't be broken.
+            wide = [
+                at
+                for at, line in enumerate(lines_of(page), 1)
+                if len(line) > WIDEST and not line.startswith("|")
+            ]
+            self.same(f"{page}: lines wider than {WIDEST} columns", wide, [])

@@ -1,0 +1,80 @@
+"""Pictures of rounds without a rule: the words beside what `forestlab explore` prints, what is red in a merge beside
+the rounds of ruled_rounds.py (tests/programs/test_schedules.py compares these with nodes that hear and send), and in
+the ends of other programs by hand. What the smallest networks show is in the stored pictures."""
+from lab.definitions.rounds import Rounds
+from lab.networks.network_text import network_of
+from lab.schedules import rules
+from lab.schedules.ruled_rounds import RuledRounds
+from tests import TOP
+from tests.cases import example, said_by
+from tests.pictures.base import PictureCase, painter
+from tests.pictures.marks import SVG, centre, marks, nearest, pairs_joined, parsed, texts
+
+LONG_ROW = b"p edge 9 5\ne 1 2\ne 2 3\ne 3 4\ne 4 5\ne 5 9\n"
+# By rule: the program, a network (none: its smallest), and the edges and the nodes that are red.
+# tests/programs/test_sequels.py says why, and what the nodes find.
+ENDS = {
+    "partner": ("matching", None, [(1, 2)], [1, 2]),
+    "last": ("matching", LONG_ROW, [(1, 2)], [1, 2]),
+    "class": ("independent-set", None, [(1, 2)], [1, 2]),
+    "beside": ("independent-set", None, [(1, 2)], [1, 2]),
+    "bars": ("recolouring", None, [], [1]),
+    "anew": ("recolouring", None, [(1, 2)], [1, 2]),
+}
+
+
+def alike(net, f, channels):
+    """The edges of the forests merged so far whose ends have one channel."""
+    return sorted(
+        tuple(sorted(edge))
+        for edge, forest in net.number.items()
+        if forest <= f and len({channels[v] for v in edge}) == 1
+    )
+
+
+class Broken(PictureCase):
+    def picture_of(self, *options):
+        """A picture whose words have the sentences of `forestlab explore`, with quotes of its own."""
+        status, picture, fault = painter("broken", *options)
+        self.same(f"broken {options} is drawn", (status, fault), (0, b""))
+        root = parsed(picture.decode())
+        shown, (_, said, _) = " ".join(texts(root)), said_by("explore", *options, cwd=TOP)
+        lines = [line for line in said.split("\n") if not line.startswith("wrong body")]
+        missing = [line for line in lines if line[1:].replace("'", "’") not in shown]
+        self.same(f"broken {options}: sentences that it hasn't", missing, [])
+        return root, *marks(root, "without"), *marks(root, "with")
+
+    def test_broken(self):
+        for name, rule in (("petersen", "pair"), ("disk100", "children"), ("queen5_5", "earlier")):
+            rounds = RuledRounds(network_of(example(name)), [rule])
+            words = [f"examples/{name}.col", "--without", rule]
+            self.rule_rows(f"{name} without {rule}", rounds, *words)
+
+    def rule_rows(self, name, rounds, *options):
+        """Red in a merge are the edges of the forests merged whose ends have one channel, and no others."""
+        net, clash = rounds.net, rounds.clash
+        _, *groups = self.picture_of(*options)
+        if clash.pulse is None:
+            merged = rounds.merged[clash.forest + 1], Rounds(net).merged[clash.forest + 1]
+            for group, channels in zip(groups, merged):
+                # The channels after the merge are the second half.
+                circles = [*map(centre, marks(group, "channel"))][net.nodes :]
+                red = pairs_joined(group, "wrong", dict(zip(net.vertices, circles)))
+                wanted = alike(net, clash.forest, channels)
+                self.same(f"{name}, {group.get('class')}: what is red", red, wanted)
+
+    def test_ends(self):
+        """Each rule of a program that goes on where the colouring ends."""
+        self.same(
+            "all of them", set(ENDS), {rule for of in rules.OF_SEQUELS.values() for rule in of}
+        )
+        for rule, (program, network, edges, nodes) in ENDS.items():
+            net = [self.file("net.col", network)] if network else []
+            root, *groups = self.picture_of("--program", program, "--without", rule, *net)
+            row = self.rows_of(f"{program} without {rule}")
+            circles = [mark.find(f"{SVG}circle") for mark in marks(groups[0], "vertex")]
+            places = {v: centre(circle) for v, circle in enumerate(circles, 1)}
+            row("red edges", pairs_joined(root, "wrong", places), edges)
+            red = [nearest(places, centre(mark)) for mark in marks(root, "wrong-node")]
+            row("red nodes", sorted(red), nodes)
+            row("bars", bool(marks(root, "bar")), rule == "bars")

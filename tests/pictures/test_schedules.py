@@ -1,0 +1,90 @@
+"""Pictures of every schedule: the lattice beside the explorer's states, which tests/programs/test_schedules.py compares
+with the definitions and with `forestplay events`. What is read here is the SVG alone."""
+import functools
+from collections import Counter
+from itertools import pairwise
+
+from lab.definitions.leader import Leader
+from lab.definitions.nodes import Colouring
+from lab.networks.network_text import network_of
+from lab.schedules.space import Space
+from tests.cases import example
+from tests.pictures.base import PictureCase
+from tests.pictures.marks import SVG, centre, ends, marks, parsed, title
+
+NETWORKS = {name: example(name) for name in ("two", "path", "triangle")}
+
+
+@functools.cache
+def space_of(name, without=(), program=Colouring):
+    return Space(network_of(NETWORKS[name]), without, program=program)
+
+
+def columns_of(root, mark):
+    """How many marks of a class are at each place from left to right."""
+    return Counter(centre(group.find(f"{SVG}circle"))[0] for group in marks(root, mark))
+
+
+def lattice_options(without, window):
+    rules = [f"--without={','.join(without)}"] if without else []
+    return rules + (["--columns={}..{}".format(*window)] if window else [])
+
+
+def first_wrong(space):
+    """The states that are wrong, or to which a step leads that is."""
+    return {s if e is None else space.steps(s)[e][1] for s, e in space.faults} - {None}
+
+
+def refusals(space):
+    """The depths to which the steps lead that are refused, and so come to no state."""
+    steps = [(s, e) for s, e in space.faults if e is not None]
+    return [space.depth[s] + 1 for s, e in steps if space.steps(s)[e][1] is None]
+
+
+def right_and_wrong(space, red):
+    """How many states are right at each depth, and how many states and steps are wrong, if these states are red."""
+    good = Counter(space.depth[s] for s in range(space.count) if s not in red)
+    return good, Counter(space.depth[s] for s in red) + Counter(refusals(space))
+
+
+def gaps_in(bold):
+    """The steps of the bold run at whose end the next one doesn't begin."""
+    return [step for step, after in pairwise(bold) if step[1] != after[0]]
+
+
+class Schedules(PictureCase):
+    def test_lattices(self):
+        for name, without, window in (
+            ("two", (), (0, 104)),
+            ("two", (), None),
+            ("path", (), None),
+            ("path", (), (0, 20)),
+            ("triangle", (), (364, 374)),
+            ("two", ("safes",), None),
+            ("two", ("early",), None),
+            ("two", ("fifo",), None),
+            ("two", ("acks", "fifo"), None),
+            ("triangle", ("safes",), None),
+        ):
+            self.lattice_rows(name, without, window)
+        # The colouring refuses each wrong inbox, and a leader goes on.
+        self.lattice_rows("path", ("early",), None, Leader)
+
+    def lattice_rows(self, name, without, window, program=Colouring):
+        """The states, by columns; the steps between them; a bold run from column to column; and in red what goes wrong:
+        up to the first such events, where the bold run ends."""
+        space = space_of(name, without, program)
+        options = [*lattice_options(without, window), "--program", program.name]
+        root = parsed(self.drawn("schedules", NETWORKS[name], *options))
+        row = self.rows_of(f"lattice of {name} {options}")
+        right, wrong = columns_of(root, "state"), columns_of(root, "state wrong")
+        columns = sorted(right | wrong)
+        low, high = window or (0, len(columns) - 1)
+        good, bad = right_and_wrong(space, first_wrong(space))
+        shown = range(low, high + 1)
+        row("its columns", [right[x] for x in columns], [good[far] for far in shown])
+        row("red marks", [wrong[x] for x in columns], [bad[far] for far in shown])
+        bold = sorted((*ends(group), title(group)) for group in marks(root, "bold"))
+        row("the bold run is one", gaps_in(bold), [])
+        if not without:
+            row("as long as the window", len(bold), high - low)

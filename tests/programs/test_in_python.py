@@ -1,0 +1,372 @@
+"""Tests of the module `forestplan` of lab/python, and of the notebook examples/forestplan.ipynb that shows it."""
+import ast
+import contextlib
+import copy
+import doctest
+import functools
+import io
+import json
+import os
+import pickle
+import random
+import sys
+from concurrent.futures import ProcessPoolExecutor
+from operator import itemgetter
+from xml.etree import ElementTree
+
+from lab import version
+from lab.definitions.colours import colours
+from lab.network import Network
+from lab.networks.network_text import network_of
+from lab.pictures.palette import CHANNEL_HUES
+from tests import TOP
+from tests.cases import Case, forestlab
+from tests.programs.test_own_networks import is_near
+from tests.programs.test_plain_networks import networks_by_chance
+from tests.programs.test_sequels import channels
+from tests.settings import setting
+from tests.tools import need
+
+sys.path.append(os.path.join(TOP, "lab", "python"))
+import forestplan  # noqa: E402
+
+PACKAGE = os.path.dirname(forestplan.__file__)
+NOTEBOOK = os.path.join(TOP, "examples", "forestplan.ipynb")
+# Four nodes in a ring, one with an edge to itself and one in both directions.
+SQUARE = {"Ulm": ["Aue", "Bonn"], "Aue": ["Ulm", "Hof"], "Hof": [], "Bonn": ["Hof", "Bonn"]}
+NUMBER = {node: v for v, node in enumerate(forestplan.text_of(SQUARE)[1], 1)}
+# Sites with their places; in kilometres the third and the fourth are the reach, 1.5, away from the first.
+SITES = {"Ulm": (0, 0), 7: (0.01, 0.0), "Hof": (0.9, 1.2), "Aue": (-1.2, 0.9), "Kiel": None}
+
+# By the call and what it raises: words of a refusal, and what is given. A plan is asked of a graph, bars and a licence;
+# and a graph, a plan, bars and a licence are checked.
+REFUSED = {
+    (forestplan.plan, TypeError): (
+        ("a list is no graph", [("Ulm", "Aue")]),
+        ("the neighbours of 'Ulm' are 'Aue'", {"Ulm": "Aue"}),
+        ("the neighbours of 'Ulm' are None", {"Ulm": None}),
+        ("the neighbours of 'a' are {'b': 0}", {"a": {"b": 0}, "b": {}}),
+        ("bars are [(1, 2)]", SQUARE, [(1, 2)]),
+        ("workers is True", SQUARE, None, None, True),
+        ("a bar of 'Ulm' is '6'", SQUARE, {"Ulm": ["6"]}, [6, 1, 11]),
+        ("the bars of 'Ulm' are '16'", SQUARE, {"Ulm": "16"}),
+        ("the licence is '1-3'", SQUARE, None, "1-3"),
+        ("the licence is {1}", SQUARE, None, {1}),
+        ("a channel of the licence is 36.5", SQUARE, None, [36.5, 40]),
+    ),
+    (forestplan.plan, ValueError): (
+        ("a neighbour of 0 comes twice", {0: [0, 1, 0], 1: [1, 0, 1], 2: [0, 1, 0]}),
+        ("is 'a', which has no entry", {"source": ["a"], "target": ["b"]}),
+        ("a bar of 'Ulm' is 0", SQUARE, {"Ulm": [0]}),
+        ("a bar of 'Ulm' is 2049, and has to be from 1 to 2,048", SQUARE, {"Ulm": [2049]}),
+        ("the number of bars of 'Ulm' is 1025", SQUARE, {"Ulm": range(1, 1026)}),
+        ("the number of nodes is 20001", dict.fromkeys(range(20001), ())),
+        ("workers is 0, and has to be from 1 to 64", SQUARE, None, None, 0),
+        ("passes is 65, and has to be from 0 to 64", SQUARE, None, None, None, 65),
+        ("of the licence is 2049", SQUARE, None, range(2049)),
+        ("names a channel twice", SQUARE, None, [36, 36]),
+        ("'Prag' is no node", SQUARE, {"Prag": {1}}),
+    ),
+    (forestplan.check, TypeError): (("a list is no plan", SQUARE, [1, 2]),),
+    (forestplan.check, ValueError): (
+        ("the plan has 'Prag'", SQUARE, {"Prag": 1}),
+        ("isn't in the licence", SQUARE, {"Ulm": 1}, None, [7, 8, 9]),
+    ),
+    (forestplan.sites, TypeError): (
+        ("places are [('Ulm', 1, 2)]", [("Ulm", 1, 2)], 1),
+        ("the place of 'Ulm' is 5, and has to be two numbers", {"Ulm": 5}, 1),
+        ("the place of 'Ulm' is 'N', and has to be a number", {"Ulm": "NE"}, 1),
+    ),
+    (forestplan.sites, ValueError): (
+        ("the place of 'Ulm' is 95, and has to be from -90 to 90", {"Ulm": (95, 10)}, 1),
+        ("unit is 'mile'", SITES, 1, "mile"),
+        ("reach is 0, and has to be from", SITES, 0),
+        ("number of edges is 400001", dict.fromkeys(range(1000), (0, 0)), 1),
+    ),
+}
+
+
+# Names of nodes, by a number.
+NAMES = [
+    lambda v: v,
+    lambda v: f"site {v}",
+    lambda v: (v, None),
+    lambda v: object(),
+    lambda v: frozenset({v, "site"}),
+    lambda v: v / 3,
+    lambda v: str(v // 2) if v % 2 else v // 2,
+    lambda v: f"\n{v}\r\n",
+    lambda v: f"\ud800{v}",
+    lambda v: f"p edge {v} 0\0",
+]
+
+
+def graph_of(seed, nodes, pairs):
+    """A graph of networkx, as each of its classes has it, or a dict."""
+    import networkx
+
+    class Own(networkx.Graph):
+        """A class of the user's."""
+
+    kinds = [networkx.Graph, networkx.DiGraph, networkx.MultiGraph, networkx.MultiDiGraph, Own]
+    around = [networkx.subgraph_view, networkx.freeze]
+    dicts = [list, set, tuple, dict.keys]
+    kind = [*kinds, *around, *dicts][seed % 11]
+    if kind in dicts:
+        near = {node: {other: 0 for one, other in pairs if one == node} for node in nodes}
+        return {node: kind(others) for node, others in near.items()}
+    graph = networkx.DiGraph() if kind in around else kind()
+    graph.add_nodes_from(nodes)
+    graph.add_edges_from(pairs)
+    return kind(graph) if kind in around else graph
+
+
+def asked_of(net, names, seed, source):
+    """A network as a graph of Python, some edges in both directions and one from a node to itself; with its bars, and
+    a licence now and then."""
+    pairs = [(names[v], names[w]) for v, w in net.edges]
+    pairs += [pair[::-1] for pair in pairs if source.random() < 0.3] + [(names[1], names[1])]
+    graph = graph_of(seed, list(names.values()), pairs)
+    licence = source.sample(range(1, 5000), net.channels) if seed % 3 == 0 else None
+    real = dict(enumerate(licence or range(1, 2049), 1))
+    bars = {names[v]: {real[c] for c in own if c in real} for v, own in net.bars.items()}
+    return graph, bars, licence
+
+
+def wrong_of(seed, text):
+    """What is wrong about the plan of a network, whose identifiers don't count, and about the verdicts on it."""
+    net, source = network_of(text), random.Random(seed)
+    names = {v: NAMES[seed % len(NAMES)](v) for v in net.vertices}
+    graph, bars, licence = asked_of(net, names, seed, source)
+    workers, passes = source.choice((None, None, 1, 3)), source.choice((0, 1, 2, 3, 8, 9, 64))
+    plan = forestplan.plan(graph, bars, licence, workers, passes)
+    real = licence or range(1, 2049)
+    found = {v: real.index(plan[name]) + 1 for v, name in names.items()}
+    said = [what for what in channels(net, found) if passes or "lower" not in what]
+    if list(plan) != list(names.values()):
+        said.append(f"the order of {list(plan)}")
+    for is_planted in (False, True):
+        for v, w in net.edges[:is_planted]:
+            plan[names[v]], found[v] = plan[names[w]], found[w]
+        judged = verdict(graph, plan, bars, licence)
+        if judged not in (faults_of(net, found, names) or [max(found.values())]):
+            said.append(f"{judged} of {plan}")
+    return said
+
+
+def faults_of(net, found, names):
+    """What may be said of a plan that isn't right."""
+    clashes = [("C4", [names[v], names[w]]) for v, w in net.edges if found[v] == found[w]]
+    return clashes + [("C8", [names[v]]) for v in names if found[v] - 1 in net.barred[v]]
+
+
+def verdict(*given):
+    """How many channels there are, or the code and the nodes of what is refused."""
+    try:
+        return forestplan.check(*given)
+    except forestplan.Refused as why:
+        return why.code, why.nodes
+
+
+def is_proper(graph, plan):
+    return all(plan[node] != plan[other] for node in graph for other in graph[node])
+
+
+def small_graph(source):
+    """A graph of up to nine nodes; of each edge the greater end names the other."""
+    nodes = range(source.randint(1, 9))
+    return {v: [w for w in range(v) if source.random() < 0.4] for v in nodes}
+
+
+class InPython(Case):
+    def refused(self, kind, call):
+        """What a call raises."""
+        with self.assertRaises(kind) as caught:
+            call()
+        return caught.exception
+
+    def test_graphs(self):
+        """Graphs of each class, with each kind of names, bars, licences, threads and passes."""
+        need(self, "networkx")
+        for seed, text in enumerate(networks_by_chance(int(setting("graphs")), 30, 95)):
+            self.same(f"graph {seed}", wrong_of(seed, text), [])
+
+    def test_large(self):
+        """A graph of 1,000 nodes is numbered near each other, which nobody sees."""
+        source = random.Random(96)
+        nodes = source.sample(range(10**6), 1000)
+        graph = {node: set(source.sample(nodes, 2)) for node in nodes}
+        number = {node: v for v, node in enumerate(nodes, 1)}
+        pairs = {(number[one], number[other]) for one in nodes for other in graph[one] - {one}}
+        wanted = colours(Network(1000, pairs))
+        got = forestplan.plan(graph)
+        self.same("its plan", list(got.items()), [(v, wanted[number[v]] + 1) for v in nodes])
+        text, order = forestplan.text_of(graph)
+        self.note("its numbers", is_near(network_of(text.encode())) and order != nodes)
+
+    def test_passes(self):
+        """This tree takes three channels, and after a pass two, as every tree can."""
+        tree = {1: [2, 4, 5], 2: [3], 3: [], 4: [], 5: []}
+        for workers, passes, most in ((None, 0, 3), (None, 1, 2), (2, 1, 2)):
+            got = forestplan.plan(tree, workers=workers, passes=passes)
+            self.same(f"{passes} passes, workers {workers}", max(got.values()), most)
+
+    def test_licence(self):
+        triangle = forestplan.plan({"Ulm": ["Aue", "Hof"], "Aue": ["Hof"], "Hof": []})
+        self.note("a triangle, by hand", triangle == {"Ulm": 2, "Aue": 3, "Hof": 1}, triangle)
+        real = [36, 40, 44, 48]
+        got = forestplan.plan(SQUARE, bars={"Ulm": {36, 99}}, licence=real)
+        self.note("real channels", set(got.values()) <= {*real} and got["Ulm"] != 36, got)
+        most = forestplan.check(SQUARE, got, {"Ulm": {36}}, real)
+        self.note("they are judged", most <= 4, most)
+        barred, counted = {"Ulm": {36}, "Hof": {99}}, {"Ulm": {1}}
+        self.same(
+            "rounds", forestplan.rounds(SQUARE, barred, real), forestplan.rounds(SQUARE, counted)
+        )
+        self.same(
+            "a transcript",
+            forestplan.transcript(SQUARE, barred, 1, real),
+            forestplan.transcript(SQUARE, counted, 1),
+        )
+        why = self.refused(forestplan.Refused, lambda: forestplan.plan(SQUARE, licence=[36]))
+        self.same("a plan that was found", why.plan, forestplan.plan(SQUARE))
+        lacking = [node for node, channel in why.plan.items() if channel > 1]
+        self.same("who has no channel", (why.code, why.nodes), ("licence", lacking))
+
+    def test_sites(self):
+        """The graph of places is the one that forestlab reads of a table of them."""
+        for unit, columns in (("degrees", "lat,lon"), ("km", "x_km,y_km"), ("m", "x_m,y_m")):
+            rows = [(name, *(place or ("", ""))) for name, place in SITES.items()]
+            table = f"site,{columns}\n" + "".join("{},{},{}\n".format(*row) for row in rows)
+            words = ("network", "read", "--sites", "-", "--reach", 1.5)
+            wanted = network_of(forestlab(*words, data=table.encode())[1])
+            got = forestplan.sites(SITES, 1.5, unit)
+            network = network_of(forestplan.text_of(got)[0].encode())
+            for fact in ("names", "edges", "places"):
+                self.same(f"{unit}: {fact}", getattr(network, fact), getattr(wanted, fact))
+
+    def test_kinds(self):
+        """What is no graph, no list and no whole number is refused, and says where it is; it isn't taken letter by
+        letter."""
+        for (call, kind), rows in REFUSED.items():
+            for words, *given in rows:
+                why = self.refused(kind, functools.partial(call, *given))
+                self.note(words, words in str(why) and type(why) is kind, why)
+
+    def test_refused(self):
+        plan = {"Ulm": 1, "Aue": 1, "Hof": 2, "Bonn": 3}
+        part = {node: channel for node, channel in plan.items() if node != "Hof"}
+        star = {0: range(1, 1025)} | {leaf: () for leaf in range(1, 1025)}
+        for code, nodes, call in (
+            ("C4", ["Ulm", "Aue"], lambda: forestplan.check(SQUARE, plan)),
+            ("C1", ["Hof"], lambda: forestplan.check(SQUARE, part)),
+            ("N1", [0], lambda: forestplan.plan(star)),
+        ):
+            why = self.refused(forestplan.Refused, call)
+            self.same(f"{code}: its code and nodes", (why.code, why.nodes), (code, nodes))
+            words = f"{' and '.join(map(repr, nodes))} "
+            self.note(f"{code}: its words", words in str(why), why)
+            for same in (pickle.loads(pickle.dumps(why)), copy.copy(why)):
+                self.same(f"{code}: copied", (str(same), vars(same)), (str(why), vars(why)))
+
+    def test_pool(self):
+        """A thousand graphs in four processes, of which each tenth is refused: nothing is lost."""
+        source = random.Random(7)
+        graphs = [small_graph(source) for _ in range(1000)]
+        with ProcessPoolExecutor(4) as pool:
+            found = [
+                pool.submit(forestplan.plan, graph, licence=[] if at % 10 == 0 else None)
+                for at, graph in enumerate(graphs)
+            ]
+        reasons = [done.exception() for done in found]
+        refused = [at for at, why in enumerate(reasons) if why]
+        self.same("which are refused", refused, [*range(0, 1000, 10)])
+        plans = [why.plan if why else done.result() for why, done in zip(reasons, found)]
+        wrong = [at for at in range(1000) if not is_proper(graphs[at], plans[at])]
+        self.same("which are wrong", wrong, [])
+
+    def test_rounds(self):
+        """Pulses, states and messages, put together again node by node, are the lines of the program."""
+        got = forestplan.rounds(SQUARE)
+        lines = []
+        for at, phase, messages, states in got:
+            rows = [(NUMBER[node], words) for node, words in states]
+            rows += [
+                (NUMBER[one], f"put {NUMBER[other]} payload {at} {word} {value}")
+                for one, other, word, value in messages
+            ]
+            rows.sort(key=itemgetter(0))
+            lines += [f"pulse {at} {phase}", *(f"{v} {words}" for v, words in rows)]
+        self.same("the rounds", lines, got.text.splitlines()[1:])
+
+    def test_transcript(self):
+        """Its entries, put together again, are the lines of the run."""
+        got = forestplan.transcript(SQUARE, workers=1)
+        lines = [
+            f"{it.stamp} {NUMBER[it.node]} {it.kind} {NUMBER.get(it.other, it.other)} {it.wire}".strip()
+            for it in got
+        ]
+        self.same("the entries", lines, got.text.splitlines()[1:])
+        self.note("all of a run", len(lines) > 100, len(lines))
+
+    def test_pictures(self):
+        for one in (forestplan.rounds(SQUARE), forestplan.transcript(SQUARE)):
+            picture = ElementTree.fromstring(one._repr_svg_())
+            self.note(
+                f"a picture of {type(one).__name__}",
+                picture.tag.endswith("svg") and len(picture) > 3,
+            )
+
+    def test_colours(self):
+        """The colours are those of the pictures, of real channels, too."""
+        star = {0: range(1, 10), **dict.fromkeys(range(1, 10), ())}
+        plan = forestplan.plan(star, licence=[40, 36])
+        hues = {40: CHANNEL_HUES[0], 36: CHANNEL_HUES[1]}
+        self.same("by node", plan.colours(), {node: hues[plan[node]] for node in star})
+        self.note("the picture says them", "1 is 40, 2 is 36" in plan._repr_svg_(), plan.title)
+        need(self, "matplotlib")
+        made = forestplan.colour_map(9)
+        self.same("a colour map", made.colors, [*CHANNEL_HUES, CHANNEL_HUES[0]])
+
+    def test_surface(self):
+        """What is public is documented; the examples of its texts are right, and its hints are there to be used."""
+        self.same("its version", forestplan.__version__, version.NUMBER)
+        self.note("it has hints", os.path.isfile(os.path.join(PACKAGE, "py.typed")))
+        self.same("dir", dir(forestplan), sorted(forestplan.__all__))
+        for name in forestplan.__all__:
+            self.note(name, getattr(forestplan, name).__doc__)
+        for module in (forestplan, sys.modules["forestplan._sites"]):
+            done = doctest.testmod(module)
+            self.note(f"examples of {module}", not done.failed and done.attempted, done)
+
+    def test_notebook(self):
+        """Each cell of the notebook leaves what is stored below it; those with networkx only if that is installed."""
+        with open(NOTEBOOK, encoding="utf-8") as file:
+            cells = [cell for cell in json.load(file)["cells"] if cell["cell_type"] == "code"]
+        known = {"__name__": "notebook"}
+        for count, cell in enumerate(cells, 1):
+            code = "".join(cell["source"])
+            if "networkx" in code:
+                need(self, "networkx")
+            stored = [joined(out.get("data") or {"": out["text"]}) for out in cell["outputs"]]
+            self.same(f"cell {count}", run_cell(code, known), stored)
+        self.note("cells", len(cells) > 6, len(cells))
+
+
+def joined(texts):
+    return {kind: "".join(lines) for kind, lines in texts.items()}
+
+
+def run_cell(code, known):
+    """What a cell prints, and the value of its last line if that is an expression, as Jupyter has them."""
+    tree, result = ast.parse(code), None
+    last = tree.body.pop() if isinstance(tree.body[-1], ast.Expr) else None
+    said = io.StringIO()
+    with contextlib.chdir(os.path.dirname(NOTEBOOK)), contextlib.redirect_stdout(said):
+        exec(compile(tree, "cell", "exec"), known)
+        if last:
+            result = eval(compile(ast.Expression(last.value), "cell", "eval"), known)
+    shown = {} if result is None else {"text/plain": repr(result)}
+    if hasattr(result, "_repr_svg_"):
+        shown["image/svg+xml"] = result._repr_svg_()
+    return [out for out in ({"": said.getvalue()}, shown) if any(out.values())]
