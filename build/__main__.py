@@ -21,6 +21,11 @@ NAME is one of {', '.join(MODULES)}.
 
 
 def main():
+    # This file alone is read by a Python that is too old.
+    if sys.version_info < (3, 10):
+        found = sys.version.split()[0]
+        print(f"build: Python 3.10 or later is needed, and python3 is {found}", file=sys.stderr)
+        return 2
     # Run as a folder, its own place comes first where modules are looked for; the package's is one above.
     sys.path[0] = os.path.dirname(os.path.dirname(os.path.realpath(__file__)))
     name = sys.argv[1] if len(sys.argv) > 1 else ""

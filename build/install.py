@@ -30,7 +30,7 @@ lessons, the licences; in share/ a manual page for each of the three, and what c
 their words in bash and zsh. With its bin/ on the PATH the lessons' commands work in it as
 they do here. VERSION says what it was made from, and SHA256SUMS has a sum of each file:
 sha256sum -c SHA256SUMS. The programs need the C library alone, the scripts bash and
-Python 3. One such folder serves every machine of the same kind: copy it with cp -r or
+Python 3.10 or later. One such folder serves every machine of the same kind: copy it with cp -r or
 tar. After `pip install DIR` Python can import forestplan.
 
 With --prefix this folder is PREFIX/lib/forestplan, and what a system looks for is where
@@ -67,10 +67,10 @@ SECTION = """\
     PATH=$PWD/bin:$PATH
     forestplan plan < examples/triangle.col     prints the plan
 
-The programs need no toolchain, `forestlab` bash and Python 3. With `bin/` on the PATH the commands work anywhere, and
-`man` finds their pages; `source share/bash-completion/completions/forestlab` completes their words in bash and zsh.
-VERSION says from which commit the folder was made, and SHA256SUMS has a sum of each file. What a page says of
-`crates/`, `bench/`, `tests/`, the toolchain and `python3 build` is about the repository of that commit.
+The programs need no toolchain; `forestlab` needs bash and Python 3.10 or later. With `bin/` on the PATH the commands
+work anywhere, and `man` finds their pages. `source share/bash-completion/completions/forestlab` lets bash and zsh
+complete their words. VERSION says from which commit the folder was made, and SHA256SUMS has a sum of each file. What a
+page says of `crates/`, `bench/`, `tests/`, the toolchain and `python3 build` is about the repository of that commit.
 
 """
 # The same, if the folder is lib/forestplan below a prefix.
@@ -79,15 +79,17 @@ SECTION_OF_SYSTEM = """\
 
     forestplan plan < examples/triangle.col     prints the plan
 
-The programs need no toolchain, `forestlab` bash and Python 3. `man` has pages of the three commands, bash and zsh
-complete their words, and `forestplan --version` says from which commit they were made. What a page says of `crates/`,
-`bench/`, `tests/`, the toolchain and `python3 build` is about the repository of that commit.
+The programs need no toolchain; `forestlab` needs bash and Python 3.10 or later. `man` has pages of the three
+commands, bash and zsh complete their words, and `forestplan --version` says from which commit they were made. What a
+page says of `crates/`, `bench/`, `tests/`, the toolchain and `python3 build` is about the repository of that commit.
 
 """
 
 
-# What README says of the toolchain, and its links to what the repository alone has.
-OF_THE_KIT = " Rows with a star need [the kit](#two-commands), the others Python 3 alone."
+# What README says of the toolchain: a paragraph, and the last column of its first table.
+OF_THE_KIT = re.compile(r"^The kit is the toolchain .*?\n\n", re.M | re.S)
+NEEDS_THE_KIT = re.compile(r"^([^|\n]*\|[^|\n]*)\|[^|\n]*$", re.M)
+# Its links to what only the repository has.
 OF_THE_REPOSITORY = r"\[([^\]]+)\]\((?:crates/[^)]+|CONTRIBUTING\.md)\)"
 
 
@@ -96,7 +98,7 @@ def readme(section):
     with open(os.path.join(TOP, "README.md"), encoding="utf-8") as file:
         text = file.read()
     text = re.sub(r"^## Two commands\n.*?(?=^Command \| )", section, text, flags=re.M | re.S)
-    text = text.replace(OF_THE_KIT, "").replace(" * | ", " | ")
+    text = NEEDS_THE_KIT.sub(lambda row: row[1].rstrip(), OF_THE_KIT.sub("", text))
     return re.sub(OF_THE_REPOSITORY, r"\1", text)
 
 

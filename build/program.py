@@ -93,7 +93,7 @@ def build(name):
     if not kit.is_there(name):
         return NOT_BUILT
     print(
-        f"{name}: it is proved and built now, once: 15 to 33 minutes on four free processors, twice as long on two; "
+        f"{name}: it is proved and built now, once: 15 minutes or more on four free processors, twice as long on two; "
         "meanwhile `bin/forestlab studio` shows runs in a browser, and `./try COMMAND` answers unproved",
         file=sys.stderr,
         flush=True,

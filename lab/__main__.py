@@ -4,6 +4,7 @@ import importlib
 import os
 import sys
 
+LEAST_PYTHON = (3, 10)
 # The module of each command, whose `main` takes the words after the command and returns the status, and its line of
 # help; by what a reader wants, in the order of the help text.
 READERS = {
@@ -59,6 +60,12 @@ isn't right; 2 the command line is refused; 130 stopped by Ctrl-C.
 
 
 def main():
+    # This file alone is read by a Python that is too old.
+    if sys.version_info < LEAST_PYTHON:
+        return refused(
+            f"Python {'.'.join(map(str, LEAST_PYTHON))} or later is needed, and python3 is "
+            + sys.version.split()[0]
+        )
     # Run as a folder, its own place comes first where modules are looked for; the package's is one above.
     sys.path[0] = os.path.dirname(os.path.dirname(os.path.realpath(__file__)))
     name, words = sys.argv[1] if len(sys.argv) > 1 else "", sys.argv[2:]

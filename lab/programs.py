@@ -5,11 +5,10 @@ import os
 import subprocess
 import sys
 
+from lab.unbuilt import how_to_build
 from lab.wrong import Wrong
 
 TOP = os.path.dirname(os.path.dirname(os.path.realpath(__file__)))
-# Of each program, a command with which a first call has it built.
-FIRST = {"forestplan": "plan", "forestplay": "rounds"}
 # What the C library is asked for, unless the caller says something else: large pages for what is allocated.
 TUNABLES = "glibc.malloc.hugetlb=1"
 
@@ -49,10 +48,7 @@ def program_file(name):
     """The program's file; refused if it isn't built."""
     path = built(name)
     if path is None:
-        raise Wrong(
-            f"{name} isn't built: a first call of it, as `{name} {FIRST[name]} < examples/two.col`, proves "
-            "and builds it in 15 to 33 minutes"
-        )
+        raise Wrong(f"{name} isn't built: {how_to_build(name)}")
     return path
 
 

@@ -9,7 +9,8 @@ from typing import Callable, Collection, Iterator
 
 from lab import version
 from lab.door import held
-from lab.programs import FIRST, SCRIPT, TOP, program_file
+from lab.programs import SCRIPT, TOP, program_file
+from lab.unbuilt import FIRST
 from lab.words import parser_of
 
 # Files and whole folders, each at the path that it has here; a folder means all files below it.
@@ -31,6 +32,7 @@ COPIED = (
     "lab/help",
     "lab/network.py",
     "lab/programs.py",
+    "lab/unbuilt.py",
     "lab/progress.py",
     "lab/python",
     "lab/version.py",

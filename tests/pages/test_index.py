@@ -13,7 +13,7 @@ from tests.cases import Case, text_in
 from tests.commands import COMMANDS
 from tests.pages.test_pages import PAGES, lines_of
 
-README_WORDS, README_COLUMNS = 750, 120
+README_COLUMNS = 120
 
 # The constants of limits, and what is said of them elsewhere, with line ends as blanks.
 LIMITS = (
@@ -96,7 +96,6 @@ class Index(Case):
 
     def test_readme(self):
         text = text_in("README.md")
-        self.assertLessEqual(len(text.split()), README_WORDS, "words of README.md")
         wide = [
             number for number, line in enumerate(text.split("\n"), 1) if len(line) > README_COLUMNS
         ]
@@ -134,6 +133,21 @@ class Index(Case):
             "what first calls leave",
             {name: sorted(re.findall(r"`(\w+)`", left)) for name, left in found},
             {name: sorted(below.keys() - set(below[name])) for name in PROGRAMS},
+        )
+
+    def test_crates_brought(self):
+        """OWN_PROGRAM says how many crates come along with one that is copied."""
+        text = one_line(text_in("docs", "work", "OWN_PROGRAM.md"))
+        said = re.findall(
+            r"`(\w+)`(?: \([^)]*\)|, from which others are made,)(?: brings)? (\d+)", text
+        )
+        self.same(
+            "crates that come along",
+            said,
+            [
+                (crate, str(len(with_below([crate], listed()))))
+                for crate in ("sync_rounds", "node_pool", "silent")
+            ],
         )
 
     def test_readme_has_each_command(self):

@@ -12,6 +12,8 @@ count. Only the text that is written here, and what is read of the answer, is no
 
 What is no graph, no list or no whole number raises TypeError, and what is out of its bounds ValueError; what a program
 refuses raises `Refused`, a ValueError, too. If a program isn't built, FileNotFoundError is raised."""
+import forestplan._python  # noqa: F401  (first, since it refuses a Python that is too old)
+
 import tempfile
 from collections.abc import Iterable, Mapping
 from typing import Any, NamedTuple
@@ -217,14 +219,15 @@ def rounds(G: Any, bars: Bars = None, licence: Channels = None) -> Rounds:
     found = Rounds()
     found.network, order, found.text = _asked(["forestplay", "rounds"], G, bars, licence)
     for line in found.text.splitlines()[1:]:
-        match line.split():
-            case ["pulse", number, *phase]:
-                found.append(Pulse(int(number), " ".join(phase), [], []))
-            case [v, "put", w, _, _, word, value]:
-                ends = order[int(v) - 1], order[int(w) - 1]
-                found[-1].messages.append(Message(*ends, word, int(value)))
-            case [v, *words]:
-                found[-1].states.append((order[int(v) - 1], " ".join(words)))
+        # Without `match`, so that a Python before 3.10 reads this file, and _python.py can refuse it.
+        first, *words = line.split()
+        if first == "pulse":
+            found.append(Pulse(int(words[0]), " ".join(words[1:]), [], []))
+        elif words[0] == "put":
+            ends = order[int(first) - 1], order[int(words[1]) - 1]
+            found[-1].messages.append(Message(*ends, words[4], int(words[5])))
+        else:
+            found[-1].states.append((order[int(first) - 1], " ".join(words)))
     return found
 
 

@@ -24,7 +24,8 @@ def program_at(name):
     places = (os.path.join(home(), *parts, name) for parts in (("crates", name, "out"), ("lib",)))
     found = next((place for place in places if os.access(place, os.X_OK)), None)
     if found is None:
-        raise FileNotFoundError(f"{name} isn't built in {home()}")
+        how = of_lab("unbuilt").how_to_build(name)
+        raise FileNotFoundError(f"{name} isn't built in {home()}: {how}")
     return found
 
 
