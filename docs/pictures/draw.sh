@@ -4,6 +4,7 @@
 set -e
 PATH=$PWD/bin:$PATH
 forestlab picture plan examples/petersen.col -o docs/pictures/petersen-plan.svg
+forestlab picture film examples/petersen.col -o docs/pictures/petersen-film.svg
 forestlab picture rounds examples/triangle.col -o docs/pictures/triangle-rounds.svg
 forestlab picture rounds examples/drops.col -o docs/pictures/drops-rounds.svg
 forestlab picture plan examples/barred.col -o docs/pictures/barred-plan.svg

@@ -44,20 +44,20 @@ class Vertex:
 
     def draw(self, svg, x, y, radius, spot):
         with svg.group("vertex", self.title):
-            if self.channel:
-                svg.circle(x, y, radius + 1.6, PAPER)
-                channel_circle(svg, x, y, radius, self.channel)
-            else:
-                svg.circle(
-                    x,
-                    y,
-                    radius,
-                    self.fill,
-                    INK,
-                    1.6,
-                    mark="blank" if self.fill == PAPER else "filled",
-                )
-                svg.label(x, y + 0.36 * radius, self.v, round(0.95 * radius, 1), text_on(self.fill))
+            self.draw_circle(svg, x, y, radius)
+        self.draw_beside(svg, spot)
+
+    def draw_circle(self, svg, x, y, radius):
+        if self.channel:
+            svg.circle(x, y, radius + 1.6, PAPER)
+            channel_circle(svg, x, y, radius, self.channel)
+        else:
+            mark = "blank" if self.fill == PAPER else "filled"
+            svg.circle(x, y, radius, self.fill, INK, 1.6, mark=mark)
+            svg.label(x, y + 0.36 * radius, self.v, round(0.95 * radius, 1), text_on(self.fill))
+
+    def draw_beside(self, svg, spot):
+        """Its words, and its barred channels."""
         left, width = spot[0] - self.room() / 2, text_width(self.words, self.size)
         if self.words:
             svg.text(

@@ -20,6 +20,7 @@ from lab.networks.plan_text import read_plan
 from lab.pictures import (
     bits_picture,
     broken_picture,
+    film_picture,
     map_picture,
     plan_picture,
     player_page,
@@ -211,6 +212,14 @@ KINDS = {
         draw_run,
         (12, "watch"),
         of_programs=True,
+    ),
+    "film": Kind(
+        "The rounds of the colouring as a picture that plays by itself: messages move.",
+        "It has no script, so a page can show it as an image. A film has at most 1,000 messages. A reader\n"
+        "whose browser asks for less motion sees the end.",
+        "forestlab picture film examples/petersen.col > petersen-film.svg",
+        lambda of: film_picture.draw(of.rounds()),
+        (40, "player"),
     ),
     "player": Kind(
         "A page with a slider and a play button: the network at each pulse (HTML).",

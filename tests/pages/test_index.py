@@ -102,7 +102,7 @@ class Index(Case):
         self.assertEqual(wide, [], f"lines of README.md above {README_COLUMNS} columns")
         before, _, after = text.partition("## The claim")
         self.assertEqual(
-            (before.count("!["), after.count("![")), (1, 0), "one picture, before the claim"
+            (before.count("!["), after.count("![")), (2, 0), "two pictures, before the claim"
         )
 
     def test_kit(self):
