@@ -22,8 +22,8 @@ MOST_MESSAGES = 1_000
 
 
 class Film:
-    """The rounds that are shown, which are those in which something is sent or chosen, and when each of them begins. After
-    them comes the end, which is shown like one more round."""
+    """The rounds that are shown, which are those in which something is sent or chosen, and when each of them begins.
+    After them comes the end, which is shown like one more round."""
 
     def __init__(self, rounds: Rounds):
         self.rounds = rounds
@@ -140,10 +140,7 @@ def draw(rounds: Rounds) -> str:
 
 def last_words(channels: Mapping[int, int]) -> tuple[str, str]:
     used = counted(len(set(channels.values())), "channel")
-    return (
-        f"done · {used}",
-        "No two neighbours have the same channel, and nobody was in charge.",
-    )
+    return (f"done · {used}", "No two neighbours have the same channel, and nobody was in charge.")
 
 
 def draw_words(svg: Svg, title: str, said: str) -> None:

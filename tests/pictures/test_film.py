@@ -1,5 +1,5 @@
-"""The film of the rounds, read off its style sheet: when each message moves, from where to where, and which channel each
-node has at which moment."""
+"""The film of the rounds, read off its style sheet: when each message moves, from where to where, and which channel
+each node has at which moment."""
 import re
 from xml.etree import ElementTree
 
