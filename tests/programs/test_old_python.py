@@ -27,7 +27,8 @@ class OldPython(Case):
                 ast.parse(text_in(path), path, feature_version=(3, 8))
 
     def as_old(self, words: str) -> tuple[int, bytes, bytes]:
-        return called(sys.executable, "-S", "-c", AS_OLD + words, cwd=TOP)
+        environment = os.environ | {"PYTHONPATH": os.path.join(TOP, PYTHON)}
+        return called(sys.executable, "-S", "-c", AS_OLD + words, cwd=TOP, env=environment)
 
     def test_commands(self):
         for folder, name in (("lab", "forestlab"), ("build", "build")):
@@ -36,7 +37,7 @@ class OldPython(Case):
             self.same(folder, done, (2, b"", line.encode()))
 
     def test_import(self):
-        done = self.as_old(f"sys.path.insert(0, {PYTHON!r}); import forestplan")
+        done = self.as_old("import forestplan")
         last = b"ImportError: forestplan needs Python 3.10 or later, and this is 3.9.18\n"
         self.same("status and output", done[:2], (1, b""))
         self.assertTrue(done[2].endswith(last), done[2])
