@@ -9,7 +9,7 @@ from itertools import chain, count
 
 from lab.networks.describe import Run, processor_seconds
 from lab.networks.network_text import network_of
-from lab.words import duration
+from lab.words import MOST_BYTES, bytes_in, duration
 from lab.wrong import Wrong
 
 # Seconds after which a line is written, and then every half hour.
@@ -32,7 +32,10 @@ def about(process: int, command: str) -> str:
         with open(f"/proc/{process}/fd/0", "rb") as file:
             if not stat.S_ISREG(os.fstat(file.fileno()).st_mode):
                 return ""
-            run = Run(network_of(file.read()))
+            data = bytes_in(file, MOST_BYTES)
+        if data is None:
+            return ""
+        run = Run(network_of(data))
         return f", of about {duration(processor_seconds(run, command))} for {run.wires:,} wires"
     except (OSError, Wrong, MemoryError):
         return ""

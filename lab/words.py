@@ -7,6 +7,7 @@ import re
 import stat
 import sys
 from collections.abc import Callable, Iterable
+from typing import BinaryIO
 
 from lab.wrong import Wrong
 
@@ -100,19 +101,45 @@ def add_command(
     )
 
 
-def bytes_at(path: str, most: int = -1) -> bytes:
-    """All that a file has, or standard input for `-`; or its first bytes, of which there are at most so many."""
+# In bytes, the most that is read of a text, and of a transcript, which may be longer than its network.
+MOST_BYTES, MOST_OF_TRANSCRIPT = 1 << 28, 1 << 29
+# A file is read in parts of so many bytes: who asks for the limit at once takes as much memory.
+PART = 1 << 20
+
+
+def bytes_in(file: BinaryIO, most: int) -> bytes | None:
+    """All that a file has; None if that is more than `most` bytes, of which none is read beyond the next one."""
+    parts: list[bytes] = []
+    left = most
+    while True:
+        wanted = min(PART, left + 1)
+        part = file.read(wanted)
+        if len(part) > left:
+            return None
+        parts.append(part)
+        left -= len(part)
+        # A terminal says the end of a text once.
+        if len(part) < wanted:
+            return b"".join(parts)
+
+
+def bytes_at(path: str, most: int = MOST_BYTES, why: str = "the most that is read") -> bytes:
+    """All that a file has, or standard input for `-`. What has more than `most` bytes, or no end, is refused."""
     try:
         if path == "-":
-            return sys.stdin.buffer.read(most)
-        with open(path, "rb") as file:
-            return file.read(most)
-    except OSError as why:
-        raise Wrong(f"{text_name(path)}: {why.strerror}") from None
+            data = bytes_in(sys.stdin.buffer, most)
+        else:
+            with open(path, "rb") as file:
+                data = bytes_in(file, most)
+    except OSError as fault:
+        raise Wrong(f"{text_name(path)}: {fault.strerror}") from None
+    if data is None:
+        raise Wrong(f"{text_name(path)}: more than {most >> 20} MiB, {why}")
+    return data
 
 
-def text_at(path: str) -> str:
-    return bytes_at(path).decode("utf-8", "replace")
+def text_at(path: str, most: int = MOST_BYTES) -> str:
+    return bytes_at(path, most).decode("utf-8", "replace")
 
 
 def text_name(path: str) -> str:

@@ -34,7 +34,7 @@ def is_installed(tool):
     module, _, python = tool.partition(" of ")
     if python:
         return has_module(python, module)
-    if tool in ("networkx", "matplotlib", "igraph", "pandas"):
+    if tool in ("networkx", "matplotlib", "igraph", "pandas", "hypothesis"):
         if importlib.util.find_spec(tool) is None and os.path.exists(OWN):
             sys.path.append(OF_SYSTEM)
         return importlib.util.find_spec(tool) is not None

@@ -37,6 +37,7 @@ from typing import Any
 from lab.definitions.nodes import Program, synchronous_pulses, synchronous_run
 from lab.definitions.values import by_name, frozen
 from lab.network import Network
+from lab.words import bytes_at
 from lab.wrong import Wrong, wrong_line
 
 # A function that is needed, by the names that it may have.
@@ -47,6 +48,8 @@ COLOURS = 8
 LONGEST = 20
 AGAIN = "does it use chance other than `me.random`, or a variable outside `me`?"
 LONGEST_INBOX = 200
+# Of a file. Nobody writes a longer one, and Python takes hundreds of times as much memory to read it.
+MOST_BYTES = 1 << 20
 
 
 def own_program(path: str, lots: str = "1") -> type:
@@ -72,12 +75,12 @@ def own_program(path: str, lots: str = "1") -> type:
 def code_of(path: str) -> CodeType:
     """What a file says, not run yet."""
     try:
-        with open(path, encoding="utf-8") as file:
-            return compile(file.read(), path, "exec")
-    except OSError as why:
-        raise Wrong(f"{path}: {why.strerror}") from None
+        return compile(bytes_at(path, MOST_BYTES), path, "exec")
     except SyntaxError as why:
         raise wrong_line(path, why.lineno or 1, why.msg) from None
+    except (RecursionError, MemoryError):
+        # Python's parser says that memory is out, too.
+        raise Wrong(f"{path}: it is nested too deep for Python") from None
     except ValueError as why:
         raise Wrong(f"{path}: {why}") from None
 

@@ -15,6 +15,10 @@ from lab.networks.network_text import MAX_NODES
 from lab.wrong import Wrong, wrong_line
 
 
+# Digits of a whole number in JSON: Python makes a number of more of them in quadratic time, or refuses to.
+MOST_DIGITS = 4000
+
+
 @dataclass
 class Declared:
     """Where each node is declared, by its id, and each edge, with the ids of its ends."""
@@ -73,34 +77,6 @@ def in_xml(data: bytes, path: str) -> Declared:
     return declared.checked()
 
 
-# What GML has beside its lists, and the beginning of a list up to the next bracket.
-TEXT = re.compile(r'"[^"]*"|#[^\n]*')
-LIST = re.compile(r"(\w+)\s*\[(?=([^\[\]]*))")
-PAIR = re.compile(r"(\w+)\s+(\S+)")
-
-
-def in_gml(data: bytes, path: str) -> Declared:
-    """The lists of GML; ids and ends are before what a node or an edge has in lists of its own."""
-    text, declared = data.decode(), Declared(path)
-    for found in TEXT.finditer(text):
-        after = text[found.end() : found.end() + 1]
-        if found[0].startswith('"') and after and after not in " \t\r\n]":
-            line = text.count("\n", 0, found.start()) + 1
-            what = "a quotation mark within a text, which GML writes as &quot;"
-            raise wrong_line(path, line, what)
-    bare = TEXT.sub(lambda found: '""' + "\n" * found[0].count("\n"), text)
-    line, end = 1, 0
-    for found in LIST.finditer(bare):
-        line += bare.count("\n", end, found.start())
-        end = found.start()
-        pairs = PAIR.findall(found[2])
-        keys = [key for key, _ in pairs]
-        if keys.count("label") > 1 or keys.count("name") > 1:
-            raise wrong_line(path, line, "a second name of one node")
-        declared.declare(found[1], line, dict(pairs))
-    return declared.checked()
-
-
 def loaded(data: bytes, path: str) -> dict:
     """The object of a text in JSON; an empty one if it has none."""
 
@@ -110,8 +86,13 @@ def loaded(data: bytes, path: str) -> dict:
             raise Wrong(f"{path}: an object has a key twice: {shown(', '.join(found))}")
         return found
 
+    def number(digits: str) -> int:
+        if len(digits) > MOST_DIGITS:
+            raise Wrong(f"{path}: no JSON: a number of more than {MOST_DIGITS:,} digits")
+        return int(digits)
+
     try:
-        whole = json.loads(data, object_pairs_hook=once)
+        whole = json.loads(data, object_pairs_hook=once, parse_int=number)
     except json.JSONDecodeError as why:
         raise wrong_line(path, why.lineno, f"no JSON: {why.msg}") from None
     except RecursionError:

@@ -13,8 +13,9 @@ import warnings
 from collections.abc import Iterable
 from typing import Any
 
-from lab.networks.declared import Declared, in_gml, in_json, in_letters, in_xml
+from lab.networks.declared import Declared, in_json, in_letters, in_xml
 from lab.networks.fields import shown
+from lab.networks.gml import in_gml, with_multigraph
 from lab.networks.listed import Listed, Where, name_of, not_read
 from lab.networks.stated import Stated, decoded
 from lab.networks.table import FARTHEST
@@ -26,7 +27,6 @@ PACKAGE = "apt install python3-networkx, or pip install networkx"
 MOST_SAID = 300
 # Gephi writes GEXF 1.3, whose nodes and edges are those of 1.2, which all versions of networkx read.
 NEW_GEXF, GEXF = b"http://gexf.net/1.3", b"http://www.gexf.net/1.2draft"
-GRAPH_OF_GML = re.compile(r"^\s*graph\s*\[", re.M)
 
 
 def networkx() -> Any:
@@ -40,8 +40,8 @@ def networkx() -> Any:
 
 
 def from_gml(nx: Any, data: bytes) -> Any:
-    """Two edges may have the same ends: without the word `multigraph` networkx refuses that."""
-    return nx.parse_gml(GRAPH_OF_GML.sub("graph [ multigraph 1 ", data.decode(), 1), label=None)
+    """Two edges may have the same ends."""
+    return nx.parse_gml(with_multigraph(data.decode()), label=None)
 
 
 def from_json(nx: Any, data: bytes) -> Any:

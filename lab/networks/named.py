@@ -10,8 +10,8 @@ from lab.programs import TOP
 from lab.words import bytes_at, text_name
 from lab.wrong import Wrong
 
-# No file of a network within the limits is longer.
-MOST_BYTES = 1 << 28
+# Why no file of a network is longer than `MOST_BYTES`.
+TOO_LONG = "and no network within the limits is so long"
 # The name of a kind with its size, as ring7 or grid3x4.
 MADE = re.compile(r"([a-z]+)([0-9]{1,5})(?:x([0-9]{1,5}))?")
 EXAMPLES = [os.path.join(TOP, "examples", "workshop"), os.path.join(TOP, "examples")]
@@ -44,11 +44,7 @@ def network_bytes(name: str) -> bytes:
     """The text of the network of a name: a file, an example, or a kind with its size."""
     path = path_of(name)
     if path is not None:
-        data = bytes_at(path, MOST_BYTES + 1)
-        if len(data) <= MOST_BYTES:
-            return data
-        most = f"more than {MOST_BYTES >> 20} MiB, and no network within the limits is so long"
-        raise Wrong(f"{text_name(path)}: {most}")
+        return bytes_at(path, why=TOO_LONG)
     found = sizes_of(name)
     if found:
         kind, sizes = found

@@ -9,7 +9,10 @@ from lab.networks.table import TITLES
 
 def titles_of(words: str) -> list[tuple[str, str]]:
     """`source=Von,target=Nach` as pairs; a title with a comma is in quotes, as a field of a table."""
-    pairs = [word.partition("=") for word in next(csv.reader([words]))]
+    try:
+        pairs = [word.partition("=") for word in next(csv.reader([words], strict=True))]
+    except csv.Error as why:
+        raise argparse.ArgumentTypeError(f"{why}") from None
     if not all(column in TITLES and title for column, _, title in pairs):
         raise argparse.ArgumentTypeError(
             f"COLUMN=TITLE with commas between, and a column of {', '.join(TITLES)}"

@@ -45,6 +45,7 @@ from lab.schedules.rules import (
 )
 from lab.schedules.simulate import played, text_of_run
 from lab.words import (
+    MOST_OF_TRANSCRIPT,
     add_command,
     add_commands,
     add_output,
@@ -463,7 +464,7 @@ def drawn(given):
     of.network = network = network_of(data, text_name(given.network))
     network.name = given.title or ("this network" if given.network == "-" else network.name)
     of.program = program_asked("picture", given, network)
-    of.texts = [Text(text_name(path), text_at(path)) for path in stored]
+    of.texts = [Text(text_name(path), text_at(path, MOST_OF_TRANSCRIPT)) for path in stored]
     of.written = lambda form: (
         plan_text(network, data)
         if form == "plan"

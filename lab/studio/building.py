@@ -13,6 +13,8 @@ from lab.studio.asked import OPENED
 from lab.wrong import Wrong
 
 PROGRAMS = ("forestplan", "forestplay")
+# Of the log its last bytes are looked at.
+MOST_SHOWN = 1 << 14
 # What builds those of them that it names, if they aren't built.
 BUILD = [sys.executable, "-S", os.path.join(TOP, "build"), "program"]
 # What a process that answers asks of the server's own.
@@ -90,8 +92,10 @@ def begin(_asked, _tell):
 def so_far(_asked, _tell):
     """How far the build is, in its own words."""
     try:
-        with open(OPENED["log"], encoding="utf-8", errors="replace") as log:
-            lines, begun = log.read().splitlines(), os.stat(log.fileno())
+        with open(OPENED["log"], "rb") as log:
+            begun = os.stat(log.fileno())
+            log.seek(max(0, begun.st_size - MOST_SHOWN))
+            lines = log.read(MOST_SHOWN).decode("utf-8", "replace").splitlines()
     except (OSError, TypeError):
         return {"proved": OPENED["is_proved"], "lines": [], "ended": False}
     ended = lines[-1:] in (["the programs are proved and built"], ["ended: it isn't built"])

@@ -15,6 +15,7 @@ from lab.transcripts.check import in_order, whole_run
 from lab.transcripts.convert import FORMS, entries_of
 from lab.transcripts.reading import Wrong as WrongEntry
 from lab.words import (
+    MOST_OF_TRANSCRIPT,
     add_command,
     add_commands,
     add_output,
@@ -151,7 +152,8 @@ def texts_of(given: Namespace) -> tuple[Network, bytes, bytes, Program]:
         )
     data = network_bytes(given.network)
     net = network_of(data, text_name(given.network))
-    return net, data, bytes_at(given.transcript), program_asked("transcript", given, net)
+    transcript = bytes_at(given.transcript, MOST_OF_TRANSCRIPT)
+    return net, data, transcript, program_asked("transcript", given, net)
 
 
 def checked(given: Namespace) -> str:
@@ -176,7 +178,8 @@ def replayed(given: Namespace) -> str:
 
 
 def converted(given: Namespace) -> str:
-    return as_text(FORMS[given.form](*entries_of(bytes_at(given.transcript))))
+    transcript = bytes_at(given.transcript, MOST_OF_TRANSCRIPT)
+    return as_text(FORMS[given.form](*entries_of(transcript)))
 
 
 def main(words: list[str]) -> int:

@@ -107,6 +107,19 @@ REFUSED = (
     ("gml", "graph [ node [ id 1 ]\ngraph [ node [ id 5 ] ] ]", "line 2: a second graph"),
     ("gml", "graph [ node [ id 1 ] edge [ source 1\ntarget 2 ] ]", "line 1: 2 isn't the id"),
     ("gml", "graph [ " + "a [ " * 5000 + "]" * 5001, "can't read it as gml"),
+    ("gml", "graph [ node [ id 1 ]\nnode [ id 2 label ] ]", "line 2: no GML: no value: `]`"),
+    ("gml", "graph [ node [ id 1 ] ]\n]", "line 2: no GML: no list to close: `]`"),
+    ("gml", 'graph [ node [ id 1 ]\n"x" 1 ]', 'line 2: no GML: no key: `"x"`'),
+    ("gml", "graph [\nnode [ id 1 ]", "line 1: no GML: `graph` has no end: is the text cut?"),
+    ("gml", "graph [\nnode [ id 1 label", "line 2: no GML: `label` has no end"),
+    ("gml", 'graph [ node [ id 1\nlabel "x ] ]', "line 2: a quotation mark without a second"),
+    ("gml", 'graph [ node [ id "a" ] node [ id "a" ] ]', 'a second node of the id "a"'),
+    ("gml", "graph [ node [ id %s ] ]" % ("7" * 5000), "can't read it as gml"),
+    (
+        "json",
+        '{"nodes": [{"id": %s}], "links": []}' % ("7" * 5000),
+        "no JSON: a number of more than 4,000 digits",
+    ),
     ("graph6", "A_\nA_\n", "line 2: a second graph"),
     ("graph6", "A", "can't read it"),
 )
@@ -145,6 +158,11 @@ READ = (
     (
         "gml",
         'graph [ node [ id 7 label "Ulm" ] node [ id 8 label "Aue" ] # [\n edge [ source 7 target 8 ] ]',
+    ),
+    (
+        "gml",
+        'Creator "me" graph [ node [ graphics [ id 9 ] id 7 name "Ulm" ] node [ name "Aue" id 8 ] '
+        "edge [ line [ target 9 ] source 7 target 8 ] edge [ source 8 target 7 ] ]",
     ),
     (
         "json",
