@@ -15,7 +15,8 @@ from lab.networks.channels import main as channels
 from lab.networks.network import main as network
 from lab.pictures.picture import main as picture
 from lab.schedules.simulate import main as simulate
-from lab.studio.serving import object_of
+from lab.studio.fields import object_of
+from lab.studio.networks import opened_by
 from lab.transcripts.transcript import main as transcript
 from lab.workshop.protocol import END, fields_of, forms_of, lines_of
 from lab.workshop.findings import Fault
@@ -138,7 +139,14 @@ def answer(words: list[str]) -> int:
 
 def call(_words: list[str]) -> int:
     """What the studio's page asks."""
-    return int(object_of(sys.stdin.buffer.read()) is None)
+    object_of(sys.stdin.buffer.read())
+    return 0
+
+
+def address(_words: list[str]) -> int:
+    """What is after the # of a link."""
+    opened_by(sys.stdin.buffer.read().decode("utf-8", "replace")).address.refuse()
+    return 0
 
 
 def words_of(main: Main) -> Main:
@@ -293,6 +301,16 @@ READERS = (
         (),
         (b'{"network": "p edge 1 0\\n", "steps": [1, [2]]}',),
         tuple(b'{ } [ ] " : , 1'.split()),
+    ),
+    Reader(
+        "address",
+        address,
+        (),
+        (
+            b"net=10.20_90.20~1-2~i1-17~b2-1~n1-O%20o&tab=run&seed=7&slow=1-2&other=newest.2",
+            b"example=path&tab=adversary&program=layers&root=2&steps=1-2_2-1&without=acks,fifo",
+        ),
+        tuple(b"= & ~ _ - . , % %41 %E0 net example tab seed steps 1 0 n1- i1- b1-".split()),
     ),
     Reader(
         "code",

@@ -49,7 +49,7 @@ class Stepwise(Player):
 
     def follow(self, steps):
         for number, step in enumerate(filter(None, steps), 1):
-            fields = re.fullmatch(r"(\d{1,5})(?:-(\d{1,5}))?(?:-(\d{1,5}))?", step)
+            fields = re.fullmatch("([0-9]{1,5})(?:-([0-9]{1,5}))?(?:-([0-9]{1,5}))?", step)
             v, w, place = (int(field or 0) for field in fields.groups()) if fields else (0, 0, 0)
             if not self.makes("take" if w else "pulse", v, w, place):
                 raise Wrong(f"step {number} of the list, {step}, isn't possible there")

@@ -1,9 +1,11 @@
 """What the page asks with a call: a network as a text, a program by its name. No call names a file."""
 import re
+from collections.abc import Collection
 from typing import Any
 
-from lab.definitions.nodes import Colouring
+from lab.definitions.nodes import Colouring, Program
 from lab.definitions.programs import MAX_PASSES, PROGRAMS, program_at
+from lab.network import Network
 from lab.networks.network_text import read_network
 from lab.wrong import Wrong
 
@@ -12,9 +14,11 @@ from lab.wrong import Wrong
 OPENED: dict[str, Any] = {"network": None, "own": {}, "is_proved": False, "log": None}
 # Nodes that are drawn; that the rounds, and a run without a clock, are shown of.
 MOST_DRAWN, MOST_ROUNDS, MOST_RUN = 400, 100, 40
+# Steps that are made by hand.
+MOST_STEPS = 6_000
 
 
-def network_asked(asked, most=MOST_DRAWN):
+def network_asked(asked: dict[str, Any], most: int = MOST_DRAWN) -> Network:
     try:
         network = read_network(asked["network"], "the network")
     except Wrong as why:
@@ -36,27 +40,33 @@ def network_asked(asked, most=MOST_DRAWN):
     return network
 
 
-def program_asked(asked):
+def program_asked(asked: dict[str, Any], network: Network) -> Program:
     """A program by its name, which its option may follow: `recolouring passes 2`, `layers root 3`."""
     said = re.fullmatch(
-        r"([\w-]+)(?: (passes|root) (\d{1,5}))?", str(asked.get("program") or Colouring.name)
+        "([^ ]+)(?: (passes|root) ([0-9]{1,5}))?", asked["program"] or Colouring.name
     )
     name, option, value = said.groups() if said else ("?", None, None)
-    options = {option: int(value)} if option else {}
+    options: dict[str, int] = {str(option): int(value)} if value else {}
     if not 1 <= options.get("passes", 1) <= MAX_PASSES:
         raise Wrong(f"there are 1 to {MAX_PASSES} passes")
+    if options.get("root", 1) not in network.vertices:
+        raise Wrong(f"there is no node {options['root']} that could be the root")
     if name not in (*PROGRAMS, *OPENED["own"]):
         name = "?"
-    return program_at(OPENED["own"].get(name, name), **options)
+    return program_at(
+        OPENED["own"].get(name, name), root=options.get("root"), passes=options.get("passes")
+    )
 
 
-def rules_asked(asked, among):
+def rules_asked(asked: dict[str, Any], among: Collection[str]) -> tuple[str, ...]:
     """The rules to be left out, if they are among those that can be."""
-    rules = tuple(str(asked.get("without") or "").split(",")) if asked.get("without") else ()
+    rules = tuple(asked["without"].split(",")) if asked["without"] else ()
     if not set(rules) <= set(among):
         raise Wrong("there is no such rule")
     return rules
 
 
-def pairs_asked(listed):
-    return [(int(v), int(w)) for v, w in listed]
+def vertex_asked(asked: dict[str, Any], network: Network) -> int:
+    if asked["vertex"] not in network.vertices:
+        raise Wrong(f"the field vertex: there is no node {asked['vertex']}")
+    return asked["vertex"]

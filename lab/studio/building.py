@@ -81,15 +81,15 @@ def begin(_asked, _tell):
         raise Wrong(
             "the toolchain's command rt is not on the PATH, and without it nothing can be proved"
         )
-    if so_far({}, None)["ended"]:
+    if so_far()["ended"]:
         os.unlink(OPENED["log"])
     os.kill(os.getppid(), WANTED)
     while not os.path.exists(OPENED["log"]):
         time.sleep(0.1)
-    return so_far({}, None)
+    return so_far()
 
 
-def so_far(_asked, _tell):
+def so_far(_asked=None, _tell=None):
     """How far the build is, in its own words."""
     try:
         with open(OPENED["log"], "rb") as log:

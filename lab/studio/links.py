@@ -1,63 +1,49 @@
 """Judges the links of a class, `forestlab studio --links FILE`: one a line, each a dare and the steps that win it."""
-import re
-from urllib.parse import urlsplit
+from collections.abc import Iterator
+from functools import partial
 
-from lab.networks.network_text import read_network
-from lab.schedules.rules import OF_SCHEDULES
-from lab.studio.asked import network_asked, program_asked, rules_asked
-from lab.studio.dares import DARES, judged
-from lab.studio.networks import example_text
+from lab.networks.fields import shown
+from lab.studio.address import program_named
+from lab.studio.asked import network_asked, program_asked
+from lab.studio.dares import judged
+from lab.studio.limits import apart
+from lab.studio.networks import opened_by
 from lab.wrong import Wrong
 
 
-def judge(lines):
-    """A line for each link, and whether all could be read."""
-    said, are_read = [], True
-    for number, link in enumerate(lines, 1):
-        if not link.strip():
+def judge(lines: list[str]) -> Iterator[tuple[str, bool]]:
+    """For each link the line that is said of it, as soon as it is judged, and whether it could be."""
+    for number, line in enumerate(lines, 1):
+        link = line.strip()
+        if not link:
             continue
-        try:
-            said.append(f"{number}: {judged_link(link.strip())}")
-        except Wrong as why:
-            said.append(f"{number}: can't be read: {why}")
-            are_read = False
-    return said, are_read
+        found = apart(partial(judged_link, link))
+        if "answer" in found:
+            yield f"{number}: {found['answer']}", True
+        else:
+            # What takes too much, and a fault of the studio, say nothing of the link.
+            what = "judged" if "fault" in found else "read"
+            yield f"{number}: can't be {what}: {found['wrong']}", False
 
 
-def judged_link(link):
+def judged_link(link: str) -> str:
     """What is said of a link."""
-    pairs = [part.partition("=") for part in urlsplit(link).fragment.split("&")]
-    given = {name: value for name, _, value in pairs}
-    if given.get("dare") not in DARES:
+    host, mark, place = link.partition("#")
+    if not mark:
+        raise Wrong(f"`{shown(host)}` has no #, after which an address says what it shows")
+    opened = opened_by(place)
+    opened.address.refuse()
+    values = opened.address.values
+    if "dare" not in values:
         raise Wrong("it has no dare")
-    asked = given | {"network": network_text(given)}
-    rules = rules_asked(asked, OF_SCHEDULES)
-    steps = given.get("steps", "").split("_")
-    found = judged(network_asked(asked), program_asked(asked), rules, steps, given["dare"])
+    if opened.text is None:
+        raise Wrong("it has no network")
+    asked = {"network": opened.text, "program": program_named(values)}
+    network = network_asked(asked)
+    rules = tuple(values["without"].split(",")) if "without" in values else ()
+    found = judged(
+        network, program_asked(asked, network), rules, values.get("steps", []), values["dare"]
+    )
     without = f" without {','.join(rules)}" if rules else ""
     verdict = "won" if found["won"] else "not won"
-    return f"{verdict}: {given['dare']}{without}: {found['said']}"
-
-
-def network_text(given):
-    """The network of an address in the DIMACS format."""
-    if "example" not in given:
-        return text_of_code(given.get("net", ""))
-    return example_text(given["example"])
-
-
-def text_of_code(code):
-    """Of `x.y_x.y~1-2_1-3~i1-17~b1-3`: the places, the edges, and then identifiers and bars; names aren't needed."""
-    places, _, rest = code.partition("~")
-    edges, *more = rest.split("~")
-    lines = [f"e {pair.replace('-', ' ')}" for pair in edges.split("_") if pair]
-    nodes = sum(1 for place in places.split("_") if place)
-    head = f"p edge {nodes} {len(lines)}"
-    for part in more:
-        if part[:1] in ("i", "b"):
-            lines += [f"{part[0]} {pair.replace('-', ' ')}" for pair in part[1:].split("_")]
-    if not all(re.fullmatch(r"[eib] \d+ \d+", line) for line in lines):
-        raise Wrong("it has no network that can be read")
-    text = "\n".join([head, *sorted(lines, key=lambda line: "ibe".index(line[0]))]) + "\n"
-    read_network(text, "its network")
-    return text
+    return f"{verdict}: {values['dare']}{without}: {found['said']}"

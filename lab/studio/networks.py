@@ -1,9 +1,10 @@
 """The calls on networks: what there is, examples, files, networks that are made, and layouts."""
-import base64
 import os
 import re
 from argparse import ArgumentParser
+from dataclasses import dataclass
 from math import isqrt, prod
+from typing import Any
 
 from lab.definitions.programs import MAX_PASSES, PROGRAMS
 from lab.networks.kinds import KINDS
@@ -17,8 +18,10 @@ from lab.pictures.places import places_of
 from lab.programs import TOP
 from lab.schedules.policies import POLICIES
 from lab.schedules.rules import OF_PROGRAMS, OF_SCHEDULES
+from lab.studio.address import NAMES, Address, Here, lesson_opened, pairs_of, read_values
 from lab.studio.asked import MOST_DRAWN, OPENED, network_asked
 from lab.studio.dares import DARES
+from lab.studio.drawn import drawn_of
 from lab.studio.lessons import lecture, lessons
 from lab.wrong import Wrong
 
@@ -58,6 +61,8 @@ def hello(_asked, _tell):
         "lessons": lessons(),
         "lecture": lecture(),
         "dares": DARES,
+        # How the page writes what an address has, by its name.
+        "address": {name: of.written for name, of in NAMES.items()},
     }
 
 
@@ -76,17 +81,64 @@ def example(asked, _tell):
     return shown(read_network(example_text(asked["name"]), asked["name"]))
 
 
+@dataclass
+class Opened:
+    """What an address opens. `text` is its network in the DIMACS format and `network` the same for the page; both are
+    None if it has none, and then the address is of the network that was there before."""
+
+    address: Address
+    text: str | None
+    network: dict[str, Any] | None
+
+
+def opened_by(place: str, before: Here = Here()) -> Opened:
+    """What an address opens, after the `#`; refused if its network can't be read."""
+    pairs, unread = pairs_of(place)
+    pairs = lesson_opened(pairs)
+    text = network = None
+    if "example" in pairs and "net" in pairs:
+        raise Wrong("the address has an example and a network: one of them")
+    if "example" in pairs:
+        text = example_text(pairs["example"])
+        network = shown(read_network(text, pairs["example"]))
+    elif "net" in pairs:
+        drawn = drawn_of(pairs["net"])
+        text, network = drawn.text(), drawn.for_page()
+    elif {"example", "net"} & set(unread):
+        raise Wrong("the address has two networks: one of them")
+    here = before if network is None else here_of(network)
+    return Opened(read_values(pairs, unread, here), text, network)
+
+
+def here_of(network: dict[str, Any]) -> Here:
+    """What the values of an address are of, of a network as the page has it."""
+    return Here(len(network["nodes"]), {(v, w) for v, w in network["edges"]})
+
+
+def address(asked, _tell):
+    """What an address says, for the page that follows it: `nodes` and `edges` are those that it has."""
+    before = OPENED["network"]
+    here = Here(asked["nodes"], {(v, w) for v, w in asked["edges"]})
+    if not asked["nodes"] and before:
+        here = here_of(before)
+    opened = opened_by(asked["place"], here)
+    return {
+        "network": opened.network,
+        "values": opened.address.values,
+        "unread": opened.address.faults(),
+    }
+
+
 def file_read(asked, _tell):
     """A file that was dropped on the page, or the page's question if something of it isn't stated.
 
     What is stated are the words of a command line.
     """
-    name = str(asked["name"])[:MOST_NAME]
+    name = asked["name"][:MOST_NAME]
     try:
-        words = map(str, asked.get("stated") or [])
-        stated = stated_by(command_line().parse_args(list(words)))
+        stated = stated_by(command_line().parse_args(list(asked["stated"])))
         form = form_of(name, name, stated)
-        return shown(*read_any(base64.b64decode(asked["data"]), name, form, stated))
+        return shown(*read_any(asked["data"], name, form, stated))
     except Unsaid as why:
         choices = [{"stated": words, "means": means} for words, means in why.choices]
         asks = {"choices": choices, "wanted": why.wanted, "titles": why.titles}
@@ -108,8 +160,8 @@ def command_line():
     return options
 
 
-def whole_number(said, name):
-    if not re.fullmatch("[0-9]{1,9}", str(said)):
+def whole_number(said: str, name: str) -> int:
+    if not re.fullmatch("[0-9]{1,9}", said):
         raise Wrong(f"{name}: a whole number from 0 to 999,999,999 is asked for")
     return int(said)
 

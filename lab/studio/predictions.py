@@ -8,27 +8,35 @@ from lab.pictures.watch_page import look_of
 from lab.pictures.why_picture import Cone, choice_lines
 from lab.schedules.rules import OF_SCHEDULES
 from lab.schedules.stepwise import Stepwise
-from lab.studio.asked import MOST_ROUNDS, MOST_RUN, network_asked, program_asked, rules_asked
+from lab.studio.asked import (
+    MOST_ROUNDS,
+    MOST_RUN,
+    network_asked,
+    program_asked,
+    rules_asked,
+    vertex_asked,
+)
 from lab.words import in_words
 from lab.wrong import Wrong
 
 
 def predict(asked, _tell):
     """{right, found, why} of what is said of a node after a pulse; of the colouring in a forest, or in its merge."""
-    network, program = network_asked(asked, MOST_ROUNDS), program_asked(asked)
-    v, pulse = int(asked["vertex"]), int(asked["pulse"])
-    if v not in network.vertices or not 1 <= pulse <= program.last_pulse(network):
-        raise Wrong("there is no such node, or no such pulse")
+    network = network_asked(asked, MOST_ROUNDS)
+    program = program_asked(asked, network)
+    v, pulse, last = vertex_asked(asked, network), asked["pulse"], program.last_pulse(network)
+    if not 1 <= pulse <= last:
+        raise Wrong(f"the field pulse: there is no pulse {pulse}, only 1 to {last}")
     if program is Colouring:
-        found, why = of_colouring(Rounds(network), v, pulse, int(asked.get("forest") or 0))
+        found, why = of_colouring(Rounds(network), v, pulse, asked["forest"])
     else:
         found, why = of_program(ProgramRounds(network, program), v, pulse)
     return {"right": words(asked["said"]) == words(found), "found": found, "why": why}
 
 
-def words(said):
+def words(said: str) -> str:
     """As it is compared: in small letters, with single blanks."""
-    return " ".join(str(said).lower().split())
+    return " ".join(said.lower().split())
 
 
 def of_colouring(rounds, v, pulse, forest):
@@ -38,7 +46,7 @@ def of_colouring(rounds, v, pulse, forest):
     if pulse < SEED or not rounds.forests:
         raise Wrong("no node has a colour yet: go on to pulse 1")
     if forest not in range(rounds.forests):
-        raise Wrong(f"there is no forest {forest}")
+        raise Wrong(f"the field forest: there is no forest {forest}")
     causes = Cone(rounds, v).causes_of_colour(v, forest, pulse)
     why = SAY[now.phase].format(9 - pulse // 2)
     return (
@@ -75,14 +83,14 @@ def of_program(rounds, v, pulse):
 
 def waits(asked, _tell):
     """The same of what a node waits for after some steps, as `ack 2, safe 3`: the word, and of whom."""
-    network, v = network_asked(asked, MOST_RUN), int(asked["vertex"])
-    if v not in network.vertices:
-        raise Wrong(f"there is no node {v}")
-    player = Stepwise(network, program_asked(asked), rules_asked(asked, OF_SCHEDULES))
-    player.follow(str(asked.get("steps") or "").split("_"))
+    network = network_asked(asked, MOST_RUN)
+    v = vertex_asked(asked, network)
+    program = program_asked(asked, network)
+    player = Stepwise(network, program, rules_asked(asked, OF_SCHEDULES))
+    player.follow(asked["steps"].split("_"))
     look = look_of(player.state, v)
     found = sorted(f"{what} {w}" for what, w in look["w"])
-    said = sorted(filter(None, map(words, str(asked["said"]).split(","))))
+    said = sorted(filter(None, map(words, asked["said"].split(","))))
     if not found:
         done = "It has made its last pulse." if look["e"] else "It has all that it needs."
         return {"right": said in ([], ["nothing"]), "found": "nothing", "why": done}

@@ -12,7 +12,7 @@ from lab.pictures.picture import Source, Text, drawing
 from lab.pictures.program_rounds import ProgramRounds
 from lab.schedules.ruled_rounds import ruled, smallest_wrong
 from lab.schedules.rules import OF_PROGRAMS
-from lab.studio.asked import MOST_ROUNDS, network_asked, program_asked, rules_asked
+from lab.studio.asked import MOST_ROUNDS, network_asked, program_asked, rules_asked, vertex_asked
 from lab.studio.judges import plan_of, rounds_of, verdict_on
 from lab.wrong import Wrong
 
@@ -37,7 +37,9 @@ def plan(asked, _tell):
 def check(asked, _tell):
     """The verdict on a plan, whoever made it, and what its code means."""
     network = network_asked(asked)
-    channels = {v: int(channel) for v, channel in zip(network.vertices, asked["plan"]) if channel}
+    if len(asked["plan"]) > network.nodes or min(asked["plan"], default=0) < 0:
+        raise Wrong(f"the field plan: a channel from 0 on is asked for of {network.nodes} nodes")
+    channels = {v: channel for v, channel in zip(network.vertices, asked["plan"]) if channel}
     said = verdict_on(network, asked["network"], channels)
     if said.startswith("proper"):
         return {"ok": True, "said": said, "at": []}
@@ -61,7 +63,8 @@ def of_nodes(words):
 
 
 def rounds_asked(asked):
-    network, program = network_asked(asked, MOST_ROUNDS), program_asked(asked)
+    network = network_asked(asked, MOST_ROUNDS)
+    program = program_asked(asked, network)
     if program is not Colouring:
         return ProgramRounds(network, program)
     return rounds_of(network, asked["network"])
@@ -80,7 +83,7 @@ def rounds_page(asked, _tell):
 def why(asked, _tell):
     """Why a node has its channel."""
     network = network_asked(asked, MOST_ROUNDS)
-    cone = why_picture.Cone(Rounds(network), int(asked["vertex"]))
+    cone = why_picture.Cone(Rounds(network), vertex_asked(asked, network))
     return {
         "lines": why_picture.text(cone).splitlines(),
         "identifiers": cone.identifiers(),
@@ -91,7 +94,8 @@ def why(asked, _tell):
 def broken(asked, _tell):
     """What the rounds of this network do without a rule, in words; and a picture of it, or of a smallest network on
     which they go wrong, if there is one."""
-    network, program = network_asked(asked, MOST_ROUNDS), program_asked(asked)
+    network = network_asked(asked, MOST_ROUNDS)
+    program = program_asked(asked, network)
     without = rules_asked(asked, OF_PROGRAMS.get(program.name, {}))
     if not without:
         raise Wrong("which rule is left out?")
@@ -114,17 +118,21 @@ def broken(asked, _tell):
 def picture(asked, _tell):
     """A picture, as the command `picture` draws it."""
     kind, network, texts = asked["kind"], network_asked(asked), []
-    if kind not in KINDS:
-        raise Wrong(f"there is no picture {kind}")
     if kind == "plan":
         texts = [Text("the plan", plan_of(network, asked["network"]))]
     if kind == "run":
-        texts = [Text("the run", str(asked["transcript"]))]
-    pulses = tuple(int(pulse) for pulse in asked.get("pulses") or ()) or None
+        if asked["transcript"] is None:
+            raise Wrong("the call lacks its field transcript: a picture of a run is of one")
+        texts = [Text("the run", asked["transcript"])]
+    if asked["vertex"] is not None:
+        vertex_asked(asked, network)
+    pulses = tuple(asked["pulses"])
+    if len(pulses) not in (0, 2):
+        raise Wrong("the field pulses: the first and the last one are asked for, or none")
     return drawing(
         kind,
-        Source(network, program_asked(asked), texts, title=network.name),
-        forest=asked.get("forest"),
-        vertex=asked.get("vertex"),
-        pulses=pulses,
+        Source(network, program_asked(asked, network), texts, title=network.name),
+        forest=asked["forest"],
+        vertex=asked["vertex"],
+        pulses=pulses or None,
     )

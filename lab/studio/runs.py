@@ -6,16 +6,16 @@ from lab.definitions.nodes import Colouring
 from lab.definitions.programs import program_words
 from lab.pictures.program_rounds import is_own, least_wires, rounds_of
 from lab.pictures.watch_page import MOST_ENTRIES, Run, Steps, draw, look_of, run_of_text
-from lab.schedules.policies import POLICIES, Policy
+from lab.schedules.policies import Policy
 from lab.schedules.rules import OF_SCHEDULES
 from lab.schedules.simulate import Player, events_of, text_of_run
 from lab.schedules.stepwise import Stepwise
 from lab.studio.asked import (
     MOST_DRAWN,
     MOST_RUN,
+    MOST_STEPS,
     OPENED,
     network_asked,
-    pairs_asked,
     program_asked,
     rules_asked,
 )
@@ -29,15 +29,15 @@ MOST_WIRES_PLAYED = 60_000
 # A part of a run is shown after so many entries, while the rest is worked out.
 PART = 1_500
 KINDS = "payload", "ack", "safe", "close"
-MOST_STEPS, MOST_BY_CHANCE = 6_000, 200
+MOST_BY_CHANCE = 200
 
 
 def held_of(asked, net):
     """The links and nodes that wait."""
-    slow = {tuple(sorted(edge)) for edge in pairs_asked(asked.get("slow", []))}
-    lazy = {int(v) for v in asked.get("lazy", [])}
+    slow = {tuple(sorted(edge)) for edge in asked["slow"]}
+    lazy = set(asked["lazy"])
     if not slow <= set(net.edges) or not lazy <= set(net.neighbours):
-        raise Wrong("a link or a node that waits isn't in this network")
+        raise Wrong("the fields slow, lazy: a link or a node that waits isn't in this network")
     return slow, lazy
 
 
@@ -48,14 +48,10 @@ def played(asked, network, program, tell):
         raise Wrong(
             f"a run has more than {most:,} wires: take the threads, since a seeded run is played slowly"
         )
-    if asked["policy"] not in POLICIES:
-        raise Wrong(f"there is no policy {asked['policy']}")
+    if asked["policy"] is None:
+        raise Wrong("the call lacks its field policy: a run by a seed has one")
     policy = Policy(
-        asked["policy"],
-        network.vertices,
-        network.edges,
-        str(asked.get("seed", "1")),
-        *held_of(asked, network),
+        asked["policy"], network.vertices, network.edges, asked["seed"], *held_of(asked, network)
     )
     player = Player(network, program)
     made = Steps(player.state)
@@ -77,11 +73,10 @@ def played(asked, network, program, tell):
 
 def first_steps(asked, net, program):
     """(kind, vertex, port) of the events that steps of somebody's come to."""
-    steps = str(asked.get("steps") or "")
-    if not steps:
+    if not asked["steps"]:
         return  # even the greetings are the policy's, as `forestlab simulate` plays them
     stepwise = Stepwise(net, program)
-    stepwise.follow(steps.split("_"))
+    stepwise.follow(asked["steps"].split("_"))
     for _, kind, v, port, _ in events_of("\n".join(stepwise.lines), "the steps"):
         yield kind, v, port
 
@@ -98,7 +93,7 @@ def by_threads(asked, program):
     words = (
         ["transcript"] if program is Colouring else ["run", "--transcript", *program_words(program)]
     )
-    workers, capacity = int(asked.get("workers", 4)), int(asked.get("capacity", 4))
+    workers, capacity = asked["workers"], asked["capacity"]
     return text_from(
         name, [*words, f"--workers={workers}", f"--capacity={capacity}"], asked["network"]
     )
@@ -107,11 +102,11 @@ def by_threads(asked, program):
 def run(asked, tell):
     """A run: its transcript, the rows that the page follows, the judge's verdict, and whether its payloads are those of
     the rounds."""
-    program = program_asked(asked)
     network = network_asked(asked, MOST_RUN)
-    if asked.get("transcript"):
-        text, found = str(asked["transcript"]), None
-    elif asked.get("how") == "threads" and not is_own(program):
+    program = program_asked(asked, network)
+    if asked["transcript"]:
+        text, found = asked["transcript"], None
+    elif asked["how"] == "threads" and not is_own(program):
         text, found = by_threads(asked, program), None
     else:
         text, found = played(asked, network, program, tell)
@@ -134,15 +129,16 @@ def run(asked, tell):
 
 def run_page(asked, _tell):
     """The same of a run, as the command `picture watch` draws it."""
-    network, program = network_asked(asked, MOST_RUN), program_asked(asked)
-    return draw([run_of_text("the run", str(asked["transcript"]), network, program=program)])
+    network = network_asked(asked, MOST_RUN)
+    program = program_asked(asked, network)
+    return draw([run_of_text("the run", asked["transcript"], network, program=program)])
 
 
 def singled_out(asked, network):
     """The link or the node that the policy has chosen by its seed, if it chooses one."""
-    if asked.get("transcript") or asked.get("how") == "threads":
+    if asked["transcript"] or asked["how"] == "threads":
         return None
-    policy = Policy(asked["policy"], network.vertices, network.edges, str(asked.get("seed", "1")))
+    policy = Policy(asked["policy"], network.vertices, network.edges, asked["seed"])
     of = policy.chosen
     return of and (f"node {of}" if isinstance(of, int) else "the link {}–{}".format(*of))
 
@@ -163,20 +159,17 @@ def replay(asked, _tell):
     """What the judge says of the first entries of a run: it plays them, and says where each node is. Without stamps a
     beginning of a run is no fault."""
     network = network_asked(asked, MOST_RUN)
-    lines = str(asked["transcript"]).splitlines()
+    lines = asked["transcript"].splitlines()
     entries = [line.partition(" ")[2] for line in lines[1:]]
     return {"entries": len(entries)} | beginning_judged(
-        network, asked["network"], entries, program_asked(asked)
+        network, asked["network"], entries, program_asked(asked, network)
     )
 
 
 def judge(asked, _tell):
     """What is said of a transcript, whoever wrote it: in words by the definitions, and by the proved machine."""
-    program, network, text = (
-        program_asked(asked),
-        network_asked(asked, MOST_DRAWN),
-        str(asked["transcript"]),
-    )
+    network, text = network_asked(asked, MOST_DRAWN), asked["transcript"]
+    program = program_asked(asked, network)
     proved = judged(network, asked["network"], text, program) if OPENED["is_proved"] else None
     return by_definitions(network, text, program) | {
         "proved": proved,
@@ -186,23 +179,25 @@ def judge(asked, _tell):
 
 def follow(player, asked, held):
     """Makes the steps that are listed, and plays what is left to chance, with some links and nodes held up."""
-    if "list" in asked:
-        player.follow_list(str(asked["list"]))
+    if asked["list"] is not None:
+        player.follow_list(asked["list"])
     else:
-        player.follow(str(asked.get("steps") or "").split("_"))
+        player.follow(asked["steps"].split("_"))
     if len(player.chosen) > MOST_STEPS:
         raise Wrong(f"at most {MOST_STEPS:,} steps are made by hand; No clock plays the rest")
-    if asked.get("by"):
-        player.by_chance(min(int(asked["by"]), MOST_BY_CHANCE), str(asked.get("seed", "1")), *held)
-    if asked.get("in_step"):
+    if asked["by"]:
+        player.by_chance(min(asked["by"], MOST_BY_CHANCE), asked["seed"], *held)
+    if asked["in_step"]:
         player.in_step(*held)
 
 
 def steps(asked, _tell):
     """A run that is made step by step: where it is after some steps, or the events of a `list`, and what can come next.
     `by` steps more are left to chance, or up to all nodes' next pulse `in step`."""
-    network, program = network_asked(asked, MOST_RUN), program_asked(asked)
-    player = Stepwise(network, program, rules_asked(asked, OF_SCHEDULES))
+    network = network_asked(asked, MOST_RUN)
+    program = program_asked(asked, network)
+    without = rules_asked(asked, OF_SCHEDULES)
+    player = Stepwise(network, program, without)
     follow(player, asked, held_of(asked, network))
     wires = [[v, w, player.words_on(v, w)] for v in network.vertices for w in network.neighbours[v]]
     told = {
@@ -217,10 +212,9 @@ def steps(asked, _tell):
         "list": player.lines,
         "entries": len(player.made),
     }
-    if asked.get("dare"):
-        without = rules_asked(asked, OF_SCHEDULES)
+    if asked["dare"]:
         told["dare"] = dare_judged(network, program, without, player.chosen, asked["dare"])
-    if asked.get("without") or player.is_over:
+    if without or player.is_over:
         return told
     lines = [line_of(entry) for entry in player.made]
     return told | {"judge": beginning_judged(network, asked["network"], lines, program)}

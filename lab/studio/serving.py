@@ -6,13 +6,11 @@ call has its own limits of time and memory, none disturbs another one, and nothi
 process ends, with all that it has started, when the browser hangs up: that is how a page cancels a call. An answer is
 lines of JSON: how far it is, then what came out."""
 import contextlib
-import gc
 import hmac
 import http.server
 import json
 import os
 import re
-import resource
 import select
 import signal
 import socket
@@ -24,8 +22,10 @@ import traceback
 
 from lab.pictures import pages
 from lab.programs import TOP
-from lab.studio import calls
+from lab.studio import limits
 from lab.studio.building import Building
+from lab.studio.calls import CALLS
+from lab.studio.fields import object_of
 from lab.wrong import Wrong
 
 HOST = "127.0.0.1"
@@ -40,8 +40,8 @@ KINDS = {
     ".js": "text/javascript",
     ".svg": "image/svg+xml",
 }
-# In bytes, seconds of the clock, seconds of processor time, and bytes.
-MOST_ASKED, SECONDS, PROCESSOR_SECONDS, MEMORY = 8 << 20, 120, 110, 2 << 30
+# Bytes of a call.
+MOST_ASKED = 8 << 20
 # A browser opens connections on which it says nothing yet.
 SECONDS_TO_ASK, MOST_AT_ONCE = 10, 32
 NO_TOKEN = (
@@ -109,15 +109,6 @@ class Answer:
         elif time.monotonic() - self.told > 0.1:
             self.told = time.monotonic()
             self.line(done=done, of=of)
-
-
-def object_of(body):
-    """The object in JSON that a body is, or None."""
-    try:
-        found = json.loads(body)
-    except (ValueError, RecursionError):
-        return None
-    return found if isinstance(found, dict) else None
 
 
 class Handler(http.server.BaseHTTPRequestHandler):
@@ -202,50 +193,24 @@ class Handler(http.server.BaseHTTPRequestHandler):
             return self.refuse(413, f"A call has at most {MOST_ASKED:,} bytes.")
         body = self.rfile.read(int(length))
         signal.alarm(0)
-        if way != "call" or name not in calls.CALLS:
+        if way != "call" or name not in CALLS:
             return self.refuse(404, "There is no such call.")
-        asked = object_of(body)
-        if asked is None:
-            return self.refuse(400, "A call is an object in JSON.")
+        try:
+            asked = object_of(body)
+        except Wrong as why:
+            return self.refuse(400, f"{why}.")
         self.headed(200, "application/x-ndjson")
         answer = Answer(self)
         with limited(self, lambda why: answer.line(wrong=why)):
-            found = outcome(calls.CALLS[name], asked, answer.tell)
+            found = limits.outcome(lambda: CALLS[name].answer(asked, answer.tell))
+        found.pop("fault", None)
         return answer.line(**found)
-
-
-def outcome(call, asked, tell):
-    """What a call gives, or why it gives nothing."""
-    try:
-        return {"answer": call(asked, tell)}
-    except Wrong as why:
-        return {"wrong": str(why)}
-    except MemoryError:
-        return {"wrong": "it took too much memory, so it was ended"}
-    except Exception as why:  # noqa: BLE001
-        at = traceback.extract_tb(why.__traceback__)[-1]
-        return {
-            "wrong": f"a fault of the studio itself: {type(why).__name__}: {why} "
-            f"({os.path.basename(at.filename)} line {at.lineno})"
-        }
 
 
 @contextlib.contextmanager
 def limited(handler, say):
     """This process gets its limits, and ends if the browser hangs up, the server ends or time is up."""
-    os.setpgid(0, 0)
-    signal.signal(signal.SIGINT, signal.SIG_IGN)
-    signal.pthread_sigmask(signal.SIG_UNBLOCK, {signal.SIGINT})
-    gc.disable()
-    # What pictures note for a terminal is for nobody here; and files can't grow any more.
-    sys.stderr = open(os.devnull, "w", encoding="utf-8")
-    for what, most in (
-        (resource.RLIMIT_AS, MEMORY),
-        (resource.RLIMIT_CPU, PROCESSOR_SECONDS),
-        (resource.RLIMIT_FSIZE, 0),
-        (resource.RLIMIT_CORE, 0),
-    ):
-        resource.setrlimit(what, (most, most))
+    limits.begin()
     done = threading.Event()
     threading.Thread(target=watch, args=(handler, done, say), daemon=True).start()
     try:
@@ -256,12 +221,12 @@ def limited(handler, say):
 
 def watch(handler, done, say):
     """Ends this process, and what it has started, when nobody waits for it any more."""
-    connection, until = handler.connection, time.monotonic() + SECONDS
+    connection, until = handler.connection, time.monotonic() + limits.SECONDS
     while not done.wait(0.1):
         is_late = time.monotonic() > until
         if is_late:
             with contextlib.suppress(OSError):
-                say(f"it took more than {SECONDS} seconds, so it was ended")
+                say(limits.TOO_LATE)
                 connection.shutdown(socket.SHUT_RDWR)
         if is_late or has_hung_up(connection) or os.getppid() != handler.server.process:
             os.killpg(0, signal.SIGKILL)

@@ -16,7 +16,7 @@ from lab.studio.building import are_built
 from lab.studio.links import judge
 from lab.studio.networks import shown
 from lab.studio.serving import Server
-from lab.words import parser_of, text_at, text_name
+from lab.words import one_line, parser_of, text_at, text_name
 from lab.wrong import Wrong
 
 PORT, NEXT_PORTS = 8321, 20
@@ -43,10 +43,11 @@ the page names no file, it has the choice between those given here. It is run as
 with your rights.
 
 With --links it opens nothing: it judges links that a class hands in, a line each, of the
-tab Adversary with a dare in it, and says which are won.
+tab Adversary with a dare in it, and says which are won. A link that can't be read has a
+line with the reason. Each link may take 120 seconds and 2 GB, as a call of the page.
 
-Status: 0 ended by Ctrl-C, or all links could be read, 1 the network or a link can't be
-read or the port is taken, 2 the command line is refused.
+Status: 0 ended by Ctrl-C, or all links could be judged, 1 the network or a link can't be
+read, a link takes too much, or the port is taken, 2 the command line is refused.
 
 Example:
   forestlab studio petersen
@@ -132,7 +133,7 @@ def opened(path):
 def main(words):
     given = command_line().parse_args(words)
     if given.links is not None:
-        return judge_links(given.links)
+        return judge_links(given)
     with tempfile.TemporaryDirectory(prefix="forestplan-studio-") as folder:
         try:
             if given.network is not None:
@@ -150,15 +151,18 @@ def main(words):
         return serve(server, None if given.no_browser or not can_open() else folder)
 
 
-def judge_links(path):
+def judge_links(given):
     """Says of each link of a file whether it wins its dare."""
+    are_judged = True
     try:
-        said, are_read = judge(text_at(path).splitlines())
+        OPENED.update(own=own_programs(given.own))
+        for said, is_judged in judge(text_at(given.links).split("\n")):
+            print(one_line(said), flush=True)
+            are_judged = are_judged and is_judged
     except Wrong as why:
         print(f"studio: {why}", file=sys.stderr)
         return 1
-    print("\n".join(said))
-    return 0 if are_read else 1
+    return 0 if are_judged else 1
 
 
 def serve(server, folder):

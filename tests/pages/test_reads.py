@@ -120,6 +120,7 @@ READS = {
         "Handler.do_POST: self.rfile.read",
     ): "8 MiB: `MOST_ASKED`, looked at before",
     ("lab/studio/serving.py", "has_hung_up: connection.recv"): "one byte, which is left there",
+    ("lab/studio/limits.py", "all_of: os.read"): "1 MiB (MOST_SAID), and 64 KiB of the next part",
     # What the system says.
     ("lab/progress.py", "fields_of: open"): "a line of /proc",
     ("lab/progress.py", "fields_of: file.read"): "a line of /proc",
@@ -180,7 +181,7 @@ READS = {
     ("lab/words.py", "write_apart: open"): WRITTEN,
     ("lab/door.py", "run: os.open"): WRITTEN,
     ("lab/studio/building.py", "Building.look: open"): WRITTEN,
-    ("lab/studio/serving.py", "limited: open"): WRITTEN,
+    ("lab/studio/limits.py", "begin: open"): WRITTEN,
     ("lab/studio/studio.py", "open_browser: open"): WRITTEN,
     ("lab/studio/studio.py", "open_browser: os.open"): WRITTEN,
     ("lab/studio/studio.py", "open_browser: webbrowser.open"): "a browser opens it",

@@ -149,7 +149,9 @@ class Page(Case):
         self.value, self.click_on = self.page.value, self.page.click_on
 
     def go_to(self, words):
+        """Has the page follow an address, and waits until it has."""
         self.value(f"location.hash = {json.dumps(words)}")
+        self.page.until("!studio.isFollowing()", 40)
 
     def at(self, place):
         """A place of the stage in the window: that of a node, or the middle of an edge."""
@@ -720,16 +722,16 @@ class Drawn(Page):
         two = "net=0.0_90.0~1-2"
         for words, said in (
             ("net=0.0_90.0~1-1", "a wrong edge"),
-            ("net=x", "no network"),
-            (two + "~n1-%E0", "can’t be read"),
-            (two + "_1-2", "a wrong edge"),
-            (two + "&tab=run&seed=%", "can’t be read"),
+            ("net=x", "a place is X.Y"),
+            (two + "~n1-%E0", "stands for no letter"),
+            (two + "_1-2", "the edge `1-2` twice"),
+            (two + "&tab=run&seed=%", "seed=% (the % in"),
             ("example=../x", "no example"),
-            (two + "&tab=rounds&forest=99&node=9&at=-1", "left out: forest=99, node=9, at=-1."),
+            (two + "&tab=rounds&forest=99&node=9&at=-1", "left out: node=9 (there is no node 9"),
             (two + "&tab=constructor", "tab=constructor"),
             (
                 two + "&tab=run&policy=constructor&slow=1-9_x&lazy=9_x",
-                "policy=constructor, slow=1-9_x, lazy=9_x",
+                "slow=1-9_x (there is no link 1-9), lazy=9_x (there is no node 9",
             ),
             (two + "&tab=adversary&without=toString", "without=toString"),
             (two + "&tab=pictures&kind=toString", "kind=toString"),

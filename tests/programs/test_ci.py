@@ -12,7 +12,7 @@ TEST = "#!/bin/sh\necho said by the test\necho 3 passed, 1 failed\nexit 1\n"
 # Packages whose command is called as they are, and all others.
 BY_NAME = "black flake8 mypy zsh groff chromium"
 ALL = (
-    "black flake8 mypy bubblewrap zsh graphviz groff binutils default-jdk-headless chromium "
+    "black flake8 mypy bubblewrap zsh graphviz groff binutils default-jdk-headless nodejs chromium "
     "python3-networkx python3-scipy python3-igraph python3-pandas python3-matplotlib python3-hypothesis"
 )
 

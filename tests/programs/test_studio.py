@@ -158,13 +158,14 @@ class Refusals(Server):
             self.refuses(f"example {name}", "no example", "example", name=name)
         for name in ("/x.py", "x.py", "examples/algorithms/independent_set.py", "?"):
             for call in ("run", "steps", "rounds"):
-                asked = {"network": TRIANGLE, "program": name, "policy": "random"}
+                asked = {"network": TRIANGLE, "program": name}
+                asked |= {"policy": "random"} if call == "run" else {}
                 self.refuses(f"{call} of program {name}", "no program", call, **asked)
         rows = [
             ("run", {"policy": "random", "slow": [[1, 9]]}, "isn't in this network"),
             ("plan", {"network": "p edge 2 1\ne 1 3\n"}, "(F5)"),
             ("broken", {"without": "x"}, "no such rule"),
-            ("picture", {"kind": "x"}, "there is no picture x"),
+            ("picture", {"kind": "x"}, "there is no x"),
             ("picture", {"kind": "results", "program": "matching passes 2"}, "not for matching"),
             ("picture", {"kind": "results", "program": "recolouring passes 65"}, "1 to 64 passes"),
             ("steps", {"without": "x"}, "no such rule"),
@@ -174,8 +175,17 @@ class Refusals(Server):
         ]
         for call, asked, words in rows:
             self.refuses(f"{call} {asked}", words, call, **{"network": TRIANGLE} | asked)
-        for asked in ({}, {"network": 7}, {"network": TRIANGLE, "vertex": "x"}):
-            self.note(f"nonsense {asked}", "wrong" in self.answer("why", **asked))
+        for asked, words in (
+            ({}, "lacks its field network"),
+            ({"network": 7}, "field network of the call: a text"),
+            ({"network": TRIANGLE}, "lacks its field vertex"),
+            ({"network": TRIANGLE, "vertex": "x"}, "field vertex of the call: a whole number"),
+            ({"network": TRIANGLE, "vertex": 4}, "field vertex: there is no node 4"),
+            ({"network": TRIANGLE, "vertex": 1, "vertx": 1}, "no field vertx"),
+        ):
+            self.refuses(f"nonsense {asked}", words, "why", **asked)
+        twice = self.ask("/call/why", '{"vertex": 1, "vertex": 2}')
+        self.note("a field twice", twice[0] == 400 and "vertex twice" in twice[1], twice)
         for size in ("", "1e2", "-1", None, float("inf"), 401):
             got = self.answer("make", kind="ring", sizes={"nodes": size})
             self.note(f"a ring of {size}", "fault" not in got.get("wrong", "fault"), got)
@@ -226,7 +236,7 @@ class Memory(Server):
         asked = {"network": TRIANGLE, "program": "independent_set", "policy": "random"}
         judge = self.found("run", **asked)["judge"]
         self.same("one's own program", (judge["ok"], judge["by"]), (True, "Python (not proved)"))
-        asked["program"] = "hungry"
+        asked = {"network": TRIANGLE, "program": "hungry"}
         self.refuses("3 GB are refused", "MemoryError", "rounds", **asked)
         self.note("still there", self.answer("hello").get("answer"))
 
@@ -435,9 +445,8 @@ class Answers(Server):
 
     def test_passes_of_a_run(self):
         """A run of two passes ends at pulse 18 + 2 · 2 on an edge, and its text is no run of one pass."""
-        asked = {"network": EDGE, "policy": "random", "seed": "1"}
-        two = {"program": "recolouring passes 2"}
-        text = self.found("run", **two, **asked)["text"]
+        asked, two = {"network": EDGE}, {"program": "recolouring passes 2"}
+        text = self.found("run", **two, **asked, policy="random", seed="1")["text"]
         got = self.answer("picture", kind="run", transcript=text, **two, **asked)
         self.note("run of two passes", "</svg>" in got.get("answer", ""), got)
         self.note("its last pulse", " of 22" in got.get("answer", ""), got)

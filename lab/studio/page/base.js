@@ -49,6 +49,8 @@ export function hide(id, isHidden) { by(id).toggleAttribute("hidden", isHidden);
 export function show() { hooks.show(); }
 export function go(tab, more) { hooks.go(tab, more); }
 export const KEYS = matchMedia("(pointer: coarse)").matches ? "" : "Space plays, arrows step.";
+// The place of the slider, as an address has it.
+export function timeAt() { return Math.round(time.at * 100) / 100; }
 // What a screen reader says: at most once a second, and nothing while it plays.
 let announcing = null, announced = 0;
 export function announce(words) {
@@ -157,12 +159,11 @@ export function zoomPicture(by_) {
 }
 export function capital(said) { return said[0].toUpperCase() + said.slice(1); }
 export function count(n, what) { return `${n.toLocaleString("en")} ${what}${n === 1 ? "" : "s"}`; }
-// What an address says: a name among others, or nothing; a number from 0; a list; and edges, as 2-3_4-5.
-export function among(of, name) { return Object.hasOwn(of, name) ? name : ""; }
+// What a field says: a number from 0; of rules, with commas between, those that a program has.
 export function whole(said) { return /^\d{1,6}$/.test(said) ? +said : 0; }
-export function rulesOf(of, said) { return (said || "").split(",").filter(name => Object.hasOwn(of, name)).join(); }
-export function listOf(said) { return (said || "").split("_").filter(Boolean); }
-export function edgesOf(said) { return listOf(said).map(pair => pair.split("-").map(Number)); }
+export function rulesOf(of, said) { return said.split(",").filter(name => Object.hasOwn(of, name)).join(); }
+// The two ends of an edge that is written as 2-3.
+export function endsOf(edge) { return edge.split("-").map(Number); }
 // A click on an edge has its link wait, or no more; and so with a node.
 export function toggle(list, one) {
   const rest = seen[list].filter(other => String(other) !== String(one));

@@ -1,5 +1,5 @@
 // The tab Check: a plan that is typed or clicked, with the verdict on it, and transcripts.
-import {announce, asks, by, capital, hooks, listOf, programNamed, seen, show, stage, tabs, whole} from "./base.js";
+import {announce, asks, by, capital, hooks, programNamed, seen, show, stage, tabs} from "./base.js";
 import {blank, channelCircle, html, note} from "./marks.js";
 import {net, neighbours, text} from "./model.js";
 
@@ -68,8 +68,8 @@ tabs.check = {
     by("judgement").replaceChildren();
     ask();
   },
-  link: add => add("plan", check.plan.join("_")),
-  follow: given => { check.plan = listOf(given.get("plan")).map(whole); },
+  link: () => ({plan: check.plan}),
+  follow({plan = []}) { check.plan = plan; },
 };
 by("blank").onclick = () => { check.plan = net.nodes.map(() => 0); ask(); };
 by("ones").onclick = () => { check.plan = net.nodes.map(() => 1); ask(); };

@@ -1,6 +1,6 @@
 // The tab Draw: the network is drawn with the mouse, a finger or keys, and its plan is shown after each change.
 import {call, cancel} from "./api.js";
-import {all, among, announce, asks, by, count, edgesOf, go, hang, hooks, programNamed, seen, show, showOptions, stage,
+import {all, announce, asks, by, count, endsOf, go, hang, hooks, programNamed, seen, show, showOptions, stage,
   tabs, tried, whole, wrong} from "./base.js";
 import {blank, channelCircle, html} from "./marks.js";
 import * as model from "./model.js";
@@ -130,7 +130,7 @@ function key(event, on) {
   if (on && way) change(n => { n.nodes[on - 1].x += way[0]; n.nodes[on - 1].y += way[1]; }, "key " + on, "move");
   else if (event.key === "Delete" || event.key === "Backspace") {
     const {edge} = event.target.dataset || {};
-    if (on || edge) Object.assign(seen, {node: on, edge: edge ? edgesOf(edge)[0] : null});
+    if (on || edge) Object.assign(seen, {node: on, edge: edge ? endsOf(edge) : null});
     remove();
   } else if (event.key === "Escape") choose(null);
   else if (event.key.toLowerCase() === "a") addByKey();
@@ -138,7 +138,7 @@ function key(event, on) {
   return true;
 }
 tabs.draw = {
-  click, key, show: showPlan, link: () => 0, follow: () => 0,
+  click, key, show: showPlan, link: () => ({}), follow: () => 0,
   hint: () => seen.node ? "Click another node to join the two, or to part them; an empty place lets go."
     : net.nodes.length > 1 ? "Click a node, then another, to join them or to part them. Drag to move."
       : "Click to add a node.",
@@ -286,17 +286,10 @@ Object.keys(KINDS).forEach(one => {
   by("kinds").append(button);
 });
 tabs.pictures = {
-  kinds: Object.keys(KINDS),
   hint: () => "", click: () => 0, show: () => 0,
-  follow(given) {
-    kind = among(KINDS, given.get("kind")) || kind;
-  },
+  follow({kind: said = kind}) { kind = said; },
   enter(more = {}) { kind = more.kind || kind; askPicture(); },
-  link(add) {
-    add("kind", kind);
-    add("node", seen.node);
-    add("forest", tabs.rounds.forest());
-  },
+  link: () => ({kind, node: seen.node, forest: tabs.rounds.forest()}),
 };
 by("program4").onchange = () => { seen.program = by("program4").value; askPicture(); show(); };
 by("pulses").onchange = askPicture;

@@ -1,5 +1,3 @@
-import {Wrong} from "./api.js";
-
 // The network that is drawn: nodes {x, y, id, name, bars} from 0, edges [v, w] from 1, the lower node first. An id is
 // the digits of an identifier, or "" for the node's own number.
 export const net = {name: "", nodes: [], edges: [], example: ""};
@@ -70,43 +68,3 @@ export function text() {
   return lines.join("\n") + "\n";
 }
 function round(number) { return Math.round(number * 10) / 10; }
-
-// In an address: x.y_x.y~1-2_1-3, and after them the identifiers ~i1-17, the bars ~b1-3 and the names ~n1-Oslo.
-export function code() {
-  const parts = [net.nodes.map(n => Math.round(n.x) + "." + Math.round(n.y)).join("_"),
-    net.edges.map(e => e.join("-")).join("_")];
-  const more = (letter, rows) => { if (rows.length) parts.push(letter + rows.join("_")); };
-  more("i", net.nodes.flatMap((n, k) => n.id !== "" ? [`${k + 1}-${n.id}`] : []));
-  more("b", net.nodes.flatMap((n, k) => n.bars.map(bar => `${k + 1}-${bar}`)));
-  more("n", net.nodes.flatMap((n, k) => n.name ? [`${k + 1}-${escapeName(n.name)}`] : []));
-  return parts.join("~");
-}
-// What % stands for; a text that can't be read so is refused.
-export function decoded(said) {
-  try { return decodeURIComponent(said); } catch { throw new Wrong(`the address has ${said}, which can’t be read`); }
-}
-function escapeName(name) { return encodeURIComponent(name).replace(/[~_]/g, c => c === "~" ? "%7E" : "%5F"); }
-export function fromCode(words) {
-  const [places, edges, ...more] = words.split("~");
-  const nodes = (places ? places.split("_") : []).map(place => {
-    const found = /^(-?\d{1,6})\.(-?\d{1,6})$/.exec(place);
-    if (!found) throw new Wrong("the address has no network that can be read");
-    return {x: +found[1], y: +found[2], id: "", name: "", bars: []};
-  });
-  const pairs = list => (list ? list.split("_") : []).map(pair => {
-    const found = /^(\d{1,5})-(.*)$/.exec(pair);
-    if (!found || !nodes[found[1] - 1]) throw new Wrong("the address has no network that can be read");
-    return [+found[1], found[2]];
-  });
-  const found = {name: "", nodes, edges: pairs(edges).map(([v, w]) => [Math.min(v, +w), Math.max(v, +w)])};
-  const isDouble = new Set(found.edges.map(String)).size < found.edges.length;
-  if (isDouble || found.edges.some(e => !nodes[e[1] - 1] || e[0] === e[1])) {
-    throw new Wrong("the address has a wrong edge");
-  }
-  more.forEach(part => pairs(part.slice(1)).forEach(([v, said]) => {
-    if (part[0] === "i") nodes[v - 1].id = said.replace(/\D/g, "");
-    if (part[0] === "b") nodes[v - 1].bars.push(+said || 1);
-    if (part[0] === "n") nodes[v - 1].name = decoded(said);
-  }));
-  return found;
-}

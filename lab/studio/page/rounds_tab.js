@@ -1,7 +1,7 @@
 // The tab Rounds: the network at each pulse, why a node has its channel, and what goes wrong without a rule.
 import {call} from "./api.js";
 import {KEYS, announce, asks, by, capital, fill, go, hang, hide, hooks, leftOutWords, picture, programNamed, ruleBoxes,
-  rulesOf, say, seen, show, showOptions, stage, tabs, time, tried, whole} from "./base.js";
+  rulesOf, say, seen, show, showOptions, stage, tabs, time, timeAt, tried} from "./base.js";
 import {html, patch} from "./marks.js";
 import {load as load_, net, text} from "./model.js";
 import {Question} from "./predict.js";
@@ -153,17 +153,13 @@ tabs.rounds = {
   rate: () => 0.8,
   // What plays leaves out the pulses in which nothing happens.
   past: at => isReady() && rounds.film.isIdle(Math.floor(at)) ? rounds.film.nextChange(Math.floor(at)) : at,
-  link(add) {
-    add("at", Math.round(time.at * 100) / 100);
-    add("forest", rounds.forest);
-    add("node", seen.node);
-    add("broken", rounds.without);
-    add("predict", rounds.predicts ? 1 : 0);
+  link() {
+    const {forest, without, predicts} = rounds;
+    return {at: timeAt(), forest, node: seen.node, broken: without, predict: predicts};
   },
-  follow(given) {
-    rounds.forest = whole(given.get("forest"));
-    rounds.without = rulesOf(rulesHere(), given.get("broken"));
-    rounds.predicts = by("predicts").checked = given.get("predict") === "1";
+  follow({forest = 0, broken = "", predict = false}) {
+    Object.assign(rounds, {forest, without: broken, predicts: predict});
+    by("predicts").checked = predict;
   },
 };
 by("program2").onchange = () => { seen.program = by("program2").value; time.at = 0; tabs.rounds.enter(); };

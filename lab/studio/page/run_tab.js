@@ -1,8 +1,8 @@
 // The tab No clock: a run by a seed or by real threads, its verdicts, another order or the rounds beside it.
 import {call} from "./api.js";
-import {KEYS, all, among, announce, by, capital, fill, hide, listOf, programNamed, progress, say, seen, show,
-  showOptions, stage, tabs, time, toggle, tried, wrong} from "./base.js";
-import {decoded, net, text} from "./model.js";
+import {KEYS, all, announce, by, capital, fill, hide, programNamed, progress, say, seen, show, showOptions, stage, tabs,
+  time, timeAt, toggle, tried, wrong} from "./base.js";
+import {net, text} from "./model.js";
 import {rounds} from "./rounds_tab.js";
 import {RunFilm, lookWords, runLegend, waitsTable} from "./run.js";
 import {Stage} from "./stage.js";
@@ -229,31 +229,20 @@ tabs.run = {
     time.set(run.film.stepped(run.at, way, entry => (!only || / payload /.test(texts[entry[3]]))
       && (!seen.node || entry[1] === seen.node)));
   },
-  link(add) {
-    const is = how();
-    add("at", Math.round(time.at * 100) / 100);
-    if (is.how === "threads") add("how", is.how);
-    else {
-      if (is.policy !== "random") add("policy", is.policy);
-      add("seed", encodeURIComponent(is.seed));
-    }
-    add("steps", run.steps.join("_"));
-    add("node", seen.node);
-    if (run.other) add("other", `${run.other.policy}.${encodeURIComponent(run.other.seed)}`);
-    add("beside", by("beside").checked ? 1 : 0);
+  link() {
+    const is = how(), isSeed = is.how === "seed";
+    return {at: timeAt(), how: isSeed ? null : is.how, policy: isSeed && is.policy !== "random" ? is.policy : null,
+      seed: isSeed ? is.seed : null, steps: run.steps, node: seen.node, other: run.other, beside: by("beside").checked};
   },
-  follow(given) {
-    by("seed").value = given.has("seed") ? decoded(given.get("seed")) : "1";
-    by("policy").value = among(seen.hello.policies, given.get("policy")) || "random";
-    by("made").value = given.get("how") === "threads" ? "threads" : "seed";
-    by("beside").checked = given.get("beside") === "1";
-    run.transcript = null;
-    run.steps = given.get("tab") === "run" ? listOf(given.get("steps")) : [];
-    const [policy, seed] = (given.get("other") || "").split(".");
-    run.other = among(seen.hello.policies, policy) ? {policy, seed: decoded(seed || "1")} : null;
-    by("two").checked = Boolean(run.other);
-    by("policy2").value = policy && run.other ? policy : "newest";
-    by("seed2").value = run.other ? run.other.seed : "2";
+  follow({tab, seed = "1", policy = "random", how: made = "seed", steps = [], other = null, beside = false}) {
+    by("seed").value = seed;
+    by("policy").value = policy;
+    by("made").value = made;
+    by("beside").checked = beside;
+    Object.assign(run, {transcript: null, steps: tab === "run" ? steps : [], other});
+    by("two").checked = Boolean(other);
+    by("policy2").value = other ? other.policy : "newest";
+    by("seed2").value = other ? other.seed : "2";
   },
 };
 ["made", "policy", "seed", "workers", "capacity"].forEach(id => { by(id).onchange = ask; });

@@ -1,6 +1,6 @@
 // The tab Adversary: whoever looks is the network, and chooses which message is taken next and which node pulses.
-import {all, among, announce, asks, by, go, hooks, leftOutWords, listOf, programNamed, ruleBoxes, rulesOf, say, seen,
-  show, showOptions, stage, tabs, toggle} from "./base.js";
+import {all, announce, asks, by, go, hooks, leftOutWords, programNamed, ruleBoxes, say, seen, show, showOptions, stage,
+  tabs, toggle} from "./base.js";
 import {html} from "./marks.js";
 import {net, text} from "./model.js";
 import {Question} from "./predict.js";
@@ -151,18 +151,13 @@ tabs.adversary = {
     if (more.fresh) steps.made = [];
     ask();
   },
-  link(add) {
-    add("steps", steps.made.join("_"));
-    add("without", steps.without);
-    add("predict", steps.predicts ? 1 : 0);
-    add("dare", steps.dare);
-    add("node", seen.node);
+  link() {
+    const {made, without, predicts, dare} = steps;
+    return {steps: made, without, predict: predicts, dare, node: seen.node};
   },
-  follow(given) {
-    steps.without = rulesOf(seen.hello.rules.orders, given.get("without"));
-    steps.predicts = by("predicts2").checked = given.get("predict") === "1";
-    steps.dare = among(seen.hello.dares, given.get("dare"));
-    steps.made = given.get("tab") === "adversary" ? listOf(given.get("steps")) : [];
+  follow({tab, steps: made = [], without = "", predict = false, dare = ""}) {
+    Object.assign(steps, {without, predicts: predict, dare, made: tab === "adversary" ? made : []});
+    by("predicts2").checked = predict;
   },
 };
 function leaveOut(left) {

@@ -1,7 +1,8 @@
 // The studio: its tabs, the mouse on the stage, keys, and the address, which says all that is seen.
 import {call, cancel, hello as greeted, token} from "./api.js";
-import {all, asks, by, edgesOf, hooks, listOf, manyPasses, option, rulesOf, say, seen, show, stage, tabs, time, tried,
-  watchOptions, whole, wrong, zoomPicture} from "./base.js";
+import {codeOf, written} from "./address.js";
+import {all, asks, by, endsOf, hooks, option, say, seen, show, stage, tabs, time, tried, watchOptions, wrong,
+  zoomPicture} from "./base.js";
 import {askPlan, drawn, inspect, makeForm, openFile, save} from "./draw.js";
 import {check} from "./check.js";
 import {rounds} from "./rounds_tab.js";
@@ -196,25 +197,18 @@ function link() {
   if (!seen.hello || isFollowing || time.timer || drag && drag.moved || location.hash !== linked) return;
   // The first screen is seen again when the page is.
   if (!by("welcome").hidden) return;
-  const shown = net.example ? "example=" + net.example : net.nodes.length ? "net=" + model.code() : "";
-  const words = [shown, "tab=" + seen.tab];
-  const add = (name, value) => { if (value) words.push(`${name}=${value}`); };
-  if (seen.program !== "colouring") add("program", seen.program);
-  if (seen.program === "recolouring" && seen.passes > 1) add("passes", seen.passes);
-  if (seen.program === "layers") add("root", seen.root);
-  if (seen.tab === "run" || seen.tab === "adversary") {
-    add("slow", seen.slow.map(e => e.join("-")).join("_"));
-    add("lazy", seen.lazy.join("_"));
-  }
-  tabs[seen.tab].link(add);
-  add("lesson", seen.lesson);
-  history.replaceState(null, "", "#" + words.filter(Boolean).join("&"));
+  history.replaceState(null, "", "#" + written(stateSeen(), seen.hello.address));
   linked = location.hash;
   if (isMoved) by("text").value = text();
   isMoved = false;
 }
-function pairsOf(hash) {
-  return new Map(hash.split("&").map(part => [part.split("=")[0], part.split("=").slice(1).join("=")]));
+// What the address says of all that is seen.
+function stateSeen() {
+  const {example} = net, {tab, program, passes, root, slow, lazy, lesson} = seen;
+  const waits = tab === "run" || tab === "adversary" ? {slow, lazy} : {};
+  return {example, net: !example && net.nodes.length ? net : null, tab, program: program === "colouring" ? null : program,
+    passes: program === "recolouring" && passes > 1 ? passes : null, root: program === "layers" ? root : null,
+    ...waits, ...tabs[tab].link(), lesson};
 }
 // What moves before the first click: the rounds of a small network, behind the first buttons.
 function welcome() {
@@ -228,61 +222,36 @@ async function follow(place = location.hash) {
   time.stop();
   linked = location.hash;
   isFollowing = true;
-  const {hello} = seen;
-  let given = pairsOf(place.slice(1));
-  const lesson = hello.lessons.find(one => String(one.number) === given.get("lesson"));
-  seen.lesson = lesson ? lesson.number : null;
-  if (lesson && !given.has("tab")) given = pairsOf(lesson.open);
-  showLesson(lesson);
-  const isRead = await tried("example", "opening", async () => {
-    const example = given.get("example") || "", isHere = example ? example === net.example
-      : given.has("net") ? given.get("net") === model.code() : net.nodes.length > 0;
-    const got = example && !isHere && await call("example", {name: example});
+  let given = {}, unread = "";
+  const isRead = await tried("address", "opening", async () => {
+    const got = await call("address", {place: place.slice(1), nodes: net.nodes.length, edges: net.edges});
     // Another address has been followed since.
-    if (mine !== follows || example && !isHere && !got) return;
-    const found = isHere ? null : got || (given.has("net") ? model.fromCode(given.get("net")) : hello.opened);
-    seen.tab = "draw";
-    if (found) model.load(found, example);
-    seen.program = hello.programs.includes(given.get("program")) ? given.get("program") : "colouring";
-    const isNode = v => v >= 1 && v <= net.nodes.length, [node, root] = ["node", "root"].map(one => whole(given.get(one)));
-    seen.passes = manyPasses(given.get("passes")) || 1;
-    Object.assign(seen, {root: isNode(root) ? root : null, slow: edgesOf(given.get("slow")).filter(e => model.hasEdge(...e)),
-      lazy: listOf(given.get("lazy")).map(whole).filter(isNode), node: isNode(node) ? node : null});
-    Object.values(tabs).forEach(tab => tab.follow(given));
-    time.at = Math.max(0, +given.get("at") || 0);
-    seen.tab = tabs[given.get("tab")] ? given.get("tab") : "draw";
+    if (mine !== follows || !got) return;
+    given = got.values;
+    unread = got.unread;
+    showPlaceOf(got, given);
   });
   if (mine !== follows) return;
   isFollowing = false;
-  const why = by("wrong").textContent, unread = isRead ? notRead(given) : [];
-  enter({play: given.get("play") === "1"});
+  const why = by("wrong").textContent;
+  enter({play: given.play});
   if (!isRead) wrong(why);
-  else if (unread.length) wrong("This can’t be read in the address, and is left out: " + unread.join(", ") + ".");
+  else if (unread) wrong(`This can’t be read in the address, and is left out: ${unread}.`);
 }
-// What an address says and the page can't read: a value that isn't of its kind, or a word that means nothing.
-const NUMBER = /^\d{1,9}(\.\d+)?$/, isSmall = (said, most) => NUMBER.test(said) && +said <= most;
-function readers() {
-  const {dares, lessons, policies, programs, rules} = seen.hello, isAmong = list => said => list.includes(said);
-  const isRules = of => said => rulesOf(of, said) === said, isPolicy = said => Object.hasOwn(policies, said);
-  const isNode = v => whole(v) >= 1 && whole(v) <= net.nodes.length, any = () => true;
-  return {
-    play: isAmong(["1"]), predict: isAmong(["0", "1"]),
-    dare: said => Object.hasOwn(dares, said),
-    tab: said => Object.hasOwn(tabs, said), lesson: isAmong(lessons.map(one => String(one.number))),
-    example: any, net: any, seed: any, program: isAmong(programs), node: isNode, root: isNode,
-    at: said => NUMBER.test(said), forest: said => isSmall(said, Math.max(0, net.nodes.length - 2)),
-    slow: said => edgesOf(said).every(e => e.length === 2 && model.hasEdge(...e)),
-    lazy: said => listOf(said).every(isNode),
-    broken: isRules(rules.rounds[seen.program] || {}), without: isRules(rules.orders),
-    steps: said => listOf(said).every(step => /^\d+(-\d+){0,2}$/.test(step)),
-    plan: said => listOf(said).every(one => isSmall(one, 9999)),
-    policy: isPolicy, other: said => isPolicy(said.split(".")[0]), how: isAmong(["seed", "threads"]),
-    beside: isAmong(["0", "1"]), kind: isAmong(tabs.pictures.kinds), passes: manyPasses};
-}
-function notRead(given) {
-  const reads = readers(), isRead = (name, said) => Object.hasOwn(reads, name) && (!said || reads[name](said));
-  return Array.from(given).filter(([name, said]) => name && !isRead(name, said))
-    .map(([name, said]) => `${name}=${said}`.slice(0, 60));
+// Shows what an address says: each value is of its kind, or isn't there.
+function showPlaceOf({network}, given) {
+  const {example = "", net: code, tab = "draw", program = "colouring", passes = 1, root = null, lesson = null, slow = [],
+    lazy = [], node = null, at = 0} = given;
+  const isHere = example ? example === net.example : code === undefined ? net.nodes.length > 0 : code === codeOf(net);
+  const found = isHere ? null : network || seen.hello.opened;
+  seen.lesson = lesson;
+  showLesson(seen.hello.lessons.find(one => one.number === lesson));
+  seen.tab = "draw";
+  if (found) model.load(found, example);
+  Object.assign(seen, {program, passes, root, slow, lazy, node});
+  Object.values(tabs).forEach(one => one.follow(given));
+  time.at = at;
+  seen.tab = tab;
 }
 function showLesson(lesson) {
   const box = by("lesson");
@@ -348,7 +317,7 @@ document.onkeydown = event => {
   else if (mod && key.toLowerCase() === "y") model.redo();
   else if (mod || event.altKey) return;
   else if ((node || edge) && (key === "Enter" || key === " ")) {
-    tabs[seen.tab].click(node, edge ? edgesOf(edge)[0] : null, event);
+    tabs[seen.tab].click(node, edge ? endsOf(edge) : null, event);
   }
   else if (event.target.role === "tab" && /^Arrow(Left|Right)$/.test(key)) nextTab(event.target, key);
   else if (key === "c" && seen.tab === "rounds") by("change").click();
@@ -400,5 +369,6 @@ async function begin() {
   watchBuild(async () => { await greet(); run.key = rounds.of = null; enter(); askPlan(); });
   await (location.hash || hello.opened ? follow() : welcome());
 }
-window.studio = {net, seen, time, drawn, run, rounds, check, steps, stage};
+window.studio = {net, seen, time, drawn, run, rounds, check, steps, stage,
+  isFollowing: () => isFollowing || location.hash !== linked};
 begin();

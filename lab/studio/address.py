@@ -1,0 +1,235 @@
+"""The addresses of the studio: what its page shows, as NAME=VALUE with `&` between, after the `#`.
+
+`NAMES` is their only grammar. The page has it from the call `hello`, and writes by it (address.js). Whoever follows an
+address has it read here: the page by the call `address`, a class's links by `studio --links`. What can't be read is
+named with the reason; nothing of it is guessed."""
+import re
+from collections.abc import Callable, Collection
+from dataclasses import dataclass, field
+from typing import Any
+
+from lab.definitions.layers import Layers
+from lab.definitions.nodes import Colouring
+from lab.definitions.programs import MAX_PASSES, PROGRAMS
+from lab.definitions.recolouring import Recolouring
+from lab.networks.fields import shown
+from lab.schedules.policies import POLICIES
+from lab.schedules.rules import OF_PROGRAMS, OF_SCHEDULES
+from lab.studio.asked import MOST_STEPS, OPENED
+from lab.studio.dares import DARES
+from lab.studio.drawn import decoded
+from lab.studio.lessons import PLACES
+from lab.wrong import Wrong
+
+TABS = ("draw", "rounds", "run", "adversary", "check", "pictures")
+PICTURES = ("plan", "results", "rounds", "bits", "why", "run")
+# Letters of an address: browsers take no longer one. And how many faults of one are named.
+MOST_LETTERS, MOST_NAMED = 2 << 20, 5
+MOST_CHANNEL = 9999
+
+
+@dataclass(frozen=True)
+class Here:
+    """What the other values of an address are of: the network that it has, and the program."""
+
+    nodes: int = 0
+    edges: Collection[tuple[int, int]] = ()
+    program: str = Colouring.name
+
+    def node(self, said: str) -> int:
+        v = whole(said)
+        if not 1 <= v <= self.nodes:
+            raise Wrong(f"there is no node {v}: there are {self.nodes}, from 1 on")
+        return v
+
+    def edge(self, said: str) -> tuple[int, int]:
+        v, _, w = said.partition("-")
+        found = min(whole(v), whole(w)), max(whole(v), whole(w))
+        if found not in self.edges:
+            raise Wrong(f"there is no link {shown(said)}")
+        return found
+
+
+def whole(said: str) -> int:
+    if not re.fullmatch("[0-9]{1,6}", said):
+        raise Wrong(f"`{shown(said)}` is no whole number of at most six digits")
+    return int(said)
+
+
+def within(said: str, low: int, high: int) -> int:
+    if not low <= whole(said) <= high:
+        raise Wrong(f"it is a number from {low} to {high:,}")
+    return whole(said)
+
+
+def time_of(said: str, _here: Here) -> float:
+    if not re.fullmatch(r"[0-9]{1,9}(\.[0-9]{1,9})?", said):
+        raise Wrong("it is a number from 0 on")
+    return float(said)
+
+
+def items(said: str) -> list[str]:
+    """The items of a list; nothing between two `_` is no item."""
+    return [one for one in said.split("_") if one]
+
+
+def step_of(said: str) -> str:
+    if not re.fullmatch("[0-9]{1,5}(-[0-9]{1,5}){0,2}", said):
+        raise Wrong(f"`{shown(said)}` is no step, as 3, 2-1 or 2-1-4")
+    return said
+
+
+def steps_of(said: str, _here: Here) -> list[str]:
+    found = list(map(step_of, items(said)))
+    if len(found) > MOST_STEPS:
+        raise Wrong(f"it has {len(found):,} steps, and at most {MOST_STEPS:,} are made by hand")
+    return found
+
+
+def plan_of(said: str, here: Here) -> list[int]:
+    found = [within(one, 0, MOST_CHANNEL) for one in items(said)]
+    if len(found) > here.nodes:
+        raise Wrong(f"it has {len(found):,} channels, and there are {here.nodes} nodes")
+    return found
+
+
+def rules_of(said: str, rules: Collection[str]) -> str:
+    names = said.split(",")
+    unknown = [name for name in names if name not in rules]
+    if unknown or len(set(names)) < len(names):
+        why = f"there is no rule {shown(unknown[0])}" if unknown else "a rule is there twice"
+        raise Wrong(f"{why}: there are {', '.join(rules) or 'none'}")
+    return said
+
+
+def other_run(said: str, here: Here) -> dict[str, str]:
+    policy, has_seed, seed = said.partition(".")
+    return {"policy": among(POLICIES)(policy, here), "seed": seed if has_seed else "1"}
+
+
+Parse = Callable[[str, Here], Any]
+
+
+def among(names: Collection[str]) -> Parse:
+    def parse(said: str, _here: Here) -> str:
+        if said not in names:
+            raise Wrong(f"there are {', '.join(names)}")
+        return said
+
+    return parse
+
+
+def program_of(said: str, here: Here) -> str:
+    return among([*PROGRAMS, *OPENED["own"]])(said, here)
+
+
+def flag_of(said: str, here: Here) -> bool:
+    return among(("0", "1"))(said, here) == "1"
+
+
+@dataclass(frozen=True)
+class Name:
+    """A name of the grammar: how the page writes its value (`WRITE` of address.js), and how it is read."""
+
+    written: str
+    takes: Parse
+
+
+# Each name that an address can have. Of `example` and `net` it has at most one (`networks.py` reads them).
+NAMES: dict[str, Name] = {
+    "example": Name("word", lambda said, _: said),
+    "net": Name("network", lambda said, _: said),
+    "program": Name("word", program_of),
+    "tab": Name("word", among(TABS)),
+    "passes": Name("number", lambda said, _: within(said, 1, MAX_PASSES)),
+    "root": Name("number", lambda said, here: here.node(said)),
+    "slow": Name("list", lambda said, here: list(map(here.edge, items(said)))),
+    "lazy": Name("list", lambda said, here: list(map(here.node, items(said)))),
+    "node": Name("number", lambda said, here: here.node(said)),
+    "at": Name("number", time_of),
+    "forest": Name("number", lambda said, here: within(said, 0, max(0, here.nodes - 2))),
+    "broken": Name("rules", lambda said, here: rules_of(said, OF_PROGRAMS.get(here.program, {}))),
+    "predict": Name("flag", flag_of),
+    "play": Name("flag", flag_of),
+    "how": Name("word", among(("seed", "threads"))),
+    "policy": Name("word", among(POLICIES)),
+    "seed": Name("text", lambda said, _: said),
+    "other": Name("run", other_run),
+    "beside": Name("flag", flag_of),
+    "steps": Name("list", steps_of),
+    "without": Name("rules", lambda said, _: rules_of(said, OF_SCHEDULES)),
+    "dare": Name("word", among(DARES)),
+    "plan": Name("list", plan_of),
+    "kind": Name("word", among(PICTURES)),
+    "lesson": Name("number", lambda said, _: within(said, 1, len(PLACES))),
+}
+
+
+@dataclass
+class Address:
+    """What an address says. `values` has what can be read, by its name; `unread` why each of the others can't be."""
+
+    values: dict[str, Any] = field(default_factory=dict)
+    unread: dict[str, str] = field(default_factory=dict)
+
+    def refuse(self) -> None:
+        """Refuses an address of which anything can't be read."""
+        if self.unread:
+            raise Wrong(self.faults())
+
+    def faults(self) -> str:
+        """What can't be read, in one line."""
+        first = [f"{name} ({why})" for name, why in list(self.unread.items())[:MOST_NAMED]]
+        left = len(self.unread) - len(first)
+        return ", ".join([*first, f"and {left:,} more"] if left else first)
+
+
+def pairs_of(place: str) -> tuple[dict[str, str], dict[str, str]]:
+    """The values of an address as they are written, by their names; and what is no name, or is there twice. A name
+    without a value is as good as none, but for the seed: it is any text."""
+    if len(place) > MOST_LETTERS:
+        raise Wrong(f"an address has at most {MOST_LETTERS:,} letters, and this has {len(place):,}")
+    found: dict[str, str] = {}
+    unread: dict[str, str] = {}
+    for part in filter(None, place.split("&")):
+        name, _, value = part.partition("=")
+        if name not in NAMES:
+            unread[shown(part)] = "an address has no such name"
+        elif name in found:
+            unread[name] = "it is there twice"
+        elif value or name in ("seed", "net"):
+            found[name] = value
+    return {name: value for name, value in found.items() if name not in unread}, unread
+
+
+def lesson_opened(pairs: dict[str, str]) -> dict[str, str]:
+    """A lesson alone opens the lesson's place; with a tab it is only named."""
+    if "lesson" not in pairs or "tab" in pairs:
+        return pairs
+    number = within(pairs["lesson"], 1, len(PLACES))
+    return pairs_of(PLACES[number - 1][0])[0] | {"lesson": pairs["lesson"]}
+
+
+def read_values(pairs: dict[str, str], unread: dict[str, str], here: Here) -> Address:
+    """What the values of an address say, in the order of the table: what comes later may be of the program."""
+    found = Address(unread=dict(unread))
+    for name in filter(pairs.__contains__, NAMES):
+        said = pairs[name]
+        try:
+            found.values[name] = NAMES[name].takes(said if name == "net" else decoded(said), here)
+        except Wrong as why:
+            found.unread[shown(f"{name}={said}")] = str(why)
+        if name == "program":
+            program = found.values.get("program", Colouring.name)
+            here = Here(here.nodes, here.edges, program)
+    return found
+
+
+def program_named(values: dict[str, Any]) -> str:
+    """The program of an address with its option, as a call names it; `programNamed` of base.js is the page's."""
+    program = values.get("program", Colouring.name)
+    if program == Recolouring.name and values.get("passes", 1) > 1:
+        return f"{program} passes {values['passes']}"
+    if program == Layers.name and values.get("root"):
+        return f"{program} root {values['root']}"
+    return program

@@ -1,0 +1,160 @@
+"""Tests of the studio's calls: each field of each call is left out, is of another type, is there twice, and each call
+has a field that it doesn't know. Every malformed call gets a refusal that names the field, and none is a fault."""
+
+import base64
+import json
+from unittest import mock
+
+from lab.studio import building, limits
+from lab.studio.asked import OPENED
+from lab.studio.calls import CALLS
+from lab.studio.fields import object_of
+from lab.wrong import Wrong
+from tests.cases import Case
+
+EDGE = "p edge 2 1\ne 1 2\n"
+RUN = {"network": EDGE, "name": "two", "program": "layers root 2"}
+STEPS = {"steps": "1-2_2-1", "without": "fifo"}
+# A call of each name that has all its fields, each good. What is one of two or more (a list or steps, a transcript or a
+# seed) has rows of its own.
+GOOD = [
+    ("hello", {}),
+    ("address", {"place": "tab=run&node=2", "nodes": 2, "edges": [[1, 2]]}),
+    ("example", {"name": "two"}),
+    ("read", {"name": "x.csv", "data": base64.b64encode(b"1,2\n").decode(), "stated": []}),
+    ("read", {"name": "x", "data": "", "stated": ["--as", "dimacs"]}),
+    ("make", {"kind": "disk", "sizes": {"nodes": "5"}, "seed": "1"}),
+    ("make", {"kind": "random", "sizes": {"nodes": 5, "edges": "4"}, "seed": 1}),
+    ("tidy", {"network": EDGE, "name": "two"}),
+    ("plan", {"network": EDGE, "name": "two"}),
+    ("check", {"network": EDGE, "name": "two", "plan": [1, 2]}),
+    ("rounds", RUN),
+    ("rounds", RUN | {"program": "colouring"}),
+    ("rounds_page", RUN),
+    ("why", {"network": EDGE, "name": "two", "vertex": 2}),
+    ("broken", RUN | {"program": "matching", "without": "partner"}),
+    ("picture", RUN | {"kind": "results", "vertex": 1, "forest": 0, "pulses": []}),
+    *(
+        ("picture", RUN | {"program": "colouring", "kind": kind, "vertex": 1, "forest": 0})
+        for kind in ("plan", "rounds", "bits", "why")
+    ),
+    (
+        "picture",
+        RUN
+        | {"program": "colouring", "kind": "run", "pulses": [0, 2]}
+        | {"transcript": "transcript 1 2\n1 put 0 payload 0 hello 1\n"},
+    ),
+    (
+        "run",
+        RUN
+        | {"slow": [[1, 2]], "lazy": [1], "steps": "1-2", "seed": "1", "policy": "newest"}
+        | {"how": "seed", "workers": 4, "capacity": 4},
+    ),
+    ("run", RUN | {"how": "threads", "workers": 4, "capacity": 4}),
+    ("run", RUN | {"transcript": "transcript 2 2\n"}),
+    *(
+        (name, RUN | {"transcript": "transcript 1 2\n1 put 0 hello 1\n"})
+        for name in ("run_page", "replay", "judge")
+    ),
+    (
+        "steps",
+        RUN
+        | STEPS
+        | {"slow": [[1, 2]], "lazy": [1], "dare": "apart", "by": 2, "in_step": True, "seed": "1"},
+    ),
+    ("steps", RUN | {"list": "take 1 0\n"}),
+    ("predict", RUN | {"vertex": 1, "pulse": 1, "forest": 0, "said": "layer 0"}),
+    ("predict", RUN | {"program": "colouring"} | {"vertex": 1, "pulse": 3, "forest": 0, "said": 1}),
+    ("waits", RUN | STEPS | {"vertex": 1, "said": "ack 2"}),
+    ("build", {}),
+    ("built", {}),
+]
+# Values of every type, and of each the ones that are at an end of it.
+VALUES = (
+    *(None, True, False, 0, 1, -1, 3, 10**9, 10**30, 1.5, float("inf"), float("nan")),
+    *("", "x", "1", "-1", "\0", "\ud800", "1_2", "x" * 100_000, "٣", "constructor", "../x"),
+    *([], [0], [[]], [1], [-1, 10**9], ["x"], [None], [[1]], [[1, 1]], [[1, 9]], [[1, 2, 3]]),
+    *([["x", 1]], [[1, 2]] * 2, {}, {"nodes": []}, {"nodes": "9" * 5000}, {"": ""}),
+)
+# What a field may be that isn't of the type of its good value.
+ALSO = {"seed": (str, int), "said": (str, int)}
+
+
+def text_of(asked):
+    return json.dumps(asked).encode()
+
+
+class Calls(Case):
+    needs_programs = False
+
+    def setUp(self):
+        # No button is pressed, and nothing is built.
+        self.enterContext(mock.patch.object(building.shutil, "which", lambda name: None))
+        self.enterContext(mock.patch.dict(OPENED, {"is_proved": False}))
+
+    def outcome(self, name, body):
+        """What is answered to a call with this body, in words if it is refused."""
+        try:
+            asked = object_of(body)
+        except Wrong as why:
+            return {"wrong": str(why)}
+        return limits.outcome(lambda: CALLS[name].answer(asked, lambda *_, **__: None))
+
+    def is_no_fault(self, row, found):
+        self.note(row[:300], found.get("fault") is not True, found.get("wrong"))
+
+    def names_it(self, row, field, found):
+        words = found.get("wrong", "an answer")
+        self.note(row[:300], not found.get("fault") and f"field {field}" in words, words[:2000])
+
+    def test_all_are_here(self):
+        """Each field of each call is in a call of the list, and each call of the list is good."""
+        fields = {name: set() for name in CALLS}
+        for name, asked in GOOD:
+            fields[name] |= set(asked)
+            self.is_no_fault(f"{name} {asked}", self.outcome(name, text_of(asked)))
+        self.same("all fields", fields, {name: set(call.fields) for name, call in CALLS.items()})
+
+    def test_left_out(self):
+        """A field that a call needs is named; without another one it is answered, or refused with a reason."""
+        for name, asked in GOOD:
+            for field in asked:
+                less = {other: value for other, value in asked.items() if other != field}
+                found = self.outcome(name, text_of(less))
+                row = f"{name} without {field}"
+                if CALLS[name].fields[field].may_lack:
+                    self.is_no_fault(row, found)
+                else:
+                    self.names_it(row, field, found)
+
+    def test_of_another_type(self):
+        """A value of another type is refused by the name of its field, and no value is a fault."""
+        for name, asked in GOOD:
+            for field, good in asked.items():
+                types = ALSO.get(field, (type(good),))
+                for value in VALUES:
+                    row = f"{name} {field}={value!a}"
+                    found = self.outcome(name, text_of(asked | {field: value}))
+                    may_lack = value is None and CALLS[name].fields[field].may_lack
+                    if type(value) in types or may_lack:
+                        self.is_no_fault(row, found)
+                    else:
+                        self.names_it(row, field, found)
+
+    def test_twice(self):
+        """A field that is there twice is named, and one whose value is doubled is no fault."""
+        for name, asked in GOOD:
+            for field, value in asked.items():
+                words = text_of(asked)[:-1] + b", " + text_of({field: value})[1:]
+                found = self.outcome(name, words)
+                self.names_it(f"{name} with two {field}", field, found)
+                if isinstance(value, (str, list)):
+                    found = self.outcome(name, text_of(asked | {field: value + value}))
+                    self.is_no_fault(f"{name} {field} doubled", found)
+
+    def test_unknown(self):
+        """A field that a call doesn't know is named, so that none is forgotten by a slip of the pen."""
+        for name, asked in GOOD:
+            for field in ("sede", "__proto__", ""):
+                found = self.outcome(name, text_of(asked | {field: 1}))
+                self.names_it(f"{name} with {field}", field, found)
