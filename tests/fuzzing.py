@@ -3,28 +3,20 @@ spoiled, pieces of them in any order, and any bytes. None may end a command with
 text may take no long time.
 
 It needs python3-hypothesis; who imports this asks for it first."""
-import contextlib
-import functools
 import os
 import re
 import signal
 import tempfile
 import time
 import traceback
-import unittest.mock
-from collections.abc import Callable, Iterator
+from collections.abc import Callable
 from dataclasses import dataclass, field
 
 import hypothesis
 from hypothesis import strategies
 
-from lab.networks import channels, network
-from lab.pictures import picture
-from lab.schedules import simulate
-from lab.transcripts import transcript
-from tests.readers import Reader
+from tests.readers import Reader, parsers_kept
 
-COMMANDS = (network, channels, picture, simulate, transcript)
 # Seconds of processor time for a text, which has some kilobytes, and those after which it is ended.
 LONGEST, MOST = 1.0, 20.0
 # Texts of one search, after which the next one begins with another seed.
@@ -156,16 +148,6 @@ def look(reader: Reader, data: bytes, folder: str) -> None:
         raise TooLong(f"it takes more than {LONGEST:g} s")
 
 
-@contextlib.contextmanager
-def parsers_kept() -> Iterator[None]:
-    """The parser of a command line is made once: that takes longer than to read a short text."""
-    with contextlib.ExitStack() as stack:
-        for module in COMMANDS:
-            kept = functools.cache(module.command_line)
-            stack.enter_context(unittest.mock.patch.object(module, "command_line", kept))
-        yield
-
-
 def tried(
     reader: Reader,
     seed: int,
@@ -180,6 +162,9 @@ def tried(
     begun = time.process_time()
     try:
         with tempfile.TemporaryDirectory() as folder, parsers_kept():
+            # The first call loads networkx, which takes longer than a text may.
+            for data in reader.good:
+                reader.status(data, folder)
             while found.seconds < seconds and found.texts < most:
                 search(found, seed, min(TEXTS, most - found.texts), folder, say)
                 found.seconds = time.process_time() - begun

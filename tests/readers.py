@@ -3,27 +3,30 @@ tests that run a little of both, read it from here.
 
 A reader is a command of forestlab, called in this process, or a function that reads what no command names."""
 import contextlib
+import functools
 import io
 import os
 import sys
 import unittest.mock
 from collections.abc import Callable, Iterator
-from dataclasses import dataclass, field
+from dataclasses import dataclass
+from typing import Any
 
 from lab.definitions.own_program import code_of
-from lab.networks.channels import main as channels
-from lab.networks.network import main as network
-from lab.pictures.picture import main as picture
-from lab.schedules.simulate import main as simulate
+from lab.networks import channels, network
+from lab.pictures import picture
+from lab.schedules import simulate
 from lab.studio.fields import object_of
 from lab.studio.networks import opened_by
-from lab.transcripts.transcript import main as transcript
+from lab.transcripts import transcript
 from lab.workshop.protocol import END, fields_of, forms_of, lines_of
 from lab.workshop.findings import Fault
 from lab.workshop.submissions import said_command
 from lab.wrong import Wrong
 
 Main = Callable[[list[str]], int]
+# The modules of commands.
+WITH_PARSERS = (network, channels, picture, simulate, transcript)
 # In the words of a command: the file with the text, and one with the text that stands beside it.
 FILE, BESIDE = "{file}", "{beside}"
 PAIRS = b"source,target\na,b\nb,c\n"
@@ -70,8 +73,9 @@ class Reader:
     words: tuple[str, ...]
     good: tuple[bytes, ...]
     pieces: tuple[bytes, ...] = ()
-    # What comments, lists in lists, and the places of texts and numbers look like: (before, again, after).
-    shapes: dict[str, tuple[bytes, bytes, bytes]] = field(default_factory=dict)
+    # A comment, and what begins a list in a list, each with what comes before all of them.
+    comment: tuple[bytes, bytes] = (b"", b"# x\n")
+    nested: tuple[bytes, bytes] = (b"", b"[")
     ending: str = ".txt"
     given: bytes = b""
     beside: bytes = b""
@@ -107,6 +111,16 @@ def streams(stdin: bytes) -> Iterator[None]:
         contextlib.redirect_stdout(out),
         contextlib.redirect_stderr(errors),
     ):
+        yield
+
+
+@contextlib.contextmanager
+def parsers_kept() -> Iterator[None]:
+    """The parser of a command line is made once: that takes longer than to read a short text."""
+    with contextlib.ExitStack() as stack:
+        for module in WITH_PARSERS:
+            kept = functools.cache(module.command_line)
+            stack.enter_context(unittest.mock.patch.object(module, "command_line", kept))
         yield
 
 
@@ -165,13 +179,13 @@ def with_encoding(words: list[str]) -> int:
         first, _, rest = file.read().partition(b"\n")
     with open(words[1], "wb") as file:
         file.write(rest)
-    return network([*words, "--encoding", os.fsdecode(first.replace(b"\0", b""))])
+    return network.main([*words, "--encoding", os.fsdecode(first.replace(b"\0", b""))])
 
 
 def read_as(form: str, good: tuple[bytes, ...], pieces: bytes, **more) -> Reader:
     words = ("read", FILE, "--as", form)
     needs = "" if form in ("dimacs", "pairs", "edges", "adjacency") else "networkx"
-    return Reader(form, network, words, good, tuple(pieces.split()), needs=needs, **more)
+    return Reader(form, network.main, words, good, tuple(pieces.split()), needs=needs, **more)
 
 
 ENCODINGS = (
@@ -185,17 +199,31 @@ OF_XML = (
     b"<node <edge <graph <data <key id='a' source='a' target='b' /> > </node> </graph> <!-- --> &lt; &a;"
     b" <![CDATA[ ]]>"
 )
+XML_SHAPES: dict[str, Any] = {
+    "comment": (b"<graphml>", b"<!-- x -->"),
+    "nested": (b"<graphml>", b"<a>"),
+}
 READERS = (
     Reader(
-        "network", network, ("tell", "-"), (NETWORK, TWO), tuple(b"c p e i b edge at name".split())
+        "network",
+        network.main,
+        ("tell", "-"),
+        (NETWORK, TWO),
+        tuple(b"c p e i b edge at name".split()),
+        comment=(b"", b"c x\n"),
     ),
-    read_as("dimacs", (NETWORK, TWO), b"c p e i b edge at name 1 2 3"),
+    read_as("dimacs", (NETWORK, TWO), b"c p e i b edge at name 1 2 3", comment=(b"", b"c x\n")),
     read_as("pairs", (PAIRS, b'from;to\n"a";b\n'), b"source target from to , ; a b"),
     read_as("edges", (b"# x\na b\nb c\n", b"a b {'w': 1}\nb c {}\n"), b"# a b { } 1.5 1e5 : ,"),
     read_as("adjacency", (b"#x\na b c\nb\nc\n", b"a: b\nb:\n"), b"# a b : ,"),
-    read_as("graphml", (GRAPHML,), OF_XML),
-    read_as("gexf", (GEXF,), OF_XML),
-    read_as("gml", (GML,), b'graph node edge id label source target [ ] " # 7 8 1.5 key'),
+    read_as("graphml", (GRAPHML,), OF_XML, **XML_SHAPES),
+    read_as("gexf", (GEXF,), OF_XML, **XML_SHAPES),
+    read_as(
+        "gml",
+        (GML,),
+        b'graph node edge id label source target [ ] " # 7 8 1.5 key',
+        nested=(b"graph [ ", b"a [ "),
+    ),
     read_as(
         "json", (JSON,), b'{ } [ ] " : , "nodes" "links" "edges" "id" "source" "target" 1 -1 1e9'
     ),
@@ -210,14 +238,14 @@ READERS = (
     ),
     Reader(
         "sites",
-        network,
+        network.main,
         ("read", "--sites", FILE, "--reach", "9"),
         (SITES, b"name,x_km,y_km\na,0,0\nb,1,1\n", b"id;easting;northing\na;0,5;0\n"),
         tuple(b"site name id lat lon x_km y_m identifier , ; a b 48.1 -1e5".split()),
     ),
     Reader(
         "bars",
-        network,
+        network.main,
         ("read", BESIDE, "--bars", FILE),
         (b"site,channel\na,1\nb,2048\n",),
         tuple(b"site channel , a b c 1 2048 0".split()),
@@ -225,23 +253,28 @@ READERS = (
     ),
     Reader(
         "channels",
-        channels,
+        channels.main,
         (FILE,),
         (b"channel\n36\n40\n", b"name;channel\na;36\nb;40\n"),
         tuple(b"channel , ; 36 40".split()),
         ending=".csv",
         given=PLAN,
     ),
-    Reader("plan", channels, ("1", "6", "11"), (PLAN,), tuple(b"plan 1 2 3 0".split())),
+    Reader("plan", channels.main, ("1", "6", "11"), (PLAN,), tuple(b"plan 1 2 3 0".split())),
     Reader(
-        "names", network, ("names", BESIDE), (PLAN, b"plan\n1 36\n2 40\n"), (b"plan",), beside=TWO
+        "names",
+        network.main,
+        ("names", BESIDE),
+        (PLAN, b"plan\n1 36\n2 40\n"),
+        (b"plan",),
+        beside=TWO,
     ),
-    Reader("picture of a plan", picture, ("plan", BESIDE, "--plan", "-"), (PLAN,), beside=TWO),
-    Reader("run", channels, ("--run",), (RUN,), tuple(b"node pulse channel 1 2 12".split())),
-    Reader("transcript", transcript, ("check", "two", "-"), (ENTRIES, ALONE), OF_TRANSCRIPTS),
+    Reader("picture of a plan", picture.main, ("plan", BESIDE, "--plan", "-"), (PLAN,), beside=TWO),
+    Reader("run", channels.main, ("--run",), (RUN,), tuple(b"node pulse channel 1 2 12".split())),
+    Reader("transcript", transcript.main, ("check", "two", "-"), (ENTRIES, ALONE), OF_TRANSCRIPTS),
     Reader(
         "transcript of edition 1",
-        transcript,
+        transcript.main,
         ("check", BESIDE, "-", "--json"),
         (
             b"transcript 1 2\n"
@@ -252,23 +285,23 @@ READERS = (
     ),
     Reader(
         "transcript of leader",
-        transcript,
+        transcript.main,
         ("check", "path2", "-", "--program", "leader"),
         (ENTRIES.replace(b"2 2", b"3 leader 2", 1).replace(b"hello", b"leader"),),
         OF_TRANSCRIPTS,
     ),
-    Reader("as json", transcript, ("convert", "json", "-"), (ENTRIES,), OF_TRANSCRIPTS),
-    Reader("as shiviz", transcript, ("convert", "shiviz", "-"), (ENTRIES,), OF_TRANSCRIPTS),
+    Reader("as json", transcript.main, ("convert", "json", "-"), (ENTRIES,), OF_TRANSCRIPTS),
+    Reader("as shiviz", transcript.main, ("convert", "shiviz", "-"), (ENTRIES,), OF_TRANSCRIPTS),
     Reader(
         "events",
-        simulate,
+        simulate.main,
         ("path2", "--program", "leader", "--events", "-"),
         (b"put 1 0\nput 2 0\ntake 2 0: a note\nc x\npulse 1\n",),
         tuple(b"put take pulse c : 0 1 2".split()),
     ),
     Reader(
         "picture of a run",
-        picture,
+        picture.main,
         ("run", "path2", "--program", "leader", "--wrong", "--transcript", "-"),
         (ENTRIES.replace(b"2 2", b"3 leader 2", 1).replace(b"hello", b"leader"),),
         OF_TRANSCRIPTS,
@@ -314,14 +347,14 @@ READERS = (
     ),
     Reader(
         "code",
-        words_of(network),
+        words_of(network.main),
         ("tell", "{text}"),
         (b"C8 vertex 1", b"F5"),
         tuple(b"C8 vertex line : 1".split()),
     ),
     Reader(
         "columns",
-        words_of(network),
+        words_of(network.main),
         ("read", BESIDE, "--as", "pairs", "--columns", "{text}"),
         (b"source=a,target=b", b'"source=a,b",target=c'),
         tuple(b'source target = , "'.split()),
@@ -329,7 +362,7 @@ READERS = (
     ),
     Reader(
         "words of channels",
-        words_of(channels),
+        words_of(channels.main),
         ("{text}",),
         (b"1 6 11", b"36-64/4"),
         tuple(b"1 36 - / , ;".split()),

@@ -106,7 +106,8 @@ def rows_of_run(text: str, name: str) -> list[tuple[int, int, int]]:
     found = []
     for at, line in enumerate(text.split("\n"), 1):
         parts = re.fullmatch(
-            r"node ([0-9]+) pulse [0-9]+ channel ([0-9]{1,%d})" % MOST_DIGITS, line
+            r"node ([0-9]{1,%d}) pulse [0-9]+ channel ([0-9]{1,%d})" % (MOST_DIGITS, MOST_DIGITS),
+            line,
         )
         if parts:
             found.append((at, int(parts[1]), int(parts[2])))

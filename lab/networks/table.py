@@ -2,6 +2,7 @@
 import csv
 import io
 import re
+from collections import Counter
 from collections.abc import Iterator
 from itertools import islice
 
@@ -151,7 +152,7 @@ class Table:
         columns = in_words(self.named.get(column, column) for column in self.wanted)
         kind = "heading" if self.has_heading else "row"
         what = self.wrong(line, f"no {kind} with {columns}: `{shown(','.join(first))}`")
-        titles = [title for title in first if title and first.count(title) == 1]
+        titles = [title for title, count in Counter(first).items() if title and count == 1]
         if len(titles) < len(self.wanted) or set(self.wanted) & self.named.keys():
             return what
         return Unsaid(
