@@ -1,6 +1,7 @@
 """Tools that some tests need, and that may be missing. A test that needs one asks here; the last
 lines of `python3 -m tests` name each tool that wasn't there, with the tests that didn't run."""
 
+import ctypes
 import importlib.util
 import os
 import re
@@ -38,9 +39,18 @@ def is_installed(tool):
         if importlib.util.find_spec(tool) is None and os.path.exists(OWN):
             sys.path.append(OF_SYSTEM)
         return importlib.util.find_spec(tool) is not None
+    if tool == "libseccomp":
+        return is_library("libseccomp.so.2")
     if tool == "a browser":
         return browser.command() is not None
     return shutil.which(tool) is not None
+
+
+def is_library(name: str) -> bool:
+    try:
+        return bool(ctypes.CDLL(name))
+    except OSError:
+        return False
 
 
 def need(test, tool):

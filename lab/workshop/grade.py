@@ -8,6 +8,7 @@ import subprocess
 import sys
 import tempfile
 
+from lab.programs import TOP
 from lab.schedules.policies import POLICIES
 from lab.words import as_text, count, parser_of
 from lab.workshop.leftovers import shut
@@ -17,6 +18,7 @@ from lab.workshop.report import aligned
 from lab.workshop.right_rounds import ask
 from lab.workshop.sandbox import USERS
 from lab.workshop.submissions import EACH, POINTS, RUNS, RUNS_EACH, Part, clean, submissions_of
+from lab.workshop.visible import meets
 from lab.wrong import Wrong
 
 SECONDS = 600
@@ -36,10 +38,11 @@ or has no result, is played once more, alone, and the better of both counts; the
 second plays share {AGAIN} times the seconds of --seconds.
 
 Each node runs in a container of its own, which bubblewrap makes (`apt install
-bubblewrap`): it reads the system's folders, what is on your PATH, and the submission. Of
-your home, other submissions, this program, other processes and the network it sees
-nothing. It begins in /tmp, where links lead to its files, and writes there and in
-/dev/shm alone, at most 256 and 16 megabytes. As root each submission is another user.
+bubblewrap`): it reads the system's programs and libraries, what is on your PATH, what
+--show names, and the submission. Nothing else of the disk is there, and nothing of other
+processes or the network. It begins in /tmp, where links lead to its files, and writes
+there and in /dev/shm alone, at most 256 and 16 megabytes, which count as its memory. As
+root each submission is another user.
 """
 MORE_HELP = """\
 After `--` come words that are put before each command, as those of a container, in which
@@ -157,17 +160,36 @@ def command_line() -> argparse.ArgumentParser:
     )
     add_limits(words)
     words.add_argument(
+        "--show",
+        metavar="DIR",
+        action="append",
+        default=[],
+        help="a folder that programs may read, too; more than once for several",
+    )
+    words.add_argument(
         "--reports", metavar="DIR", help="write what each student gets to read, DIR/STUDENT.txt"
     )
     words.add_argument("--json", action="store_true", help="print the result for a program")
     return words
 
 
+def shown(line: argparse.ArgumentParser, path: str, closed: list[str]) -> str:
+    """A folder that programs may read, too."""
+    if not os.path.isdir(path):
+        line.error(f"--show {path}: there is no such folder")
+    for other in closed:
+        if meets(path, other):
+            line.error(f"--show {path} would show {other}, or is in it")
+    return os.path.realpath(path)
+
+
 def main(words: list[str]) -> int:
     at = words.index("--") if "--" in words else len(words)
-    given = command_line().parse_args(words[:at])
+    line = command_line()
+    given = line.parse_args(words[:at])
     given.before = words[at + 1 :]
     given.folder, given.seed = os.path.realpath(given.folder), given.seed or secrets.token_hex(4)
+    given.show = [shown(line, path, [given.folder, TOP]) for path in given.show]
     submissions = submissions_of(given.folder)
     given.users = {student: USERS[at % len(USERS)] for at, student in enumerate(submissions)}
     status, _, why = ask("forestplan", "plain", "p edge 0 0\n")

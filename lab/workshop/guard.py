@@ -1,5 +1,6 @@
 """What a student's program may use, and as whom it runs: a program that the workshop plays runs as whoever calls the
 workshop, with limits, and ends with it. What is graded has more than that around it: sandbox.py."""
+import contextlib
 import os
 import resource
 import signal
@@ -7,14 +8,8 @@ import time
 from typing import Any
 
 from lab.workshop.findings import Fault
-from lab.workshop.leftovers import (
-    PARENT_DEATH_SIGNAL,
-    Running,
-    below_this,
-    control,
-    processes,
-    unnamed,
-)
+from lab.workshop.leftovers import PARENT_DEATH_SIGNAL, Running, below, children, control, processes
+from lab.workshop.memory import memory_of
 
 PROCESSOR_SECONDS = 600  # so that an endless loop ends even if the workshop itself is killed
 OPEN_FILES = 256
@@ -22,6 +17,7 @@ MEGABYTE = 1 << 20
 WRITTEN_IN_ALL = 256 * MEGABYTE  # by all programs of a run
 CHILDREN, CHILDREN_EACH = 256, 64  # processes and threads of a run, and more for each program
 LOOK = 0.5  # seconds between two looks at what programs take
+LOOK_SHARE = 10  # and at least so many times the seconds of a look
 NAMES = ("HOME", "LANG", "PATH", "TMPDIR")
 
 
@@ -63,7 +59,8 @@ class Guard:
 
     def __init__(self) -> None:
         self.programs: set[int] = set()
-        self.looked = 0.0
+        self.faults: dict[int, Fault] = {}
+        self.next_look = 0.0
 
     def words(self, command: list[str]) -> list[str]:
         """What is started for a command."""
@@ -98,17 +95,38 @@ class Guard:
         """What a process does besides before it becomes the program."""
 
     def look(self, program: int, memory: int) -> None:
-        """Raises a fault if a program takes too much, with all that it has started; looks now and then."""
-        if time.monotonic() - self.looked <= LOOK:
-            return
-        below = below_this(self.programs - {program})
-        running = [process for process in below if not process.is_over]
-        self.check(running, memory)
-        self.looked = time.monotonic()
+        """Raises a fault if a program takes too much, with all that it has started. Now and then all programs are
+        looked at, whichever of them is asked, so that none is unseen as long as another answers."""
+        if time.monotonic() >= self.next_look:
+            self.look_at_all(memory)
+        if program in self.faults:
+            raise self.faults[program]
+
+    def look_at_all(self, memory: int) -> None:
+        """Ends each program that takes too much, with all that it has started."""
+        begun = time.monotonic()
+        tree = children()
+        away = list(below(os.getpid(), tree, self.programs))
+        for program in self.programs - self.faults.keys():
+            own = [process for process in tree.get(os.getpid(), ()) if process.number == program]
+            family = [*own, *below(program, tree)]
+            running = [process for process in [*family, *away] if not process.is_over]
+            try:
+                self.check(running, memory)
+            except Fault as fault:
+                self.faults[program] = fault
+                end(family)
+        seconds = time.monotonic() - begun
+        self.next_look = begun + seconds + max(LOOK, LOOK_SHARE * seconds)
+
+    def leave(self, program: int) -> None:
+        """A program has ended, and its number is free."""
+        self.programs.discard(program)
+        self.faults.pop(program, None)
 
     def check(self, running: list[Running], memory: int) -> None:
-        """The same of the processes of one program. A file that no folder has takes memory, too."""
-        if sum(process.memory for process in running) + unnamed(running) > memory:
+        """Raises a fault if the processes of one program take too much."""
+        if memory_of(running) > memory:
             raise Fault("flood", f"it takes more than {memory >> 20} megabytes of memory")
 
     def tasks(self) -> int:
@@ -117,6 +135,12 @@ class Guard:
         return (
             sum(process.threads for process in processes() if process.user == user) if user else 0
         )
+
+
+def end(family: list[Running]) -> None:
+    for process in family:
+        with contextlib.suppress(ProcessLookupError, PermissionError):
+            os.kill(process.number, signal.SIGKILL)
 
 
 class Unguarded(Guard):

@@ -4,19 +4,14 @@ import ctypes
 import os
 import resource
 import signal
-import stat
 from dataclasses import dataclass
 from typing import Collection, Iterator
 
 # Numbers of Linux, the same on all machines.
-PARENT_DEATH_SIGNAL, DUMPABLE, SECCOMP, SUBREAPER, IS_SUBREAPER, NO_NEW_RIGHTS = (
-    1,
-    4,
-    22,
-    36,
-    37,
-    38,
-)
+PARENT_DEATH_SIGNAL = 1
+DUMPABLE = 4
+SUBREAPER = 36
+IS_SUBREAPER = 37
 SYSTEM = ctypes.CDLL(None, use_errno=True)
 
 
@@ -72,26 +67,25 @@ def processes() -> Iterator[Running]:
 
 def below_this(kept: Collection[int | None] = ()) -> Iterator[Running]:
     """All processes below this one, but those that are kept with what is below them."""
-    below: dict[int, list[Running]] = {}
+    return below(os.getpid(), children(), kept)
+
+
+def children() -> dict[int, list[Running]]:
+    """The processes of this machine by the number of the one that has them."""
+    found: dict[int, list[Running]] = {}
     for process in processes():
-        below.setdefault(process.parent, []).append(process)
-    more = [process for process in below.get(os.getpid(), ()) if process.number not in kept]
+        found.setdefault(process.parent, []).append(process)
+    return found
+
+
+def below(
+    top: int, tree: dict[int, list[Running]], kept: Collection[int | None] = ()
+) -> Iterator[Running]:
+    """All processes below one, but those that are kept with what is below them."""
+    more = [process for process in tree.get(top, ()) if process.number not in kept]
     for process in more:
         yield process
-        more += below.get(process.number, ())
-
-
-def unnamed(running: list[Running]) -> int:
-    """The bytes of all files that processes have open and that no folder has, some of them in memory alone."""
-    sizes = {}
-    for process in running:
-        with contextlib.suppress(OSError):  # it has ended meanwhile
-            for entry in os.scandir(f"/proc/{process.number}/fd"):
-                with contextlib.suppress(OSError):
-                    file = entry.stat()
-                    if stat.S_ISREG(file.st_mode) and not file.st_nlink:
-                        sizes[file.st_dev, file.st_ino] = 512 * file.st_blocks
-    return sum(sizes.values())
+        more += tree.get(process.number, ())
 
 
 def end_all(kept: Collection[int | None] = ()) -> None:

@@ -24,6 +24,7 @@ from lab.workshop.playing import Player
 from lab.workshop.report import as_json, report
 from lab.workshop.sandbox import Sandbox
 from lab.workshop.submissions import RUNS, Part, clean
+from lab.workshop.visible import on_the_path
 from lab.wrong import Wrong
 
 GRACE = 60  # seconds beside those of --seconds, in which a part ends
@@ -34,21 +35,10 @@ FORK = multiprocessing.get_context("fork")
 
 def sandbox_of(folder: str, given: argparse.Namespace, room: str, user: int) -> Sandbox:
     """The container of what is in a folder of the room."""
-    hidden = [given.folder, TOP, room, os.path.expanduser("~")]
-    return Sandbox(folder, hidden, programs_at_home([given.folder, TOP]), user)
-
-
-def programs_at_home(closed: list[str]) -> list[str]:
-    """What programs on the PATH may need: the folders beside theirs, as far as none that is closed is there."""
-    found, home = set(), os.path.realpath(os.path.expanduser("~"))
-    for path in filter(os.path.isabs, os.environ.get("PATH", "").split(":")):
-        for place in (os.path.dirname(os.path.realpath(path)), os.path.realpath(path)):
-            if place.startswith((f"{home}/", "/home/")) and not any(
-                os.path.commonpath([place, other]) in (place, other) for other in closed
-            ):
-                found.add(place)
-                break
-    return sorted(path for path in found if os.path.isdir(path))
+    home = os.path.realpath(os.path.expanduser("~"))
+    closed = (given.folder, TOP, room)
+    needed = on_the_path(os.environ.get("PATH", ""), closed, (home, os.path.join(home, ".local")))
+    return Sandbox(folder, [*closed, home], [*needed, *given.show], user)
 
 
 def play(part: Part, given: argparse.Namespace, room: str) -> dict:

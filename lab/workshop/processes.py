@@ -19,9 +19,11 @@ LOOK_AT_FILES = 1.0  # seconds between two looks at what a program that says not
 FIRST_FACTOR = 3  # the first answer may take so many times as long
 FIRST_HINT = " (does it flush standard output after `end`, and answer before it reads on after the line `end`?)"
 LAST_LINES, LAST_LETTERS, LAST_BYTES = 5, 600, 1 << 14
-# What isn't shown: lines with which Python marks a place in the line above, and of a list of calls, as Java and
-# JavaScript print it, all but the two innermost.
-UNSHOWN = re.compile(r"(?m)^[ \t\r^~]*\n|((?:^[ \t]*at .*\n){2})(?:^[ \t]*at .*\n)+")
+# What isn't shown: lines with which Python marks a place in the line above, Java's line on the options that grading
+# gives it, and of a list of calls, as Java and JavaScript print it, all but the two innermost.
+UNSHOWN = re.compile(
+    r"(?m)^[ \t\r^~]*\n|^Picked up JAVA_TOOL_OPTIONS: .*\n|((?:^[ \t]*at .*\n){2})(?:^[ \t]*at .*\n)+"
+)
 START_HINT = (
     "; is it `chmod +x`, does its first line say what runs it, as `#!/usr/bin/env python3`, without Windows' line "
     "ends, and is it called as `./FILE` or `python3 FILE`?"
@@ -84,6 +86,7 @@ class Process:
 
     def receive(self) -> list[str]:
         """The lines of the answer, without its `end`."""
+        self.look()
         got = bytearray()
         while not (end := END.search(got)):
             if len(got) > MOST_BYTES:
@@ -119,7 +122,9 @@ class Process:
         return self.limits.timeout * (FIRST_FACTOR if self.asked == 1 else 1)
 
     def ended(self, got: bytes | bytearray = b"") -> Fault:
-        """How it ended in the middle."""
+        """How it ended in the middle, or why it was ended."""
+        if self.process.pid in self.guard.faults:
+            return self.guard.faults[self.process.pid]
         found = exit_of(self.process.pid, time.monotonic() + 1)
         if found is None:
             words = "it closed its standard input or output, and goes on running"
@@ -148,7 +153,7 @@ class Process:
         with contextlib.suppress(ProcessLookupError, PermissionError):
             os.killpg(self.process.pid, signal.SIGKILL)
         self.process.wait()
-        self.guard.programs.discard(self.process.pid)
+        self.guard.leave(self.process.pid)
         self.pipes[1].close()
         self.errors.close()
 

@@ -1,41 +1,47 @@
 """The container in which a submission is graded: bubblewrap (`bwrap`), with namespaces of its own for users, processes,
-messages, the host's name and the network.
+messages, the host's name and the network, and a list of what is in it.
 
-- A program sees the system's folders, and can't write there. The folders of people and services, this program's, and
-  those that are hidden are empty.
+- A program sees the system's programs and libraries, what is on the PATH, a few files of /etc, and its submission, and
+  can't write there (visible.py). /proc has itself and its children alone; three files of it that languages read say the
+  same on each machine, but for the number of processors.
 - It writes into rooms in memory alone, its HOME and TMPDIR (/tmp) and /dev/shm, of a stated size; nothing of them is
-  there once it has ended. It begins in /tmp, which has a link to each entry of its folder.
-- It has no calls by which nodes that share no folder could give each other signs (SIGNS), and none of 32 bits.
-- All that it has started ends with it, and it ends with the process that plays it."""
+  there once it has ended, and its limit of memory counts them. It begins in /tmp, which has a link to each entry of its
+  folder.
+- It makes the calls of a list (calls.py), none of 32 bits, and no sockets but to itself and its children.
+- All that it has started ends with it, and it ends with the process that plays it.
+
+Two nodes of a run share no file that they can write to, no message and no lock, and see no count of the whole machine,
+such as how many threads it has. What remains are covert channels, which nothing here closes: how busy processors,
+memory and disks are and what is in their caches; numbers that the kernel deals out to all programs in turn, such as
+those of pipes; and limits that all programs of one user share (processes, waiting signals, bytes in pipes)."""
+
 import contextlib
-import ctypes
 import os
-import platform
-import stat
 import subprocess
-from pathlib import Path
 from typing import Iterable
 
+from lab.workshop import visible
+from lab.workshop.calls import filters_of_calls
 from lab.workshop.findings import Fault
 from lab.workshop.guard import MEGABYTE, Guard, Limits
-from lab.workshop.leftovers import NO_NEW_RIGHTS, SECCOMP, Running, control
+from lab.workshop.leftovers import Running
+from lab.workshop.memory import memory_of
 from lab.wrong import Wrong
 
-ROOM, SHARED = "/tmp", "/dev/shm"
-ROOM_BYTES, SHARED_BYTES, MOST_FILES = 256 * MEGABYTE, 16 * MEGABYTE, 10_000
-# Folders of people and services: nothing that a program needs is there, and some have sockets of services.
-CLOSED = ("/home", "/media", "/mnt", "/root", "/run", "/srv", "/var")
+ROOM = "/tmp"
+SHARED = "/dev/shm"
+ROOMS = (ROOM, SHARED)
+ROOM_BYTES = 256 * MEGABYTE
+SHARED_BYTES = 16 * MEGABYTE
+MOST_FILES = 10_000
 ALONE = ("--unshare-all", "--unshare-user", "--disable-userns", "--die-with-parent")
-SYSTEM = ("--ro-bind", "/", "/", "--dev", "/dev", "--proc", "/proc")
+NAME = ("--hostname", "submission")
 # What the programs of submissions are if root grades: each submission another of the numbers that nobody has.
 USERS = range(61184, 65520)
-# On x86-64: keys of the kernel, which a whole login shares, and locks, watches and marks of files, by the numbers of
-# calls and by the commands of `fcntl`.
-SIGNS, FCNTL, OF_FCNTL = (73, 248, 249, 250, 254, 301), 72, (5, 6, 7, 36, 37, 38, 1024, 1026, 1036)
-X86_64, OTHER_NUMBERS = 0xC000003E, 0x40000000
-# A filter of calls reads a word of the call, compares it, and says what becomes of the call: an error, or nothing.
-LOAD, IS_EQUAL, IS_ABOVE, END, REFUSED, ALLOWED = 0x20, 0x15, 0x35, 0x06, 0x50001, 0x7FFF0000
-MACHINE, NUMBER, SECOND_WORD, BY_FILTER = 4, 0, 24, 2
+# How much memory a machine has by what its files say there, and for Java, which else asks by a call that is refused.
+# Java also writes how it does into a file with a lock, which is refused, and would say so in an answer.
+KILOBYTES = 2 << 20
+FOR_JAVA = f"-XX:MaxRAM={KILOBYTES}k -XX:-UsePerfData"
 INSTEAD = (
     "run it in a container that may make namespaces, as one of `docker run --privileged`, or put a container's "
     "words after `--` (`forestlab workshop grade --help`)"
@@ -43,8 +49,9 @@ INSTEAD = (
 
 
 class Sandbox(Guard):
-    """`folder` has what was submitted, `hidden` are folders that are empty for its programs, and `needed` those below
-    them that aren't. `user` is the number of the user that its programs are if root grades."""
+    """`folder` has what was submitted, `hidden` are folders that are empty for its programs wherever they would be
+    seen, and `needed` what is seen besides the system's folders. `user` is the number of the user that its programs
+    are if root grades."""
 
     place = "/"
 
@@ -52,43 +59,106 @@ class Sandbox(Guard):
         super().__init__()
         self.folder = folder
         self.user = user if os.geteuid() == 0 else None
-        found = {os.path.realpath(path) for path in (*CLOSED, *hidden)} - {ROOM}
-        empty = [path for path in sorted(found) if os.path.isdir(path) and self.reaches(path)]
-        read = [*filter(self.reaches, needed), folder]
-        # What is made last is on top; a folder is shut once all below it is made.
-        self.container = ["bwrap", *ALONE, *SYSTEM, "--size", str(ROOM_BYTES), "--tmpfs", ROOM]
-        for path in empty:
-            self.container += ["--tmpfs", path]
-        for path in read:
-            self.container += ["--ro-bind", path, path]
-        for path in (*empty, "/dev"):
-            self.container += ["--remount-ro", path]
+        self.files: list[int] = []
+        self.container = [*ALONE, *NAME]
+        for calls in filters_of_calls():
+            self.container += ["--add-seccomp-fd", self.text(calls)]
+        self.container += ["--dev", "/dev", "--proc", "/proc", *self.told()]
+        self.container += ["--size", str(ROOM_BYTES), "--tmpfs", ROOM]
+        # The submission becomes its user's own once it is copied.
+        shown = [*filter(self.reaches, [*visible.system(), *needed]), folder]
+        closed = {os.path.realpath(path) for path in hidden} - {ROOM}
+        empty = [*filter(os.path.isdir, closed), *visible.copies_in(shown)]
+        self.add_files(shown, {path for path in empty if self.reaches(path)})
         self.container += ["--size", str(SHARED_BYTES), "--tmpfs", SHARED, "--chdir", ROOM]
+        # The words lie in a file, since a program may read how the first process of its container was called.
+        self.words_before = [
+            "bwrap",
+            "--args",
+            self.text("\0".join([*self.container, ""]).encode()),
+        ]
+
+    def text(self, data: bytes) -> str:
+        """The number of an open file that bubblewrap reads."""
+        number = os.memfd_create("words")
+        os.write(number, data)
+        self.files.append(number)
+        return str(number)
+
+    def told(self) -> list[str]:
+        """/proc without what it says of the machine, and who the program's user is. Each file and folder is covered."""
+        words: list[str] = ["--tmpfs", "/dev/pts", "--remount-ro", "/dev/pts"]
+        texts = {path: text.encode() for path, text in self.texts().items()}
+        for path in visible.covered_in_proc():
+            if path in texts:
+                continue
+            if os.path.isdir(path):
+                words += ["--tmpfs", path, "--remount-ro", path]
+            else:
+                words += ["--ro-bind", "/dev/null", path]
+        for path, data in texts.items():
+            words += ["--perms", "0444", "--ro-bind-data", self.text(data), path]
+        return words
+
+    def texts(self) -> dict[str, str]:
+        """Files that some languages read as they start: Java and JavaScript how many processors there are and how much
+        memory, Java and Perl where the user's home is."""
+        numbers = range(len(os.sched_getaffinity(0)))
+        user = os.geteuid() if self.user is None else self.user
+        group = os.getegid() if self.user is None else self.user
+        sizes = ("MemTotal", "MemFree", "MemAvailable")
+        return {
+            "/etc/passwd": f"student:x:{user}:{group}::{ROOM}:/bin/sh\n",
+            "/proc/meminfo": "".join(f"{name}: {KILOBYTES} kB\n" for name in sizes),
+            "/proc/cpuinfo": "".join(f"processor\t: {number}\n\n" for number in numbers),
+            "/proc/stat": "".join(
+                f"cpu{number} 0 0 0 0 0 0 0 0 0 0\n" for number in ("", *numbers)
+            ),
+        }
+
+    def add_files(self, shown: list[str], empty: set[str]) -> None:
+        """What is seen, and what of that is empty; what is further in comes later, and is on top. A folder is shut once
+        all below it is made."""
+        covers = {path for path in empty if visible.is_below(path, shown)}
+        for path in sorted({*shown, *covers}):
+            if path in covers:
+                self.container += ["--tmpfs", path]
+            elif visible.deepest(path, covers) >= visible.deepest(path, shown):
+                self.container += shown_as(path)
+        for path in (*sorted(covers), "/dev", "/"):
+            self.container += ["--remount-ro", path]
 
     def reaches(self, path: str) -> bool:
-        """Whether the programs' user may pass all folders above a path; what it can't reach needn't be hidden, and
-        couldn't be."""
-        if self.user is None:
-            return True
-        return all(os.stat(folder).st_mode & stat.S_IXOTH for folder in Path(path).parents)
+        """Whether the programs' user may pass all folders above a path; what it can't reach can't be shown to it."""
+        return visible.reaches(path, self.user)
 
     def words(self, command: list[str]) -> list[str]:
         """The command in a container of its own, with a link to each entry of the folder."""
         links = []
         for name in os.listdir(self.folder):
             links += ["--symlink", os.path.join(self.folder, name), os.path.join(ROOM, name)]
-        return [*self.container, *links, "--", *command]
+        return [*self.words_before, *links, "--", *command]
 
     def environment(self) -> dict[str, str]:
-        return super().environment() | {"HOME": ROOM, "TMPDIR": ROOM}
+        return super().environment() | {"HOME": ROOM, "TMPDIR": ROOM, "JAVA_TOOL_OPTIONS": FOR_JAVA}
+
+    def start(self, limits: Limits, tasks: int) -> dict:
+        return super().start(limits, tasks) | {"pass_fds": self.files}
 
     def enter(self) -> None:
-        refuse_signs()
+        """Each container reads the open files from their beginning, whatever another has read."""
+        for number in self.files:
+            again = os.open(f"/proc/self/fd/{number}", os.O_RDONLY)
+            os.dup2(again, number)
+            os.close(again)
 
     def check(self, running: list[Running], memory: int) -> None:
-        super().check(running, memory)
-        if running and max(map(files_seen_by, running)) > MOST_FILES:
+        rooms = rooms_of(running)
+        if sum(room.f_files - room.f_ffree for room in rooms) > MOST_FILES:
             raise Fault("flood", f"it wrote more than {MOST_FILES} files")
+        written = sum((room.f_blocks - room.f_bfree) * room.f_frsize for room in rooms)
+        if memory_of(running) + written > memory:
+            raise Fault("flood", f"it takes more than {memory >> 20} megabytes of memory")
 
     def try_out(self) -> None:
         """Refuses a system on which nothing can be started so."""
@@ -103,44 +173,27 @@ class Sandbox(Guard):
             raise Wrong(
                 f"what is submitted is graded in bubblewrap, which isn't here: `apt install bubblewrap`, or {INSTEAD}"
             ) from None
-        except subprocess.SubprocessError:
-            raise Wrong(f"calls can't be refused here, as grading needs it: {INSTEAD}") from None
         if done.returncode:
             raise Wrong(
                 f"bubblewrap (0.8 or later) can't start here ({done.stderr.strip()}): {INSTEAD}"
             )
 
 
-def refuse_signs() -> None:
-    """Refuses SIGNS to this process and all that it starts."""
-    if platform.machine() != "x86_64":
-        return
-
-    def row(what: int, value: int, if_so: int = 0, if_not: int = 0) -> int:
-        """One step of the filter, which passes over so many of the next ones."""
-        return what | if_so << 16 | if_not << 24 | value << 32
-
-    refuse, allow = row(END, REFUSED), row(END, ALLOWED)
-    rows = [row(LOAD, MACHINE), row(IS_EQUAL, X86_64, 1), refuse, row(LOAD, NUMBER)]
-    rows += [row(IS_ABOVE, OTHER_NUMBERS, 0, 1), refuse]
-    for number in SIGNS:
-        rows += [row(IS_EQUAL, number, 0, 1), refuse]
-    rows += [row(IS_EQUAL, FCNTL, 1), allow, row(LOAD, SECOND_WORD)]
-    for number in OF_FCNTL:
-        rows += [row(IS_EQUAL, number, 0, 1), refuse]
-    steps = (ctypes.c_uint64 * (len(rows) + 1))(*rows, allow)
-    filter_of_calls = (ctypes.c_uint64 * 2)(len(steps), ctypes.addressof(steps))
-    control(NO_NEW_RIGHTS, 1)
-    control(SECCOMP, BY_FILTER, ctypes.addressof(filter_of_calls))
+def shown_as(path: str) -> list[str]:
+    """The words for a file or a folder that is seen. Of the system's folders some are links to others."""
+    if os.path.islink(path) and os.path.dirname(path) == "/":
+        return ["--symlink", os.readlink(path), path]
+    return ["--ro-bind", path, path]
 
 
-def files_seen_by(process: Running) -> int:
-    """How many files the rooms of a process have; 0 of bubblewrap's own, which has none."""
-    files = 0
-    for room in (ROOM, SHARED):
-        path = f"/proc/{process.number}/root{room}"
-        with contextlib.suppress(OSError):  # it has ended meanwhile
-            if os.stat(path).st_dev != os.stat(room).st_dev:
-                found = os.statvfs(path)
-                files += found.f_files - found.f_ffree
-    return files
+def rooms_of(running: list[Running]) -> list[os.statvfs_result]:
+    """What is in the rooms of a program. bubblewrap's own process has none, and all others have the same."""
+    found: dict[int, os.statvfs_result] = {}
+    for process in running:
+        for room in ROOMS:
+            path = f"/proc/{process.number}/root{room}"
+            with contextlib.suppress(OSError):  # it has ended meanwhile
+                device = os.stat(path).st_dev
+                if device != os.stat(room).st_dev and device not in found:
+                    found[device] = os.statvfs(path)
+    return list(found.values())

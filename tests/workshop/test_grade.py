@@ -17,7 +17,7 @@ from tests.cases import Case, text_in, wait_until
 from tests.tools import need
 from tests.workshop.base import DOOR, LIMIT, call
 from tests.workshop.submitted import MUTE, RIGHT, ZERO, Submitted
-from tests.workshop.test_sandbox import got, program
+from tests.workshop.contained import got, program
 from tests.workshop.test_misbehaving import MARK, left, left_at_last
 
 
@@ -198,29 +198,6 @@ class Grades(Submitted):
                 Wrong, "forestplan plain ends with status 1: it isn't there"
             ):
                 grade.main([self.subs])
-
-    def test_what_the_path_opens(self):
-        """By hand: what lies beside a folder of programs, but never this program's folder, which pages put on the PATH,
-        or the submissions, not even from above."""
-        home = self.folder
-        path = ":".join(
-            os.path.join(home, part)
-            for part in (
-                "bin",
-                ".pyenv/bin",
-                "work/bin",
-                "work/forestplan/bin",
-                "work/forestplan",
-                "subs/anna/bin",
-                "node/v20/bin",
-            )
-        )
-        for part in path.split(":"):
-            os.makedirs(part, exist_ok=True)
-        closed = [os.path.join(home, part) for part in ("work/forestplan", "subs")]
-        with mock.patch.dict(os.environ, HOME=home, PATH=f"/usr/bin:{path}"):
-            found = [os.path.relpath(path, home) for path in parts.programs_at_home(closed)]
-        self.assertEqual(found, [".pyenv", "bin", "node/v20", "work/bin"])
 
     def test_words_before_a_command(self):
         """As those of a container, with the folder of the copy."""

@@ -2,59 +2,24 @@
 around it. It needs no built program."""
 import ctypes
 import os
-import re
 import shutil
 import socket
 import subprocess
 from unittest import mock
 
-from lab.workshop import sandbox
 from lab.workshop.compiling import compiled, unpack
 from lab.workshop.findings import Fault
-from lab.workshop.guard import Guard, Limits
+from lab.workshop.guard import Limits
 from lab.workshop.leftovers import end_all, shut
 from lab.workshop.processes import Process
-from lab.workshop.sandbox import USERS, Sandbox
+from lab.workshop.sandbox import Sandbox
 from lab.wrong import Wrong
-from tests.cases import Case, wait_until
+from tests.cases import wait_until
 from tests.tools import need
 from tests.workshop.base import JAVA, LIMIT
+from tests.workshop.contained import NODE, REFUSED, RIGHT, Contained, done, got, program, started
 from tests.workshop.test_misbehaving import MARK, left
 
-# A number that no other module takes, since the processes of one number are counted together.
-USER = USERS[-2]
-BEGIN = """\
-import ctypes, fcntl, os, resource, signal, socket, stat, sys, time
-SYSTEM, WORKSHOP, said = ctypes.CDLL(None, use_errno=True), os.getppid(), []
-def tries(name, attack):
-    try:
-        said.append(f"{name}={attack()!r}".split()[0])
-    except BaseException as why:
-        said.append(f"{name}={type(why).__name__}")
-def call(status):
-    if status < 0:
-        raise OSError(ctypes.get_errno(), os.strerror(ctypes.get_errno()))
-def connected(family, address):
-    with socket.socket(family) as end:
-        end.connect(address)
-def unshared():
-    pid = os.fork()
-    if pid == 0:
-        os._exit(SYSTEM.unshare(0x10000000) != 0)
-    call(-os.waitpid(pid, 0)[1])
-def filled():
-    for number in range(20):
-        file = os.open(f"fill{number}", os.O_CREAT | os.O_WRONLY)
-        os.posix_fallocate(file, 0, 15 << 20)
-        os.close(file)
-def away(seconds):
-    if os.fork() == 0:
-        os.setsid()
-        if os.fork() == 0:
-            os.execvp("sleep", ["sleep", str(seconds)])
-        os._exit(0)
-"""
-END = "\nsys.stderr.write(' '.join(said))\n"
 # Each reaches something that no submission has any business with; `{other}` is another's node, `{workshop}` the number
 # of the process that plays it.
 ATTACKS = {
@@ -99,11 +64,6 @@ OF_ROOT = {
     "log": "os.open('/dev/kmsg', os.O_RDONLY)",
     "root": "os.setuid(0)",
 }
-REFUSED = {
-    *("PermissionError", "FileNotFoundError", "ProcessLookupError", "OSError"),
-    *("ConnectionRefusedError", "IndexError", "KeyError"),
-}
-NODE = "rounds_node.py"
 PLUGIN = """\
 import com.sun.source.util.*;
 import java.nio.file.*;
@@ -117,53 +77,7 @@ public class Thief implements Plugin {
 """
 
 
-def program(attacks, more=""):
-    lines = [f"tries({name!r}, lambda: {attack})\n" for name, attack in attacks.items()]
-    return ["python3", "-S", "-c", BEGIN + more + "".join(lines) + END]
-
-
-def started(guard, command):
-    pipe = subprocess.PIPE
-    told = guard.start(Limits(LIMIT, 2048, 1), guard.tasks())
-    return subprocess.Popen(guard.words(command), stdout=pipe, stderr=pipe, text=True, **told)
-
-
-def done(guard, command):
-    """What a program wrote to standard error."""
-    process = started(guard, command)
-    return process.communicate(timeout=LIMIT)[1]
-
-
-def got(said):
-    """What each attack got, from standard error or a verdict that shows it."""
-    return dict(re.findall(r"([a-z_]+)=([^ `\n]+)", said))
-
-
-class Sandboxed(Case):
-    needs_programs = False
-
-    def setUp(self):
-        need(self, "bwrap")
-        os.chmod(self.folder, 0o755)
-        self.subs = os.path.join(self.folder, "home", "submissions")
-        self.room = os.path.join(self.folder, "room")
-        self.copy = os.path.join(self.room, "copy")
-        self.other = self.file(os.path.join(self.subs, "ben", NODE), "ben's")
-        self.file("home/secret", "x")
-        self.file("beside", "x")
-        self.file(os.path.join(self.copy, NODE), "own")
-        os.symlink(self.other, os.path.join(self.copy, "link"))
-
-    def tearDown(self):
-        end_all()
-
-    def guards(self):
-        """The container, and none; both in the folder of a submission."""
-        if os.geteuid() == 0:
-            subprocess.run(["chown", "-hR", f"{USER}:{USER}", self.copy], check=True)
-        hidden = [os.path.join(self.folder, "home"), self.subs, self.room, os.path.dirname(RIGHT)]
-        return Sandbox(self.copy, hidden, [], USER), unguarded(self.copy)
-
+class Sandboxed(Contained):
     def names(self):
         """What the attacks speak of: all of it is there."""
         server = socket.create_server(("127.0.0.1", 0))
@@ -214,10 +128,13 @@ class Sandboxed(Case):
         own = {
             "reads": f"open({NODE!r}).read()",
             "writes": "open('log', 'w').write('x')",
-            "names": "sorted(os.environ.keys() - {'LANG', 'LC_CTYPE'}) == ['HOME', 'PATH', 'PWD', 'TMPDIR']",
+            "names": "sorted(os.environ.keys() - {'LANG', 'LC_CTYPE'}) == "
+            "['HOME', 'JAVA_TOOL_OPTIONS', 'PATH', 'PWD', 'TMPDIR']",
             "home": "os.environ['HOME'] == os.getcwd() == os.environ['TMPDIR']",
             "locks": "__import__('multiprocessing').Lock() is not None",
-            "listens": "socket.create_server(('127.0.0.1', 0)) is not None",
+            "listens": "socket.create_server('socket', family=socket.AF_UNIX) is not None",
+            "processors": "os.cpu_count() == len(os.sched_getaffinity(0))",
+            "who": "__import__('pwd').getpwuid(os.getuid()).pw_dir == '/tmp'",
         }
         with mock.patch.dict(os.environ, SECRET="x"):
             found = got(done(self.guards()[0], program(own)))
@@ -267,12 +184,6 @@ class Sandboxed(Case):
                 "many files",
                 "for n in range(11_000):\n    open(str(n), 'w')\n",
                 "more than 10000 files",
-            ),
-            (
-                "files without a name",
-                "files = [os.memfd_create('') for _ in range(20)]\n"
-                "for file in files:\n    os.write(file, bytes(15 << 20))\n",
-                "more than 200 megabytes of memory",
             ),
             (
                 "shared memory",
@@ -341,10 +252,7 @@ class Sandboxed(Case):
     def test_where_it_cant_be(self):
         """One sentence, which says what to do. Where it isn't installed: test_grade.py."""
         guard, _ = self.guards()
-        refused = mock.patch.object(sandbox, "SECCOMP", 0)
-        with refused, self.assertRaisesRegex(Wrong, "can't be refused here.*docker run"):
-            guard.try_out()
-        guard.container.append("--no-such-word")
+        guard.words_before += ["--no-such-word"]
         with self.assertRaises(Wrong) as why:
             guard.try_out()
         self.assertRegex(
@@ -352,20 +260,11 @@ class Sandboxed(Case):
         )
 
     def test_folders_that_its_user_cant_reach(self):
-        """What lies below them can't be hidden, and needn't be; an ordinary user reaches all that is its own."""
+        """What lies below them can't be shown; an ordinary user reaches all that is its own."""
         shut = os.path.join(self.folder, "shut")
-        os.makedirs(os.path.join(shut, "subs"))
+        tools = os.path.join(shut, "tools")
+        os.makedirs(tools)
         os.chmod(shut, 0o700)
-        user = USER if os.geteuid() == 0 else None
-        guard = Sandbox(self.copy, [os.path.join(shut, "subs"), self.room], [], USER)
-        self.same("hidden", os.path.join(shut, "subs") in guard.container, user is None)
+        guard = Sandbox(self.copy, [self.room], [tools], self.user)
+        self.same("shown", tools in guard.container, os.geteuid() != 0)
         guard.try_out()
-
-
-def unguarded(folder):
-    guard = Guard()
-    guard.place = folder
-    return guard
-
-
-RIGHT = os.path.join(os.path.dirname(os.path.dirname(JAVA)), "python", NODE)
