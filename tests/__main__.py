@@ -8,13 +8,13 @@ NAME is a module, a class or a test as --list prints them; one part of such a na
 a folder, a module or a class; or a word of a test's name. `test_` may be left out of it.
 Without NAME all tests run.
 
-The programs are those that `rt ci`, or ./forestplan and forestplay, have built. It
-needs a C compiler, `cc`. What is in tests/by_hand/ has to be called by hand."""
+The programs are those that `rt ci`, or ./forestplan and forestplay, have built; without
+one, or without a tool, the tests that need it don't run, and are named before the count.
+What is in tests/by_hand/ has to be called by hand."""
 import argparse
 import contextlib
 import os
 import re
-import shutil
 import signal
 import subprocess
 import sys
@@ -22,10 +22,9 @@ import tempfile
 from collections import defaultdict
 from concurrent.futures import ThreadPoolExecutor
 
-from build import program
 from tests import TOP
-from tests.settings import MORE_HELP, NAMED, PATHS
-from tests.tools import not_run
+from tests.settings import BUILT, MORE_HELP, PATHS
+from tests.tools import is_built, is_installed, not_run
 
 # The modules that take longest, which begin first.
 LONGEST = (
@@ -47,6 +46,9 @@ def options():
     words.add_argument("names", metavar="NAME", nargs="*")
     words.add_argument(
         "--list", action="store_true", help="print the names of the tests, and run none"
+    )
+    words.add_argument(
+        "--built", action="store_true", help="run none, unless the programs are built"
     )
     words.add_argument(
         "-j",
@@ -94,20 +96,6 @@ def chosen_tests(names, words):
     return found
 
 
-def what_is_missing(chosen):
-    """What the chosen tests need and isn't there, in words."""
-    tests = [test for tests in chosen.values() for test in tests.values() if test is not None]
-    if not any(getattr(test, "needs_programs", True) for test in tests):
-        return ""
-    for name, path in PATHS.items():
-        if not os.access(path, os.X_OK) or not NAMED[name] and not program.is_built(name):
-            return (
-                f"{os.path.relpath(path)} isn't built from the sources as they are, and no test proves anything: "
-                f"./test builds it, and so does bin/{name}"
-            )
-    return "" if shutil.which("cc") else "there is no C compiler cc"
-
-
 def end_all_of(process):
     """Ends what a module's process has started, and itself."""
     with contextlib.suppress(ProcessLookupError):
@@ -140,20 +128,20 @@ def report(module, status, said):
     passed, failed = map(int, last.groups()) if last else (0, 0)
     if (status != 0) != (failed > 0) or not last:
         count = "" if last else " and without its count"
-        print(f"FAILED {module}: it ended with status {status}{count}")
+        print(f"FAIL: {module}: it ended with status {status}{count}")
         failed += 1
     sys.stdout.flush()
     return passed, failed
 
 
 def report_missing(tests):
-    """Prints each tool that isn't installed with the tests that didn't run without it: the last
-    lines before the count."""
-    by_tool = defaultdict(set)
-    for tool, test in tests:
-        by_tool[tool].add(test)
-    for tool, names in sorted(by_tool.items()):
-        print(f"{tool} isn't installed, and these tests didn't run: {', '.join(sorted(names))}")
+    """Prints each tool that isn't installed, or program that isn't built, with the tests that didn't run without it:
+    the last lines before the count."""
+    by_lack = defaultdict(set)
+    for lack, test in tests:
+        by_lack[lack].add(test)
+    for lack, names in sorted(by_lack.items()):
+        print(f"{lack}, and these tests didn't run: {', '.join(sorted(names))}")
 
 
 def run_all(chosen, jobs, folder):
@@ -171,7 +159,7 @@ def run_all(chosen, jobs, folder):
             for module in chosen:
                 status, said = done[module].result()
                 sums = [a + b for a, b in zip(sums, report(module, status, said))]
-                skipped += [(tool, f"{module}.{test}") for tool, test in not_run(said)]
+                skipped += [(lack, f"{module}.{test}") for lack, test in not_run(said)]
         except BaseException:
             pool.shutdown(wait=False, cancel_futures=True)
             for process in running:
@@ -198,10 +186,12 @@ def main():
         if given.list:
             print("\n".join(test for tests in chosen.values() for test in tests))
             return 0
-        missing = what_is_missing(chosen)
+        missing = [name for name in BUILT if not is_installed(name)] if given.built else []
         if missing:
-            print(f"tests: {missing}", file=sys.stderr)
+            print(f"tests: not built from these sources: {', '.join(missing)}", file=sys.stderr)
             return 2
+        # The processes of the modules needn't look again.
+        os.environ["TESTS_BUILT"] = " ".join(filter(is_built, PATHS))
         passed, failed = run_all(chosen, max(1, given.jobs), folder)
     print(f"{passed} passed, {failed} failed")
     return 1 if failed else 0

@@ -1,47 +1,88 @@
 """What every test has: the case whose rows are counted, its files, and how programs are called."""
 import contextlib
+import difflib
 import functools
 import gc
 import io
 import os
+import pprint
 import shutil
 import subprocess
 import sys
 import tempfile
 import time
+import traceback
 import unittest
 import unittest.mock
 
 from lab.wrong import Wrong as Fault
 from tests import FORESTLAB, TOP
 
-# Letters of what is said of a row that fails.
-MOST_SAID = 4000
+# With this word in a module, unittest leaves its functions out of the traceback of a failure.
+__unittest = True
+# The folder of the tests; what runs them isn't in a folder of it.
+OWN = os.path.join(TOP, "tests", "")
+# Of what is said of a row that fails: letters of values that are shown whole, letters of a line, and lines.
+BRIEF, WIDE, MOST_LINES = 200, 100, 60
 
 
-class Wrong(AssertionError):
-    """A row that isn't as it should be, with what was found."""
+def cut(lines: list[str]) -> str:
+    """The first lines, and how many more there are."""
+    more = len(lines) - MOST_LINES
+    return "\n".join([*lines[:MOST_LINES], *([f".. and {more} more lines"] if more > 0 else [])])
+
+
+def lines_to_show(value: object) -> list[str]:
+    """A value in lines that aren't long: a text as it stands, and anything else as Python writes it."""
+    text = value if isinstance(value, str) else pprint.pformat(value, width=WIDE)
+    return [part for line in text.split("\n") for part in pieces_of(line)]
+
+
+def pieces_of(line: str) -> list[str]:
+    return [line[at : at + WIDE] for at in range(0, max(1, len(line)), WIDE)]
+
+
+def difference(got: object, wanted: object) -> str:
+    """What is expected and what is found; of long values the lines in which they differ."""
+    if len(repr(wanted)) + len(repr(got)) <= BRIEF:
+        return f"expected {wanted!r}\nbut got  {got!r}"
+    lines = difflib.unified_diff(
+        lines_to_show(wanted), lines_to_show(got), "expected", "got", lineterm="", n=1
+    )
+    return cut(list(lines) or [f"expected a {type(wanted)} and got a {type(got)}"])
+
+
+def places() -> str:
+    """Where in tests/ the row is that runs, as a traceback has it: a row of `Case` is caught before it comes there."""
+    stack = traceback.extract_stack()
+    own = [at for at in stack if os.sep in at.filename.removeprefix(OWN) != at.filename]
+    return "".join(traceback.format_list(own)).rstrip()
 
 
 class Case(unittest.TestCase):
     """A test is one row, or has rows: each is a `subTest`, and one that fails doesn't stop those after it."""
 
-    # Whether the built programs are called, or scripts that would build them.
-    needs_programs = True
-
-    def note(self, name, good, what=""):
+    def note(self, name: object, good: object, what: object = "") -> None:
         """A row: whether it is good, and what is said if it isn't."""
         with self.subTest(name):
             if not good:
-                raise Wrong(str(what)[:MOST_SAID])
+                self.fail_row(name, cut(lines_to_show(what)))
 
-    def same(self, name, got, wanted):
+    def same(self, name: object, got: object, wanted: object) -> None:
         """A row: what is found is what it has to be."""
-        self.note(name, got == wanted, f"wanted {wanted!r}, got {got!r}")
+        with self.subTest(name):
+            if got != wanted:
+                self.fail_row(name, difference(got, wanted))
 
-    def refusal(self, name, done, status, said):
+    def refusal(self, name: object, done: tuple, status: int, said: object) -> None:
         """The row of a refusal: nothing is written, and this is said. `done` is the status and both outputs."""
-        self.note(name, done[0] == status and not done[1] and said in done[2], done)
+        with self.subTest(name):
+            if done[0] != status or done[1] or said not in done[2]:
+                wanted = f"expected status {status}, no output, and words with {said!r}"
+                self.fail_row(name, f"{wanted}\n{cut(lines_to_show(done))}")
+
+    def fail_row(self, name: object, said: str) -> None:
+        self.fail(f"{name}\n{places()}\n{said}")
 
     @functools.cached_property
     def folder(self):
@@ -55,6 +96,18 @@ class Case(unittest.TestCase):
         with open(path, mode) as file:
             file.write(data if isinstance(data, bytes) else data.encode())
         return path
+
+
+class FilesCase(Case):
+    """A test over many files is one row. If it fails, what is wrong with each file is a row."""
+
+    def note(self, name: object, good: object, what: object = "") -> None:
+        if not good:
+            super().note(name, good, what)
+
+    def same(self, name: object, got: object, wanted: object) -> None:
+        if got != wanted:
+            super().same(name, got, wanted)
 
 
 def copied(tree, *parts):

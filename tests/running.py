@@ -2,9 +2,9 @@
 
   python3 -m tests.running MODULE [TEST ..]
 
-A test is a method of a `unittest.TestCase` in a module named `test_*`; any other module is a helper. It prints each row
-that failed or was skipped, and last 'N passed, M failed'. A test that takes longer than the limit ends it, with the
-place where it waits."""
+A test is a method of a `unittest.TestCase` in a module named `test_*`; any other module is a helper. What failed or was
+skipped is printed after each test, and last 'N passed, M failed'. A test that takes longer than the limit ends the
+process, with the place where it waits."""
 import faulthandler
 import glob
 import importlib
@@ -13,7 +13,6 @@ import sys
 import unittest
 
 from tests import TOP
-from tests.cases import Wrong
 from tests.settings import setting
 
 
@@ -25,13 +24,13 @@ def without_rt(path):
     )
 
 
-def modules():
+def modules() -> list[str]:
     """The names of all modules of tests/ that have tests."""
     paths = sorted(glob.glob("**/test_*.py", root_dir=os.path.join(TOP, "tests"), recursive=True))
     return [path.removesuffix(".py").replace("/", ".") for path in paths]
 
 
-def tests_of(module):
+def tests_of(module: str) -> dict[str, unittest.TestCase]:
     """The tests of a module by their names, `MODULE.CLASS.test_x`."""
     cases = unittest.defaultTestLoader.loadTestsFromModule(
         importlib.import_module(f"tests.{module}")
@@ -39,11 +38,11 @@ def tests_of(module):
     return {test.id().removeprefix("tests."): test for case in cases for test in case}
 
 
-class Counting(unittest.TestResult):
-    """Counts rows: a test's, or the test itself if it has no rows."""
+class Rows(unittest.TextTestResult):
+    """Counts rows: a test's, or the test itself if it has no rows. Prints a test's failures when it ends."""
 
-    def __init__(self):
-        super().__init__()
+    def __init__(self) -> None:
+        super().__init__(unittest.TextTestRunner(sys.stdout).stream, False, 0)
         self.passed, self.failed, self.rows = 0, 0, 0
 
     def startTest(self, test):
@@ -53,51 +52,45 @@ class Counting(unittest.TestResult):
         faulthandler.dump_traceback_later(float(setting("limit")), exit=True)
 
     def addSubTest(self, test, subtest, err):
+        super().addSubTest(test, subtest, err)
         self.rows += 1
-        if err is None:
-            self.passed += 1
-        else:
-            row = (
-                subtest._message if isinstance(subtest._message, str) else subtest._subDescription()
-            )
-            self.note_failure(test, f"{row}: ", err)
+        self.passed += err is None
 
     def addSuccess(self, test):
+        super().addSuccess(test)
         self.passed += self.rows == 0
-
-    def addError(self, test, err):
-        self.note_failure(test, "", err)
-
-    addFailure = addError
 
     def addSkip(self, test, reason):
         super().addSkip(test, reason)
-        print(f"skipped {name_of(getattr(test, 'test_case', test))}: {reason}", flush=True)
+        # Of a row the test is said, and of a class that is skipped `setUpClass (..)`.
+        *_, kind, name = getattr(test, "test_case", test).id().split(".")
+        print(f"skipped {kind}.{name}: {reason}", flush=True)
 
-    def note_failure(self, test, row, err):
-        kind, what, _ = err
-        said = str(what) if kind is Wrong else self._exc_info_to_string(err, test).rstrip()
-        self.failed += 1
-        print(f"FAILED {name_of(test)}: {row}{said}", flush=True)
+    def stopTest(self, test):
+        super().stopTest(test)
+        self.tell()
+
+    def tell(self) -> None:
+        """Prints what failed since the last call, and counts it."""
+        self.failed += len(self.failures) + len(self.errors) + len(self.unexpectedSuccesses)
+        self.printErrors()
+        for found in (self.failures, self.errors, self.unexpectedSuccesses):
+            found.clear()
 
 
-def name_of(test):
-    """CLASS.test_x; what fails before a class's tests has a name of its own, `setUpClass (..)`."""
-    return test.id() if "(" in test.id() else ".".join(test.id().split(".")[-2:])
-
-
-def main():
-    counted, (module, *chosen) = Counting(), sys.argv[1:]
+def main() -> int:
+    module, *chosen = sys.argv[1:]
     # No test proves anything.
     os.environ["PATH"] = without_rt(os.environ["PATH"])
     faulthandler.dump_traceback_later(float(setting("limit")), exit=True)
-    tests = tests_of(module)
-    unittest.TestSuite(tests[name] for name in chosen or tests if name in tests).run(counted)
-    if counted.passed + counted.failed + len(counted.skipped) == 0:
-        counted.failed = 1
-        print(f"FAILED {module}: nothing was run")
-    print(f"{counted.passed} passed, {counted.failed} failed")
-    return 1 if counted.failed else 0
+    tests, result = tests_of(module), Rows()
+    unittest.TestSuite(tests[name] for name in chosen or tests if name in tests).run(result)
+    result.tell()
+    if result.passed + result.failed + len(result.skipped) == 0:
+        result.failed = 1
+        print(f"FAIL: {module}: nothing was run")
+    print(f"{result.passed} passed, {result.failed} failed")
+    return 1 if result.failed else 0
 
 
 if __name__ == "__main__":

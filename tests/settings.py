@@ -48,5 +48,11 @@ SECOND_PLAN = os.path.abspath(setting("second_plan", built("forestplan") + ".by-
 SECOND_PLAY = os.path.abspath(setting("second_play", built("forestplay") + ".by-rattle"))
 CRATE_TESTS = setting("crate_tests", f"{TOP}/crates/checks/out/checks_tests")
 PATHS = {"forestplan": PLAN, "forestplay": PLAY}
+# All that is built, by its name.
+BUILT = PATHS | {
+    "forestplan.by-rattle": SECOND_PLAN,
+    "forestplay.by-rattle": SECOND_PLAY,
+    "checks_tests": CRATE_TESTS,
+}
 # One that a variable names is tested as it is, from whatever sources it was built.
 NAMED = {"forestplan": "TESTS_PLAN" in os.environ, "forestplay": "TESTS_PLAY" in os.environ}

@@ -1,18 +1,23 @@
-"""Tools that some tests need, and that may be missing. A test that needs one asks here; the last
-lines of `python3 -m tests` name each tool that wasn't there, with the tests that didn't run."""
+"""Tools and built programs that some tests need, and that may be missing. A test that needs one asks here; the last
+lines of `python3 -m tests` name each that wasn't there, with the tests that didn't run."""
 
 import ctypes
+import functools
 import importlib.util
 import os
 import re
 import shutil
 import subprocess
 import sys
+import unittest
+from collections.abc import Callable
 
+from build import program
 from tests import browser
+from tests.settings import BUILT, NAMED, PATHS
 
-ENDING = "isn't installed"
-
+# The scripts of the two programs, which prove and build one that isn't built from the sources as they are.
+SCRIPTS = {f"bin/{name}": name for name in PATHS}
 
 # Debian's Python, and what Debian's packages have for it.
 SYSTEM = "/usr/bin/python3"
@@ -28,13 +33,28 @@ def has_module(python: str, module: str) -> bool:
     return subprocess.run([python, "-c", f"import {module}"], capture_output=True).returncode == 0
 
 
-def is_installed(tool):
-    """Whether a tool is there: a command by its name or its path, a module of this Python, or `MODULE of PYTHON`.
+@functools.cache
+def is_built(name: str) -> bool:
+    """Whether the program of a name is built from the sources as they are, if the process that began this one hasn't
+    found out."""
+    known = os.environ.get("TESTS_BUILT")
+    return program.is_built(name) if known is None else name in known.split()
+
+
+@functools.cache
+def is_installed(tool: str) -> bool:
+    """Whether a tool is there: a command by its name or its path, a module of this Python, or `MODULE of PYTHON`; a
+    program that the settings name; or, by its script in bin/, one that is built from the sources as they are.
 
     This Python takes a module that it lacks from the system's, if that has its version."""
     module, _, python = tool.partition(" of ")
     if python:
         return has_module(python, module)
+    if tool in SCRIPTS:
+        return is_built(SCRIPTS[tool])
+    if tool in BUILT:
+        is_from_sources = tool not in PATHS or NAMED[tool] or is_built(tool)
+        return os.access(BUILT[tool], os.X_OK) and is_from_sources
     if tool in ("networkx", "matplotlib", "igraph", "pandas", "hypothesis"):
         if importlib.util.find_spec(tool) is None and os.path.exists(OWN):
             sys.path.append(OF_SYSTEM)
@@ -53,13 +73,29 @@ def is_library(name: str) -> bool:
         return False
 
 
-def need(test, tool):
-    """Skips the test, or the row of it that runs, if the tool isn't installed."""
-    if not is_installed(tool):
-        test.skipTest(f"{tool} {ENDING}")
+def lack_of(tools: tuple[str, ...]) -> str:
+    """What isn't there of some tools, in words."""
+    tool = next((tool for tool in tools if not is_installed(tool)), None)
+    if tool is None:
+        return ""
+    is_program = tool in SCRIPTS or tool in BUILT
+    return f"{tool} isn't built" if is_program else f"{tool} isn't installed"
 
 
-def not_run(said):
-    """The pairs of a tool and a test in what a module said: the test needs the tool, and was skipped."""
-    found = re.findall(rf"^skipped (\S+): (.+) {ENDING}$", said, re.M)
-    return [(tool, test) for test, tool in found]
+def needs(*tools: str) -> Callable:
+    """The tests of a class, or a test, are skipped where one of these tools isn't there."""
+    lack = lack_of(tools)
+    return unittest.skipIf(lack, lack)
+
+
+def need(test: unittest.TestCase, *tools: str) -> None:
+    """Skips the test, or the row of it that runs, where one of these tools isn't there."""
+    lack = lack_of(tools)
+    if lack:
+        test.skipTest(lack)
+
+
+def not_run(said: str) -> list[tuple[str, str]]:
+    """The pairs of what isn't there and a test in what a module said: the test needs it, and was skipped."""
+    found = re.findall(r"^skipped (.+?): (.+ isn't (?:installed|built))$", said, re.M)
+    return [(lack, test) for test, lack in found]

@@ -7,6 +7,7 @@ from tests.cases import Case, text
 from tests.commands import EDGE, TRIANGLE
 from tests.faults.test_refused_memory import build_front, under
 from tests.settings import CRATE_TESTS, PLAN, PLAY
+from tests.tools import needs
 
 # Six nodes, five edges and the degrees 1 and 5 each. With the greatest vertex in the middle there is one forest, and 30
 # rounds; with the least there are five, and 102 rounds.
@@ -18,6 +19,7 @@ RUNS = ([PLAN, "plan", "--workers", "1"], [PLAY, "run", "--workers", "1"])
 CAPACITIES = (1, 2, 3, 4, 32, 63, 64)
 
 
+@needs("forestplan", "forestplay", "checks_tests", "cc")
 class Allocations(Case):
     def setUp(self):
         self.front = build_front(self.folder, "refuse_growth")

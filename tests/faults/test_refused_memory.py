@@ -10,6 +10,7 @@ from tests.cases import Case, called, text, text_in
 from tests.commands import COMMANDS, EDGE, TRIANGLE
 from tests.programs.made_transcripts import Run
 from tests.settings import CRATE_TESTS, PATHS
+from tests.tools import needs
 
 HERE = os.path.dirname(os.path.abspath(__file__))
 # Tests of `checks`, which `rt ci` builds, or `rt test` in that crate, that try again what memory is refused to once.
@@ -60,6 +61,7 @@ def under(front, words, data=b"", streams=None, **given):
         ]
 
 
+@needs("forestplan", "forestplay", "cc")
 class RefusedMemory(Case):
     """Words and network are tried up to the first run that asks for no further growth."""
 
@@ -141,6 +143,7 @@ class RefusedMemory(Case):
                 (1, b"", f"forestplay: {fault}\n".encode()),
             )
 
+    @needs("checks_tests")
     def test_tried_again(self):
         """Each growth of a test refused in turn: it passes, and then asks more often for memory than if nothing is
         refused."""

@@ -13,6 +13,7 @@ from tests.commands import EDGE
 from tests.commands import TRIANGLE as THREE
 from tests.faults.test_refused_memory import LIMIT, THREADS, build_front, under
 from tests.settings import PLAN, PLAY
+from tests.tools import needs
 
 MOST_WORKERS = 64
 TRIANGLE, ONE_EDGE = text(THREE), text(EDGE)
@@ -40,6 +41,7 @@ def is_right(command, answer, data=TRIANGLE):
         return False
 
 
+@needs("forestplan", "forestplay", "cc")
 class RefusedThreads(Case):
     def setUp(self):
         self.front = build_front(self.folder, "refuse_growth", "refuse_thread")

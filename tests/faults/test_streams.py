@@ -12,6 +12,7 @@ from tests.cases import Case, text
 from tests.commands import APART, COMMANDS, PULSES, TRIANGLE
 from tests.faults.test_refused_memory import build_front, under
 from tests.settings import PATHS
+from tests.tools import needs
 
 PIECE = 3
 INPUT, OUTPUT, ERRORS = range(3)
@@ -42,6 +43,7 @@ def pieces(data):
     return -(-len(data) // PIECE)
 
 
+@needs("forestplan", "forestplay", "cc")
 class Streams(Case):
     @classmethod
     def setUpClass(cls):

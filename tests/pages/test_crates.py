@@ -20,7 +20,7 @@ import re
 
 from build.crate_lists import PROGRAMS, listed
 from tests import TOP
-from tests.cases import Case, text_in
+from tests.cases import FilesCase, text_in
 from tests.pages.test_pages import crate_files
 
 GHOST, CODE = r"\bRattle\.(\w+)\.", r"(?<![\w:.])([a-z_]\w*)::"
@@ -113,9 +113,7 @@ def lemmas(text):
         yield name, re.findall(WORD, others)
 
 
-class Crates(Case):
-    needs_programs = False
-
+class Crates(FilesCase):
     def test_edits_apply(self):
         edits = crate_files("*/must-fail/*") + crate_files("*/wrong-bodies/*")
         self.note("there are edits", len(edits) > 100, len(edits))

@@ -9,7 +9,7 @@ import re
 from build.crate_lists import PROGRAMS, listed, with_below
 from lab.__main__ import COMMANDS as OF_LAB
 from tests import TOP
-from tests.cases import Case, text_in
+from tests.cases import FilesCase, text_in
 from tests.commands import COMMANDS
 from tests.pages.test_pages import PAGES, lines_of
 
@@ -91,9 +91,7 @@ def one_line(text):
     return re.sub(r"\s+", " ", text)
 
 
-class Index(Case):
-    needs_programs = False
-
+class Index(FilesCase):
     def test_readme(self):
         text = text_in("README.md")
         wide = [

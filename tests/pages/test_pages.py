@@ -17,7 +17,7 @@ from lab.definitions.nodes import DROPPED, NetState, last_pulse, text_of_wire
 from lab.definitions.rounds import Rounds
 from lab.networks.network_text import network_of
 from tests import TOP
-from tests.cases import Case, contents, text_in
+from tests.cases import FilesCase, contents, text_in
 
 PAGES = ["README.md"] + sorted(
     os.path.relpath(path, TOP)
@@ -172,9 +172,7 @@ def names_in(line):
     return re.findall(r"\b[a-z]\w*_\w+", quoted)
 
 
-class Pages(Case):
-    needs_programs = False
-
+class Pages(FilesCase):
     def test_names(self):
         """Files named in backquotes, with their folder or without; other names with an underscore; where links lead."""
         there, count = words_of_sources(), 0

@@ -15,7 +15,7 @@ import pathlib
 import subprocess
 
 from tests import TOP
-from tests.cases import Case
+from tests.cases import FilesCase
 from tests.tools import need
 
 FOLDERS = ("lab", "build", "tests", "bench", "examples")
@@ -156,9 +156,7 @@ def without_hint(function):
     return lacks + ([] if function.returns else ["return"])
 
 
-class Python(Case):
-    needs_programs = False
-
+class Python(FilesCase):
     def run_clean(self, *words):
         need(self, words[0])
         done = subprocess.run(words, cwd=TOP, capture_output=True, text=True)

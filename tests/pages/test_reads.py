@@ -312,8 +312,6 @@ FOUND = (
 
 
 class Reads(Case):
-    needs_programs = False
-
     def test_each_way_of_reading_is_found(self) -> None:
         for text, place in FOUND:
             self.note(place, place in places_of(text), places_of(text))

@@ -76,8 +76,6 @@ def contrast(one, other):
 
 
 class Repeated(Case):
-    needs_programs = False
-
     def test_contrast(self):
         """Text has a contrast of 4.5, a mark (a fill by its rim) one of 3, in the light and in the dark."""
         looks = re.findall(r":root\{(.*?)\}", text_in("lab/pictures/page/page.css"), re.S)
@@ -122,8 +120,6 @@ class Repeated(Case):
 
 class Page(Case):
     """A studio and a browser for all tests of a class."""
-
-    needs_programs = False
 
     @classmethod
     def setUpClass(cls):

@@ -34,8 +34,6 @@ def transcript(network, seed):
 
 
 class PictureCase(Case):
-    needs_programs = False
-
     def called(self, kind, network, *options, text=None):
         """What `picture KIND` makes of a network, if there is one, and a text, given as bytes."""
         words = [] if network is None else [self.file("net.col", network)]

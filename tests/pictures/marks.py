@@ -76,6 +76,11 @@ def hue(element):
     return element.get("stroke") if element.get("fill") == "#FFFFFF" else element.get("fill")
 
 
+def is_ring(element) -> bool:
+    """Whether a circle is a ring: its hue is its edge, around white."""
+    return element.get("fill") == "#FFFFFF" and element.get("stroke") != "#FFFFFF"
+
+
 def numbered(root, *names):
     """(class, fill, number) of each mark of these classes and of the text drawn next; None for a mark without a
     number."""

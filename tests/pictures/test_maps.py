@@ -12,6 +12,7 @@ from tests.pictures.base import APART, BARRED, PictureCase
 from tests.pictures.marks import (
     centre,
     data_of,
+    is_ring,
     marks,
     numbered,
     pairs_joined,
@@ -29,6 +30,8 @@ NETWORKS = examples() | {
     "barred petersen": BARRED,
 }
 QUEEN = example("queen5_5")
+# A node with 23 neighbours, where 24 channels are allowed.
+STAR = b"p edge 24 23\n" + b"".join(b"e 1 %d\n" % v for v in range(2, 25))
 PLAYED = {name: NETWORKS[name] for name in ("triangle", "petersen", "barred", "two")} | {
     "one": b"p edge 1 0\n",
     "all joined": network_bytes("complete8"),
@@ -103,6 +106,14 @@ class Maps(PictureCase):
             given = places_given(network)
             if len(given) == len(plan):
                 row("the places given", order_of(places), order_of(given))
+
+    def test_shapes(self):
+        """The eight hues come three times: as discs, as rings, and as discs again."""
+        plan = "plan\n" + "".join(f"{v} {v}\n" for v in range(1, 25))
+        circles = marks(parsed(self.drawn("plan", STAR, text=plan.encode())), "channel")
+        rings = [channel for channel, mark in enumerate(circles, 1) if is_ring(mark)]
+        self.same("channels", len(circles), 24)
+        self.same("rings", rings, [9, 10, 11, 12, 13, 14, 15, 16])
 
     def test_rounds(self):
         self.rounds_rows("petersen", NETWORKS["petersen"], range(3))

@@ -103,8 +103,6 @@ REFUSED = [
 
 
 class Pictures(PictureCase):
-    needs_programs = True
-
     def test_said_and_refused(self):
         """Nothing is drawn, and one line says why; of words that are refused it is the last one."""
         paths = {name: self.file(name, data) for name, data in FILES.items()}

@@ -148,8 +148,6 @@ def read_back(place):
 
 
 class Addresses(Case):
-    needs_programs = False
-
     def written(self, states):
         """(address, network's code) of each, by the page's own module."""
         need(self, "node")
@@ -288,8 +286,6 @@ class Addresses(Case):
 
 
 class Links(Case):
-    needs_programs = False
-
     def verdicts(self, *links):
         status, out, errors = said_by("studio", "--links", "-", data="\n".join(links).encode())
         self.same("nothing else is said", errors, "")

@@ -14,6 +14,7 @@ from tests.cases import Case, called, contents, examples, text
 from tests.commands import COMMANDS, EDGE, HELPS, PROGRAMS, TRIANGLE, commands_of
 from tests.programs.slow_reader import answer_to
 from tests.settings import PATHS, PLAN, PLAY, SECOND_PLAN
+from tests.tools import needs
 
 # The last line of a refusal of a word that isn't known.
 READS = {
@@ -107,7 +108,9 @@ OPTIONS = {
 }
 
 
+@needs("forestplan", "forestplay")
 class BlackBox(Case):
+    @needs("forestplan.by-rattle")
     def test_networks(self):
         """Of each network by hand, and of each example, all by the definitions, and these by hand; by the program as
         both compilers build it (the gate leaves that of Rattle's own beside the other). What a text may be besides is

@@ -85,8 +85,6 @@ def text_of(asked):
 
 
 class Calls(Case):
-    needs_programs = False
-
     def setUp(self):
         # No button is pressed, and nothing is built.
         self.enterContext(mock.patch.object(building.shutil, "which", lambda name: None))

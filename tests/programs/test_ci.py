@@ -24,8 +24,6 @@ INSTALLS = 'for name; do :; done; [ "$name" = chromium ] || { echo > "$HERE/$nam
 
 
 class Ci(Case):
-    needs_programs = False
-
     def run_with(self, apt, user=0, there=(), limit=60):
         """Status and both outputs of .ci/run, with so many seconds for apt-get, and the words of each call of it."""
         here, log = os.path.join(self.folder, "bin"), os.path.join(self.folder, "log")

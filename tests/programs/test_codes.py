@@ -6,6 +6,7 @@ from tests.cases import Case, called, forestlab, text, text_in
 from tests.commands import EDGE, PROGRAM_OF, TRIANGLE
 from tests.programs.test_own_networks import FAULTS as NETWORK_FAULTS, call
 from tests.settings import PATHS
+from tests.tools import needs
 
 RUN = EDGE + "transcript 2 2|"
 # Words that say what a fault of a network is; test_own_networks.py has inputs.
@@ -113,8 +114,6 @@ def tell(*words):
 
 
 class Codes(Case):
-    needs_programs = False
-
     def test_all_of_formats(self):
         """Each code of the page, and its number in DEFINITIONS, has a sentence and what to do."""
         page = text_in("docs", "claim", "FORMATS.md")
@@ -165,6 +164,7 @@ def reported():
     ]
 
 
+@needs("forestplan", "forestplay")
 class Faults(Case):
     def test_what_the_programs_report(self):
         """The program's line of a fault, given as it stands, is told in words with its place."""

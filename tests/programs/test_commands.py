@@ -87,6 +87,24 @@ def typed(shell, folder):
     return said.decode()
 
 
+def listed(line: str) -> set[str]:
+    """The words that the refusal of another one lists."""
+    said = called("bash", "-c", f"bin/{line} nothing", cwd=TOP)[2]
+    words = said.decode().split("\n\nFor more")[0].rpartition(": ")[2]
+    words = re.sub(r".*some of |.*there are |.*choose from |, and a file.*", "", words)
+    return set(re.findall(r"[\w-]+", words))
+
+
+def completed(script: str, line: str) -> tuple[set[str], bytes]:
+    """The words that complete a line, and what is said besides."""
+    shell = (
+        'source "$0"; COMP_WORDS=("$@") COMP_CWORD=$(($# - 1)); _forestlab; '
+        'printf "%s\\n" "${COMPREPLY[@]}"'
+    )
+    _, words, said = called("bash", "-c", shell, script, *line.split(), "")
+    return set(words.decode().split()), said
+
+
 class Commands(Case):
     def test_help_texts(self):
         """The table has each command of a program, and lab/help/ their texts; test_black_box.py compares these with the
@@ -164,19 +182,12 @@ class Commands(Case):
     def test_completion(self):
         """The words that complete a line are all commands of forestlab; and of an option those that a refusal lists."""
         script = self.file("completion", completion.completion(os.path.join(TOP, "bin")))
-        rows = {"forestlab": set(OF_LAB)}
+        self.same("forestlab", completed(script, "forestlab"), (set(OF_LAB), b""))
         for line in REFUSED:
-            said = called("bash", "-c", f"bin/{line} nothing", cwd=TOP)[2]
-            listed = said.decode().split("\n\nFor more")[0].rpartition(": ")[2]
-            listed = re.sub(r".*some of |.*there are |.*choose from |, and a file.*", "", listed)
-            rows[line] = set(re.findall(r"[\w-]+", listed))
-        for line, wanted in rows.items():
-            shell = (
-                'source "$0"; COMP_WORDS=("$@") COMP_CWORD=$(($# - 1)); _forestlab; '
-                'printf "%s\\n" "${COMPREPLY[@]}"'
-            )
-            done = called("bash", "-c", shell, script, *line.split(), "")
-            self.same(line, ({*done[1].decode().split()}, done[2]), (wanted, b""))
+            with self.subTest(line):
+                if not line.startswith("forestlab"):
+                    need(self, f"bin/{line.split()[0]}")
+                self.assertEqual(completed(script, line), (listed(line), b""))
 
     def test_completion_in_shells(self):
         """Lines that have one completion, after the key Tab."""

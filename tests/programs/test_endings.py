@@ -22,8 +22,6 @@ def ended(line, *words, **given):
 
 
 class Endings(Case):
-    needs_programs = False
-
     def redirected(self, where, path, *words):
         """What a command ends with whose stream is another one."""
         return ended(f'exec "$0" "$@" {where}', path, *words, stdin=subprocess.DEVNULL)

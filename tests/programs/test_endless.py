@@ -33,8 +33,6 @@ def limited() -> None:
 
 
 class Endless(Case):
-    needs_programs = False
-
     def test_each_is_refused(self) -> None:
         link = os.path.join(self.folder, "link.py")
         os.symlink(ZERO, link)

@@ -6,6 +6,7 @@ import itertools
 from tests.cases import Case, called, text
 from tests.commands import EDGE
 from tests.settings import PLAY, SECOND_PLAY
+from tests.tools import needs
 
 # (name, input, output), in which '|' is a line feed
 WORKED = [
@@ -46,6 +47,7 @@ def words_of(event):
     return " ".join(str(word) for word in event if word is not None).lower()
 
 
+@needs("forestplay", "forestplay.by-rattle")
 class Events(Case):
     def test_worked(self):
         """What each fault is, is proved; test_codes.py has one of each."""

@@ -182,8 +182,6 @@ class Tree:
 
 
 class FirstRun(Case):
-    needs_programs = False
-
     def setUp(self):
         # A shell has what it runs in the background ignore SIGINT, and what is started from there would, too.
         self.addCleanup(

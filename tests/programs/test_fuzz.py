@@ -16,8 +16,6 @@ def faulty(words: list[str]) -> int:
 
 
 class Fuzz(Case):
-    needs_programs = False
-
     def setUp(self) -> None:
         need(self, "hypothesis")
 

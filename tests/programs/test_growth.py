@@ -29,8 +29,6 @@ def faulty(words: list[str]) -> int:
 
 
 class Growth(Case):
-    needs_programs = False
-
     def test_the_time_grows_with_the_text(self) -> None:
         for reader in READERS:
             with self.subTest(reader.name):

@@ -22,6 +22,7 @@ from tests.faults.test_refused_memory import build_front
 from tests.programs.test_plain_networks import networks_by_chance
 from tests.programs.slow_reader import answer_to
 from tests.settings import PLAN, PLAY, setting
+from tests.tools import needs
 
 # Of an answer of run_each.c: the status, and how many bytes there are of standard output and of errors.
 HEAD = struct.Struct("=iII")
@@ -140,6 +141,7 @@ def refusal_of(net, data, program):
         return wrong.code, wrong.line
 
 
+@needs("forestplan", "forestplay", "cc")
 class Hostile(Case):
     def answers(self, words, texts):
         """The status (or minus the signal that ended it), standard output and errors of a call with each text. The

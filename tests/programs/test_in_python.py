@@ -25,7 +25,7 @@ from tests.programs.test_own_networks import is_near
 from tests.programs.test_plain_networks import networks_by_chance
 from tests.programs.test_sequels import channels
 from tests.settings import setting
-from tests.tools import need
+from tests.tools import need, needs
 
 sys.path.append(os.path.join(TOP, "lab", "python"))
 import forestplan  # noqa: E402
@@ -185,12 +185,14 @@ class InPython(Case):
             call()
         return caught.exception
 
+    @needs("bin/forestplan", "bin/forestplay")
     def test_graphs(self):
         """Graphs of each class, with each kind of names, bars, licences, threads and passes."""
         need(self, "networkx")
         for seed, text in enumerate(networks_by_chance(int(setting("graphs")), 30, 95)):
             self.same(f"graph {seed}", wrong_of(seed, text), [])
 
+    @needs("bin/forestplan", "bin/forestplay")
     def test_large(self):
         """A graph of 1,000 nodes is numbered near each other, which nobody sees."""
         source = random.Random(96)
@@ -204,6 +206,7 @@ class InPython(Case):
         text, order = forestplan.text_of(graph)
         self.note("its numbers", is_near(network_of(text.encode())) and order != nodes)
 
+    @needs("bin/forestplan", "bin/forestplay")
     def test_passes(self):
         """This tree takes three channels, and after a pass two, as every tree can."""
         tree = {1: [2, 4, 5], 2: [3], 3: [], 4: [], 5: []}
@@ -211,6 +214,7 @@ class InPython(Case):
             got = forestplan.plan(tree, workers=workers, passes=passes)
             self.same(f"{passes} passes, workers {workers}", max(got.values()), most)
 
+    @needs("bin/forestplan", "bin/forestplay")
     def test_licence(self):
         triangle = forestplan.plan({"Ulm": ["Aue", "Hof"], "Aue": ["Hof"], "Hof": []})
         self.note("a triangle, by hand", triangle == {"Ulm": 2, "Aue": 3, "Hof": 1}, triangle)
@@ -253,6 +257,7 @@ class InPython(Case):
                 why = self.refused(kind, functools.partial(call, *given))
                 self.note(words, words in str(why) and type(why) is kind, why)
 
+    @needs("bin/forestplan", "bin/forestplay")
     def test_refused(self):
         plan = {"Ulm": 1, "Aue": 1, "Hof": 2, "Bonn": 3}
         part = {node: channel for node, channel in plan.items() if node != "Hof"}
@@ -269,6 +274,7 @@ class InPython(Case):
             for same in (pickle.loads(pickle.dumps(why)), copy.copy(why)):
                 self.same(f"{code}: copied", (str(same), vars(same)), (str(why), vars(why)))
 
+    @needs("bin/forestplan", "bin/forestplay")
     def test_pool(self):
         """A thousand graphs in four processes, of which each tenth is refused: nothing is lost."""
         source = random.Random(7)
@@ -285,6 +291,7 @@ class InPython(Case):
         wrong = [at for at in range(1000) if not is_proper(graphs[at], plans[at])]
         self.same("which are wrong", wrong, [])
 
+    @needs("bin/forestplan", "bin/forestplay")
     def test_rounds(self):
         """Pulses, states and messages, put together again node by node, are the lines of the program."""
         got = forestplan.rounds(SQUARE)
@@ -299,6 +306,7 @@ class InPython(Case):
             lines += [f"pulse {at} {phase}", *(f"{v} {words}" for v, words in rows)]
         self.same("the rounds", lines, got.text.splitlines()[1:])
 
+    @needs("bin/forestplan", "bin/forestplay")
     def test_transcript(self):
         """Its entries, put together again, are the lines of the run."""
         got = forestplan.transcript(SQUARE, workers=1)
@@ -309,6 +317,7 @@ class InPython(Case):
         self.same("the entries", lines, got.text.splitlines()[1:])
         self.note("all of a run", len(lines) > 100, len(lines))
 
+    @needs("bin/forestplan", "bin/forestplay")
     def test_pictures(self):
         for one in (forestplan.rounds(SQUARE), forestplan.transcript(SQUARE)):
             picture = ElementTree.fromstring(one._repr_svg_())
@@ -317,6 +326,7 @@ class InPython(Case):
                 picture.tag.endswith("svg") and len(picture) > 3,
             )
 
+    @needs("bin/forestplan", "bin/forestplay")
     def test_colours(self):
         """The colours are those of the pictures, of real channels, too."""
         star = {0: range(1, 10), **dict.fromkeys(range(1, 10), ())}
@@ -328,6 +338,7 @@ class InPython(Case):
         made = forestplan.colour_map(9)
         self.same("a colour map", made.colors, [*CHANNEL_HUES, CHANNEL_HUES[0]])
 
+    @needs("bin/forestplan", "bin/forestplay")
     def test_surface(self):
         """What is public is documented; the examples of its texts are right, and its hints are there to be used."""
         self.same("its version", forestplan.__version__, version.NUMBER)
@@ -339,6 +350,7 @@ class InPython(Case):
             done = doctest.testmod(module)
             self.note(f"examples of {module}", not done.failed and done.attempted, done)
 
+    @needs("bin/forestplan", "bin/forestplay")
     def test_notebook(self):
         """Each cell of the notebook leaves what is stored below it; those with networkx only if that is installed."""
         with open(NOTEBOOK, encoding="utf-8") as file:

@@ -17,7 +17,7 @@ from tests.cases import Case, called, contents, copied, text, wait_until
 from tests.commands import APART, COMMANDS, PROGRAMS
 from tests.commands import SCRIPTS as OF_BIN
 from tests.pages.test_pages import PAGES, lines_of
-from tests.tools import need
+from tests.tools import need, needs
 
 # Seconds; a busy machine takes long for the many calls of help that the manual pages are made of.
 LIMIT = 600
@@ -97,6 +97,7 @@ class Install(Case):
             "bash", "-c", command, limit=LIMIT, cwd=self.target, env=ENVIRONMENT | {"PATH": path}
         )
 
+    @needs("bin/forestplan", "bin/forestplay")
     def test_pages(self):
         """Each command of the pages prints in the folder what is under it, in the same columns, or is refused so. Only
         README's begins with `./`."""
@@ -114,6 +115,7 @@ class Install(Case):
                 self.note(f"{page}:{number} {command}", done in good, done)
         self.note("commands of the pages", count > 60, count)
 
+    @needs("bin/forestplan", "bin/forestplay")
     def test_listed_commands(self):
         """Each command in a list ends well."""
         count = 0
@@ -124,6 +126,7 @@ class Install(Case):
                 self.note(f"{page}:{number} {command}", done[::2] == (0, b"") and done[1], done)
         self.note("commands in lists", count > 8, count)
 
+    @needs("bin/forestplan", "bin/forestplay")
     def test_pictures_drawn_anew(self):
         """The script of the stored pictures draws all of them, and each as it is stored."""
         folder = os.path.join(self.target, "docs", "pictures")
@@ -138,6 +141,7 @@ class Install(Case):
         done = self.line("sh docs/pictures/draw.sh")
         self.note("docs/pictures/draw.sh", done[0] == 0 and all_of(folder) == stored, done)
 
+    @needs("bin/forestplan", "bin/forestplay")
     def test_copy(self):
         """Each program and script of a copy of the folder, called through links from elsewhere, without the
         toolchain, where the folder itself is away."""
@@ -164,6 +168,7 @@ class Install(Case):
                 it.name, got[::2] == (0, b"") and re.fullmatch(it.answer, got[1].decode()), got
             )
 
+    @needs("bin/forestplan", "bin/forestplay")
     def test_manual(self):
         """A page for each of the three, with the help of each of its commands."""
         pages, there = os.path.join(self.target, "share", "man", "man1"), os.path.join(
@@ -207,6 +212,7 @@ class Install(Case):
         self.note("install below a file", got[:2] == (1, b"") and is_said, got)
         self.same("what was there", os.listdir(clash), ["lib"])
 
+    @needs("bin/forestplan", "bin/forestplay")
     def test_nothing_half(self):
         """A full disk and a signal leave nothing."""
         room = os.path.join(self.folder, "room")
@@ -221,6 +227,7 @@ class Install(Case):
             self.same("the status", started.wait(LIMIT), 128 + signal.SIGTERM)
         self.same("what a signal leaves", os.listdir(room), [])
 
+    @needs("bin/forestplan", "bin/forestplay")
     def test_limit(self):
         """Where a file may not grow the output can't be written, and little stack is too little memory: a line, and no
         death. So are few files."""
@@ -235,6 +242,7 @@ class Install(Case):
             good = got[0] == 4 and re.fullmatch(said + "\n", got[2].decode())
             self.note(f"ulimit {limit}", good, got)
 
+    @needs("bin/forestplan", "bin/forestplay")
     def test_prefix(self):
         """What a package has: all where a system looks for it, whatever the umask is, called by links."""
         room = os.path.join(self.folder, "package")
@@ -278,6 +286,7 @@ class Install(Case):
             symbols = b".symtab" in contents(there, "lib", "forestplan", "lib", name)
             self.note(f"{name} has no names of functions", not symbols)
 
+    @needs("bin/forestplan", "bin/forestplay")
     def test_python(self):
         """`pip install` of the folder has Python import the package, which finds its programs by itself, and puts the
         commands on the PATH."""
@@ -328,6 +337,7 @@ class Install(Case):
         self.refusal("install from a tree that isn't built", got, 70, b"not on the PATH")
         self.note("nothing is installed then", not os.path.exists(target), got)
 
+    @needs("bin/forestplan", "bin/forestplay")
     def test_contents(self):
         """What says which forestplan it is, the texts of the licences and pages, and a sum of each file."""
         version = contents(os.path.join(self.target, "VERSION")).decode()

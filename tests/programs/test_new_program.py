@@ -16,8 +16,6 @@ def files_in(folder):
 
 
 class NewProgram(Case):
-    needs_programs = False
-
     def test_models(self):
         shutil.copy(os.path.join(TOP, "crates.txt"), self.folder)
         before = lines_of(self.folder)

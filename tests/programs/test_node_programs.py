@@ -7,6 +7,7 @@ from lab.definitions.programs import program_at
 from tests.cases import Case, called, text
 from tests.commands import EDGE, commands_of
 from tests.settings import PLAY
+from tests.tools import needs
 from tests.workshop.test_transcripts import OF_FILES
 
 ROW, ALONE, NONE = "p edge 3 2|e 1 2|e 2 3|", "p edge 1 0|", "p edge 0 0|"
@@ -177,6 +178,7 @@ def program_of(asked):
     return program_at(name, **({option[0]: int(option[1])} if option else {}))
 
 
+@needs("forestplan", "forestplay")
 class Programs(Case):
     def test_ends(self):
         """By each run; and where the run ends that one thread writes down, the same each time. test_sequel_runs.py has

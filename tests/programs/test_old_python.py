@@ -19,8 +19,6 @@ AS_OLD = "import runpy, sys; sys.version_info, sys.version = (3, 9, 18), '3.9.18
 
 
 class OldPython(Case):
-    needs_programs = False
-
     def test_syntax(self):
         for path in READ_FIRST:
             with self.subTest(path):

@@ -192,8 +192,6 @@ WRONG = [
 
 
 class OwnAlgorithms(Case):
-    needs_programs = False
-
     def test_commands(self):
         """Every order on a few nodes ends, by hand, as the rounds do; a run by seed is checked, and with another wire
         refused; and pictures say the end."""

@@ -18,6 +18,7 @@ from tests.cases import Case, called, example, forestlab, in_process
 from tests.programs import test_plain_networks
 from tests.programs.test_plain_networks import payloads_of, reached, some_bars
 from tests.settings import PLAN, setting
+from tests.tools import needs
 
 
 def call(*words, **more):
@@ -286,6 +287,7 @@ class OwnNetworks(Case):
         done = call("number", "-", data=b"p edge 2 0\ni 2 9\ni 1 9\n")
         self.refusal("number of a network with a fault", done, 1, said)
 
+    @needs("forestplan")
     def test_near(self):
         """A large network is numbered by breadth first search, where each node has the channel that it has in the
         order that is kept; a smaller one is written as it is."""

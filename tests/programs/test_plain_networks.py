@@ -11,6 +11,7 @@ from lab.networks.network_text import network_of
 from lab.networks.texts import plain_text
 from tests.cases import Case, called
 from tests.settings import PLAN
+from tests.tools import needs
 
 # Networks by chance: of how many nodes at most, and by which seed.
 NODES, SEED = 12, 20
@@ -111,6 +112,7 @@ class Definitions(Case):
             self.same(f"network {number}: three colours of each forest", found, threes)
             self.same(f"network {number}: after each merge", rounds.merged, merged)
 
+    @needs("forestplan")
     def test_plain_and_plan(self):
         """On networks with identifiers and bars of their own, `plan` by each pair of workers and capacity."""
         pairs = itertools.product((1, 2, 4, 64), repeat=2)

@@ -12,6 +12,7 @@ from tests.programs.test_node_programs import play, program_of
 from tests.programs.test_plain_networks import networks_by_chance
 from tests.programs.test_sequel_runs import ended
 from tests.settings import PLAN
+from tests.tools import needs
 
 TRIANGLE, TRIANGLE_PLAN = text(THREE), b"plan\n1 2\n2 3\n3 1\n"
 STOPPED = b"forestplan: stopped\n"
@@ -24,6 +25,7 @@ WORKED_RUNS = [
 ]
 
 
+@needs("forestplan", "forestplay")
 class Plans(Case):
     def test_worked(self):
         for words, data, *wanted in WORKED_RUNS:

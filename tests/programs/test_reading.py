@@ -172,8 +172,6 @@ READ = (
 
 
 class Reading(Case):
-    needs_programs = False
-
     def setUp(self):
         self.has_networkx = foreign.networkx() is not None
 

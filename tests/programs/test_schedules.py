@@ -18,6 +18,7 @@ from tests.cases import Case, called, said_by, text_in
 from tests.programs.test_events import words_of
 from tests.programs.test_plain_networks import networks_by_chance, payloads_of
 from tests.settings import PLAY
+from tests.tools import needs
 
 MOST = 50_000  # states; more show that a search goes on and on
 SEED = 2026
@@ -244,6 +245,7 @@ class Schedules(Case):
     def explored(self, name, *words):
         return explored(self.file(f"{name}.col", text_of(name)), "--limit", str(MOST), *words)
 
+    @needs("forestplay")
     def test_broken(self):
         for name, without, fault in BROKEN:
             (status, said, _), (_, listed, _) = (
@@ -264,6 +266,7 @@ class Schedules(Case):
                 got,
             )
 
+    @needs("forestplay")
     def test_whole_lists(self):
         """One whole list of each network, by the program, which ends as `explore` says."""
         for name in ("alone", "apart", "path"):

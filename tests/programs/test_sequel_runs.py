@@ -17,6 +17,7 @@ from tests.programs.test_node_programs import play, program_of
 from tests.programs.test_plain_networks import networks_by_chance
 from tests.programs.test_sequels import CHECKERS, last_of
 from tests.settings import setting
+from tests.tools import needs
 
 NODES, SEED = 14, 79
 # By how many workers and with which capacity, one after the other over the networks.
@@ -47,6 +48,7 @@ def ended(net, v, result):
     return f"{result} to {net.neighbours[v][int(port[1])]}" if port else result
 
 
+@needs("forestplan", "forestplay")
 class SequelRuns(Case):
     def test_networks_by_chance(self):
         threads = itertools.cycle(THREADS)

@@ -1,11 +1,11 @@
 """Tests of `forestlab sheet`.
 
-Each sheet's network is read from its answers, and each answer worked out once more here: from nodes that hear and send
-(lab/definitions/nodes.py), and from counts."""
+Each sheet's network is read from its answers, and each answer worked out once more here. A sheet has its colours from
+nodes that hear and send (lab/definitions/nodes.py), and its shifts and drops from lists of colours (colours.py beside
+it); so what is expected of the first is made by lists, and of the second by the rules as they stand here."""
 import re
 
-from lab.definitions.colours import drop, shift
-from lab.definitions.nodes import synchronous_pulses
+from lab.definitions.colours import bit, drop, first_colours, merge, shift
 from lab.networks.network_text import network_of
 from tests.cases import Case, said_by
 from tests.programs.test_plain_networks import payloads_of, reached
@@ -34,18 +34,42 @@ def ends_of(section):
     return map(int, re.search(r"over the edge (\d)–(\d)", section).groups())
 
 
-def colours_and_merged(net):
-    """The colours of each node in its forests, and its merged colour, after each pulse."""
-    colours, merged = {}, {}
-    for p, nodes, _, _ in synchronous_pulses(net):
-        for v, node in nodes.items():
-            colours[p, v], merged[p, v] = list(node.colours), node.merged
-    return colours, merged
+def colours_of(net, f: int) -> list[dict]:
+    """The colours in a forest after each of the pulses 2 to 12: the identifiers, four bit steps, and three times a
+    shift and a drop."""
+    found = [net.identifiers]
+    for _ in range(4):
+        found.append(bit(net, f, found[-1]))
+    for x in (5, 4, 3):
+        before = found[-1]
+        found.append(shift(net, f, before))
+        found.append(drop(x, net, f, found[-1], before))
+    return found
+
+
+def merged_of(net) -> list[dict]:
+    """The channels less one before the first merge, and after each."""
+    found = [first_colours(net)]
+    for f in range(net.forest_count):
+        found.append(merge(net, f, found[-1]))
+    return found
+
+
+def least_but(*taken: int | None) -> int:
+    return next(colour for colour in (0, 1, 2) if colour not in taken)
+
+
+def shifted_and_dropped(x: int, parents: dict, before: dict) -> tuple[dict, dict]:
+    """What a shift and then a drop of x make of colours in a forest."""
+    shifted = {v: before[w] if w else least_but(before[v]) for v, w in parents.items()}
+    dropped = {
+        v: least_but(before[v], shifted.get(parents[v])) if colour == x else colour
+        for v, colour in shifted.items()
+    }
+    return shifted, dropped
 
 
 class Sheets(Case):
-    needs_programs = False
-
     def check(self, name, section):
         net = network_of(re.search(r"<pre>(.*?)</pre>", section, re.S)[1].encode())
         sizes = (len(reached(net, 1)), len(net.edges), net.greatest_degree, net.forest_count)
@@ -66,22 +90,23 @@ class Sheets(Case):
 
     def merge_rows(self, name, net, rows):
         """The colours before the merge of each forest, and the channels after it."""
-        colours, merged = colours_and_merged(net)
+        merged = merged_of(net)
         for f, (three, after) in enumerate((rows[:2], rows[2:])):
-            row = [str(colours[12, v][f]) for v in net.vertices]
+            last = colours_of(net, f)[-1]
+            row = [str(last[v]) for v in net.vertices]
             self.same(f"{name}: colours before the merge of forest {f}", three, row)
-            row = [str(merged[24 + 12 * f, v]) for v in net.vertices]
+            row = [str(merged[f + 1][v]) for v in net.vertices]
             self.same(f"{name}: after the merge of forest {f}", after, row)
 
     def line_rows(self, name, net, section, plan):
         """The answers that are written on lines."""
-        payloads, (colours, merged) = payloads_of(net), colours_and_merged(net)
+        payloads, after_bits = payloads_of(net), colours_of(net, 0)[1:5]
         child, parent, chooser = map(int, re.search(ASKED, section, re.S).groups())
         self.note(f"{name}: its payloads", f"has {payloads} payloads" in section, payloads)
         clashes = [f"{v} and {w}" for v, w in net.edges if plan[v - 1] == plan[w - 1]]
         self.note(f"{name}: two neighbours of one channel", clashes, plan)
-        steps = [[v, *(colours[p, v][0] for p in range(3, 7))] for v in (child, parent)]
-        turn = 25 + 4 * colours[12, chooser][1] + merged[24, chooser]
+        steps = [[v, *(colours[v] for colours in after_bits)] for v in (child, parent)]
+        turn = 25 + 4 * colours_of(net, 1)[-1][chooser] + merged_of(net)[1][chooser]
         # Two wires for each payload, and 36 safes and a close on each of the 18 links.
         wires = 2 * payloads + 18 * 37
         bits = [", ".join(map(str, row)) for row in steps]
@@ -92,12 +117,13 @@ class Sheets(Case):
         """The colours of forest 0 before a shift and a drop of each of 5, 4 and 3, which change something, and after
         each of them."""
         lists = [dict(zip(net.vertices, map(int, row))) for row in rows]
+        parents = {v: min([w for w in net.neighbours[v] if w > v], default=None) for v in lists[0]}
         for x, at in ((5, 0), (4, 2), (3, 4)):
             first, shifted, dropped = lists[at : at + 3]
-            wanted = shift(net, 0, first), drop(x, net, 0, shifted, first)
+            wanted = shifted_and_dropped(x, parents, first)
             self.same(f"{name}: shift and drop {x}", (shifted, dropped), wanted)
             self.note(f"{name}: drop {x} changes something", shifted != dropped)
-        alike = [v for v in net.vertices if lists[0].get(net.parent(0, v)) == lists[0][v]]
+        alike = [v for v in net.vertices if lists[0].get(parents[v]) == lists[0][v]]
         self.same(f"{name}: children with their parent's colour", alike, [])
 
     def test_answers(self):

@@ -13,6 +13,7 @@ from lab.schedules.simulate import Player, played
 from lab.transcripts.check import whole_run
 from tests.cases import Case, called, example, forestlab
 from tests.settings import PLAY
+from tests.tools import needs
 
 NETWORKS = ("two", "triangle", "chain6", "barred", "petersen")
 
@@ -22,8 +23,6 @@ def simulate(*words, data=b""):
 
 
 class Waits(Case):
-    needs_programs = False
-
     def test_since_when(self):
         """By hand: node 2 puts its greeting third and its acknowledgement fourth, so node 1 can take since 3, and what
         was put on that link last is of 4."""
@@ -57,6 +56,7 @@ class Waits(Case):
 
 
 class Runs(Case):
+    @needs("forestplay")
     def test_whole_runs(self):
         """Each policy gives a whole run with right stamps, and ends with the plan."""
         for name in NETWORKS:
@@ -85,8 +85,6 @@ class Runs(Case):
 
 class Lists(Case):
     """A list of events as a transcript."""
-
-    needs_programs = False
 
     def test_to_the_end(self):
         """A list is how the run begins that goes on to its end; of a whole one nothing is left."""

@@ -8,6 +8,7 @@ from lab.networks.network_text import network_of
 from tests.cases import Case, called, example, said_by
 from tests.programs.test_own_networks import call, edges_of
 from tests.settings import PLAN
+from tests.tools import needs
 
 
 def on_ground(one, other):
@@ -155,6 +156,7 @@ class Channels(Case):
     def call(self, *words, data=""):
         return said_by("channels", *words, data=data.encode())
 
+    @needs("forestplan")
     def test_both_ways(self):
         plan, real = "plan\n1 2\n2 3\n3 1\n", "plan\n1 6\n2 11\n3 1\n"
         for table in (["1", "6", "11"], ["1,6,11"], ["1-11/5"], ["1-1", "6 11"]):

@@ -68,8 +68,6 @@ def needed_by(names: dict) -> Iterator[str]:
 
 
 class Stated(Case):
-    needs_programs = False
-
     def shell(self, command):
         """Status and both outputs of a command as a shell reads it, in the folder."""
         environment = dict(os.environ, PATH=PATH)

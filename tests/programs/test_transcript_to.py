@@ -39,8 +39,6 @@ def call(*words, data=""):
 
 
 class Forms(Case):
-    needs_programs = False
-
     def test_worked(self):
         status, said, fault = call("json", data=RUN)
         rows = [*map(json.loads, said.splitlines())]

@@ -21,6 +21,7 @@ from tests.cases import Case, called, forestlab, text, text_in, wait_until
 from tests.programs.made_transcripts import transcript_text
 from tests.programs.test_plain_networks import networks_by_chance
 from tests.settings import PLAN, PLAY, setting
+from tests.tools import needs
 
 LIMIT = 60
 SEED = 2026
@@ -121,6 +122,7 @@ def machine_of(run):
 
 
 class Transcripts(Case):
+    @needs("forestplan", "forestplay")
     def test_worked(self):
         for network, transcript, said in WORKED:
             got = said_of(network_of(text(network)), text(transcript))
@@ -170,6 +172,8 @@ class Transcripts(Case):
         unasked = [words for _, words in said if not words.endswith("(is the text cut?)")]
         self.note("each beginning without the last pulse may be cut", not unasked, unasked[:1])
 
+    @needs("forestplan", "forestplay")
+    @needs("forestplan", "forestplay", "bin/forestplay")
     def test_replays(self):
         """`forestlab transcript replay`, which puts the entries in an order and has the program play them."""
         network = self.file("edge.col", text(EDGE[:-1]))
@@ -191,6 +195,7 @@ class Transcripts(Case):
         )
         self.same("replay of a run", replay(network, data=EDGE_RUN), (0, wanted.encode(), b""))
 
+    @needs("forestplan", "forestplay")
     def test_signals(self):
         """SIGTERM and SIGHUP end the machine that plays the entries, too, even one that stands still then."""
         ring = forestlab("network", "ring", 300)[1]
@@ -222,6 +227,7 @@ class Transcripts(Case):
                 (machine, status, is_left),
             )
 
+    @needs("forestplan", "forestplay")
     def test_runs(self):
         """Whole runs of several workers, written in both editions by turns: the checker accepts each, and so does
         `forestplay replay` those of edition 2, in the order of their lines."""

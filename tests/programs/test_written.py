@@ -172,8 +172,6 @@ def networkx_writers(nx) -> list[Writer]:
 
 
 class Files(Case):
-    needs_programs = False
-
     def read_files(self, writers: list[Writer]):
         for writer in writers:
             files = writer.files(FILES)

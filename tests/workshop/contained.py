@@ -80,8 +80,6 @@ class Contained(Case):
     # Each module has another number, since the processes of one number are counted together.
     user = USERS[-2]
 
-    needs_programs = False
-
     def setUp(self):
         need(self, "bwrap")
         need(self, "libseccomp")

@@ -9,7 +9,7 @@ from random import Random
 from lab.workshop.cases import network_of
 from lab.workshop.submissions import part_of
 from tests.cases import text_in
-from tests.tools import need
+from tests.tools import need, needs
 from tests.workshop.base import ALPHA, JAVA, call
 from tests.workshop.test_forgers import FORGED
 from tests.workshop.submitted import RIGHT, Submitted
@@ -38,6 +38,7 @@ class Attacks(Submitted):
             self.same(name, network_of(name, Random(1)).nodes, nodes)
             self.same(f"./{name}", network_of(f"./{name}", Random(1)).nodes, 1)
 
+    @needs("bin/forestplan", "bin/forestplay")
     def test_modules_and_programs_of_the_working_folder(self):
         """Nothing that is there is imported or started, even if the PATH has a folder `.`."""
         thief = THIEF.format(loot=self.loot)
@@ -96,6 +97,7 @@ class Attacks(Submitted):
         for student, words in (("cleo", "megabytes"), ("dora", "1,000 files"), ("eve", "too deep")):
             self.note(student, words in self.why_not(student), self.why_not(student))
 
+    @needs("bin/forestplan", "bin/forestplay")
     def test_verdicts_that_a_program_prints(self):
         """To each file that it has open, and with letters that a terminal obeys."""
         said = f"{FORGED}\n\x1b[2Janna 100/100 40 120/120 40 50/50 10 90\n"

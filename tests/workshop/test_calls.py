@@ -147,8 +147,6 @@ def answer_of(program: bytes, machine: int, number: int, words: tuple[int, ...])
 
 
 class Calls(Case):
-    needs_programs = False
-
     def setUp(self) -> None:
         need(self, "libseccomp")
 

@@ -6,6 +6,7 @@ import subprocess
 import sys
 
 from tests.cases import text_in
+from tests.tools import needs
 from tests.workshop.base import ALPHA, GREEDY, ROUNDS, Played, answering, call
 
 WAITS = [sys.executable, "-S", "-c", "import time; time.sleep(100)"]
@@ -19,6 +20,7 @@ def in_turn(messages, answers):
     return "".join(part for both in pairs for part in both).splitlines()
 
 
+@needs("bin/forestplan", "bin/forestplay")
 class Command(Played):
     def path(self, *names):
         return os.path.join(self.folder, *names)

@@ -9,6 +9,7 @@ import unittest
 
 from lab.workshop.sandbox import USERS
 from tests.cases import wait_until
+from tests.tools import needs
 from tests.workshop.base import DOOR, LIMIT, call
 from tests.workshop.test_misbehaving import MARK, left, left_at_last
 from tests.workshop.contained import got, program
@@ -36,6 +37,7 @@ class Forgers(unittest.TestCase):
     def tearDown(self):
         self.assertEqual(left_at_last(), [])
 
+    @needs("bin/forestplan", "bin/forestplay")
     def test_nothing_reaches_the_workshop(self):
         """And nothing stays: children of sessions of their own, whose parents have ended. The environment is small, and
         no signal is blocked, though signals wait while a program is started."""
@@ -67,6 +69,7 @@ class Forgers(unittest.TestCase):
         workshop.communicate(timeout=LIMIT)
         self.assertEqual(left_at_last(), [])
 
+    @needs("bin/forestplan", "bin/forestplay")
     def test_how_many_there_may_be(self):
         """Of an ordinary user; of root the system counts none. It forks until it may not, and no longer."""
         more = (

@@ -14,7 +14,7 @@ from lab.schedules.policies import POLICIES
 from lab.workshop import grade, parts, submissions
 from lab.wrong import Wrong
 from tests.cases import Case, text_in, wait_until
-from tests.tools import need
+from tests.tools import need, needs
 from tests.workshop.base import DOOR, LIMIT, call
 from tests.workshop.submitted import MUTE, RIGHT, ZERO, Submitted
 from tests.workshop.contained import got, program
@@ -22,6 +22,7 @@ from tests.workshop.test_misbehaving import MARK, left, left_at_last
 
 
 class Grades(Submitted):
+    @needs("bin/forestplan", "bin/forestplay")
     def test_a_class(self):
         """Right and wrong submissions, and strange ones: what is no file is no program, and a name that is no text, or
         is too long for a report, is its student's alone. No letter is printed that a terminal obeys.
@@ -65,6 +66,7 @@ class Grades(Submitted):
         self.assertIn("can't be written: File name too long", done.stderr)
         self.assertEqual(done.returncode, 0, done)
 
+    @needs("bin/forestplan", "bin/forestplay")
     def test_what_tries_to_reach_out(self):
         """A node of each kind that fails, and what it starts; all that is left is the table, and submissions as they
         were."""
@@ -99,6 +101,7 @@ class Grades(Submitted):
         paths = sorted(pathlib.Path(self.subs).rglob("*.py"))
         return [(path, path.read_text(), path.stat().st_mode) for path in paths]
 
+    @needs("bin/forestplan", "bin/forestplay")
     def test_if_the_one_that_grades_is_killed(self):
         self.submit("anna", rounds_node_py=f"import os\nos.execvp('sleep', ['sleep', '{MARK}'])\n")
         given = {**os.environ, "TMPDIR": self.folder}  # what it leaves goes with the test
@@ -109,6 +112,7 @@ class Grades(Submitted):
         grading.wait()
         self.same("what is left", left_at_last(), [])
 
+    @needs("bin/forestplan", "bin/forestplay")
     def test_where_bubblewrap_isnt_there(self):
         """It says what to do; without grading nothing needs it."""
         tools = os.path.join(self.folder, "tools")
@@ -171,6 +175,7 @@ class Grades(Submitted):
                 own = grade.as_one({"anna": [part]}, "7")["submissions"][0]
                 self.assertEqual((own["in_all"], own["rounds"]["points"]), ("0?", None))
 
+    @needs("bin/forestplan", "bin/forestplay")
     def test_a_limit(self):
         """Whatever a program does with its time, a part ends, and says so."""
         slow = (
@@ -199,6 +204,7 @@ class Grades(Submitted):
             ):
                 grade.main([self.subs])
 
+    @needs("bin/forestplan", "bin/forestplay")
     def test_words_before_a_command(self):
         """As those of a container, with the folder of the copy."""
         shutil.copytree(RIGHT, os.path.join(self.subs, "anna"))

@@ -8,6 +8,7 @@ import sys
 import time
 
 from tests.cases import contents, wait_until
+from tests.tools import needs
 from tests.workshop.base import ALPHA, DOOR, EXAMPLES, LIMIT, Played, played
 
 # A number of seconds that no other process sleeps: so a child that is left can be found.
@@ -103,6 +104,7 @@ def alpha_node(methods):
     return [sys.executable, "-S", "-c", code, MARK]
 
 
+@needs("bin/forestplan", "bin/forestplay")
 class Misbehaving(Played):
     def tearDown(self):
         self.assertEqual(left_at_last(), [])

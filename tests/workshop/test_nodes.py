@@ -16,6 +16,8 @@ from lab.schedules.policies import POLICIES
 from lab.workshop.cases import cases_of
 from lab.workshop.protocol import SEQUELS
 from lab.workshop.right_rounds import RightRounds
+from lab.workshop.why import FOUND, RULES
+from tests.tools import needs
 from tests.workshop.base import (
     ALPHA,
     C,
@@ -129,7 +131,7 @@ SYNCHRONISER = {
         "result",
         1,
         30,
-        "wrong  no line `channel 1`\nright  channel 1\nwhy    the channel is the merged",
+        f"wrong  no line `channel 1`\nright  channel 1\nwhy    {FOUND['colouring']}",
     ),
     # Here acknowledgements come last: node 2 takes both payloads, then one acknowledgement, and says safe.
     "acks_any": (
@@ -143,84 +145,50 @@ SYNCHRONISER = {
 # Where a mistake shows, or one of a program, if that isn't the triangle.
 SHOWN_ON = {"anew_bars": BARRED, "matching_greatest": "star4", "layers": "path4"}
 # By program and mistake, (node, pulse) of what is found with a clock on path4 or a triangle, the verdict and the pulse
-# without one, and the rule and this node's numbers.
-OTHERS = {
-    "layers": {
-        "layers_last": (
-            2,
-            3,
-            "result",
-            3,
-            "the node of identifier 1 is in layer 0, any other in layer N + 1",
-        ),
-        "layers_port": (
-            2,
-            3,
-            "result",
-            3,
-            "by the least port by which it comes; if none comes, in none",
-        ),
-    },
+# without one, the rule that is said, and the numbers of this node that are said after it. test_words.py has the words.
+LAYER = (2, 3, "result", 3, FOUND["layers"], [])
+OTHERS: dict[str, dict[str, tuple]] = {
+    "layers": {"layers_last": LAYER, "layers_port": LAYER},
     "matching": {
+        # In forest 0 it had 1, its parent is by port 1, and its children by port 0. It sent `free 0` by 1 in 13, and by
+        # 0 came `free 0` in 14, by 1 `take 0` in 15, by 0 `free 0` in 16.
         "matching_again": (
-            2,
-            16,
-            "WrongWire",
-            16,
-            "; in forest 0 it had 1, its parent is by port 1 and its "
-            "children are by port 0; it sent `free 0` by port 1 in pulse 13, `free 0` came by port 0 in "
-            "pulse 14, `take 0` came by port 1 in pulse 15, `free 0` came by port 0 in pulse 16",
+            *(2, 16, "WrongWire", 16),
+            RULES["take"].format(p=16, colour=1, forest=0),
+            [*(0, 1, 1, 0), *(0, 1, 13), *(0, 0, 14), *(0, 1, 15), *(0, 0, 16)],
         ),
-        # Node 4 has the colour 1 in forest 0, as all others have 0, so it takes one of three in the second turn.
+        # Node 4 has the colour 1 in forest 0, as all others have 0, so it takes one of three in the second turn. It is
+        # the root, with children by the ports 0 to 2, by each of which `free 0` came in 14 and in 16.
         "matching_greatest": (
-            4,
-            16,
-            "NothingToPut",
-            16,
-            "has no partner takes the child of the least port by which `free 0` has come",
+            *(4, 16, "NothingToPut", 16),
+            RULES["take"].format(p=16, colour=1, forest=0),
+            [*(0, 1, 0, 1, 2), *(0, 0, 14, 0, 1, 14, 0, 2, 14), *(0, 0, 16, 0, 1, 16, 0, 2, 16)],
         ),
         # Up to the cut the words are those of the colouring.
         "label_falling": (
-            1,
-            1,
-            "WrongWire",
-            1,
-            "its parents are the neighbours above its own identifier, 1, by",
+            *(1, 1, "WrongWire", 1),
+            RULES["orient"].format(name=1, higher="2 (port 0) in forest 0, 3 (port 1) in forest 1"),
+            [],
         ),
     },
     "independent-set": {
+        # It had merged colour 1, and `joined 0` came by port 1 in pulse 32.
         "set_beside": (
-            1,
-            32,
-            "WrongWire",
-            32,
-            "pulse 32 is the turn of the nodes of colour 1, channel 2: one of them "
-            "joins if no neighbour has sent `joined`, and then sends `joined 1` by each port, but nothing "
-            "in the last pulse; it had merged colour 1; `joined 0` came by port 1 in pulse 32",
+            *(1, 32, "WrongWire", 32),
+            RULES["independent-set"].format(p=32, turn=1, channel=2),
+            [1, 0, 1, 32],
         )
     },
     "recolouring": {
-        # Two sweeps of two colours.
-        "anew_bars": (
-            1,
-            16,
-            "result",
-            16,
-            "a node's channel is the colour that it has chosen anew, plus one; it had "
-            "merged colour 1, and barred at it: colour 0; nothing has come",
-        ),
-        "anew_last": (
-            3,
-            33,
-            "result",
-            33,
-            "plus one; it had merged colour 0; `anew 0` came by port 1 in pulse 32, "
-            "`anew 1` came by port 0 in pulse 33",
-        ),
+        # Two sweeps of two colours. It had merged colour 1, and 0 is barred at it.
+        "anew_bars": (1, 16, "result", 16, FOUND["recolouring"], [1, 0]),
+        # It had merged colour 0, and `anew 0` came by port 1 in pulse 32, `anew 1` by port 0 in 33.
+        "anew_last": (3, 33, "result", 33, FOUND["recolouring"], [0, *(0, 1, 32), *(1, 0, 33)]),
     },
 }
 
 
+@needs("bin/forestplan", "bin/forestplay")
 class RightNodes(Played):
     def test_with_a_clock(self):
         for name in ("path1", "two", "most4", "rest3", "alone4", "random6", "drops", "barred"):
@@ -328,6 +296,7 @@ def tried(name):
     return "rounds", [program], [*networks, "--program", program]
 
 
+@needs("bin/forestplan", "bin/forestplay")
 class Mistakes(Played):
     def is_right(self, name):
         """Whether a mistake shows in none of the runs with which the pages have it tried."""
@@ -371,7 +340,7 @@ class Mistakes(Played):
 
     def test_of_other_programs(self):
         for program, names in OTHERS.items():
-            for name, (node, pulse, verdict, later, why) in names.items():
+            for name, (node, pulse, verdict, later, rule, numbers) in names.items():
                 given = SHOWN_ON.get(name) or SHOWN_ON.get(program, "triangle")
                 more = {"program": program, "one_process": True, "policy": "newest"}
                 found = self.found(
@@ -381,11 +350,10 @@ class Mistakes(Played):
                     self.wrong_node(name, "rounds_node.py", program),
                     **more,
                 )
-                self.note(
-                    f"why {name} is wrong",
-                    why in dict(found.lines)["why"],
-                    dict(found.lines)["why"],
-                )
+                why = dict(found.lines)["why"]
+                self.same(f"the rule of {name}", why[: len(rule)], rule)
+                said = [int(word) for word in re.findall(r"\d+", why[len(rule) :])]
+                self.same(f"the numbers of {name}", said, numbers)
                 # Which of two nodes that are wrong in one pulse is the first is the policy's matter.
                 found = played(
                     "alpha", given, self.wrong_node(name, "alpha_node.py", program), **more
@@ -402,8 +370,7 @@ class Mistakes(Played):
                 "came   hops 2 by port 1",
                 "wrong  layer 1",
                 "right  layer 1 by 0",
-                "why    the node of identifier 1 is in layer 0, any other in layer N + 1 where N is the number of the "
-                "first `hops N` that comes, by the least port by which it comes; if none comes, in none",
+                f"why    {FOUND['layers']}",
                 "also   in the same pulse nodes 3 and 4",
             ],
         )
@@ -413,8 +380,7 @@ class Mistakes(Played):
 
     def test_a_node_that_does_nothing(self):
         found = self.found(("stuck", 1, 0), "alpha", "triangle", answering())
-        why = "in pulse 0 a node sends `hello` and its identifier, 1, by each port"
-        self.same("why", dict(found.lines)["why"], why)
+        self.same("why", dict(found.lines)["why"], RULES["greet"].format(name=1))
         self.same("who else", [label for label, _ in found.lines].count("wrong"), 3)
 
     def test_blame_is_of_the_node_whose_mistake_it_is(self):
@@ -474,6 +440,7 @@ RESULTS = (
 )
 
 
+@needs("bin/forestplan", "bin/forestplay")
 class Results(Played):
     """A result is said once, in its pulse, and is final."""
 
@@ -493,6 +460,7 @@ class Results(Played):
             self.note(f"{assignment}, {when}: {lines}", words in said, said)
 
 
+@needs("bin/forestplan", "bin/forestplay")
 class Lines(Played):
     def test_what_is_no_line_or_no_wire_of_the_program(self):
         forms = "`layer N by PORT`, `layer 0`, `layer none` and `end`"

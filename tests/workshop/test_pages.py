@@ -10,6 +10,7 @@ from lab.transcripts.fields import PAYLOADS
 from lab.workshop import cases, class_files, guard, options, processes, protocol
 from tests import TOP
 from tests.cases import Case, called, said_by, text_in
+from tests.tools import needs
 from tests.workshop.base import MISTAKES, call, python
 
 
@@ -34,6 +35,7 @@ class Pages(Case):
         table = page("PROTOCOL.md").partition("## What is wrong")[2]
         self.assertEqual({word for word in said - {"start"} if f"`{word}`" not in table}, set())
 
+    @needs("bin/forestplan", "bin/forestplay")
     def test_the_first_failure_of_the_skeleton_is_as_the_page_has_it(self):
         block = (
             page("WORKSHOP.md")
@@ -78,6 +80,7 @@ class Pages(Case):
             self.same(text, [name for name in names if f"`{name}`" not in page(text)], [])
 
 
+@needs("bin/forestplan", "bin/forestplay")
 class ClassFolder(Case):
     @classmethod
     def setUpClass(cls):

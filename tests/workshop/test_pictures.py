@@ -4,6 +4,7 @@ import re
 
 from tests.cases import example, text_in
 from tests.pictures.base import painter, transcript
+from tests.tools import needs
 from tests.workshop.base import Played, call, python
 
 GREETED = """\
@@ -110,6 +111,7 @@ class Pictures(Played):
         for words, text, status, said in REFUSED:
             self.refusal(f"{words} of {text[-30:]!r}", picture(words, text), status, said)
 
+    @needs("bin/forestplan", "bin/forestplay")
     def test_the_workshop_draws_what_is_wrong(self):
         """A skeleton that acknowledges nothing is stuck, and its two greetings are drawn."""
         file = os.path.join(self.folder, "run.svg")

@@ -32,8 +32,6 @@ def chosen(name, seed="1", count=60, steps=STEPS):
 
 
 class Policies(Case):
-    needs_programs = False
-
     def test_by_their_rules(self):
         """And the same seed chooses the same."""
         for name, right in RIGHT.items():

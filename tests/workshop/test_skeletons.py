@@ -5,7 +5,7 @@ import sys
 
 from lab.workshop.playing import APART
 from tests.cases import Case, text_in
-from tests.tools import need
+from tests.tools import need, needs
 from tests.workshop.base import EXAMPLES, call, compiled
 
 FOLDER = os.path.join(EXAMPLES, "skeletons")
@@ -62,6 +62,7 @@ class Skeletons(Case):
             need(self, "javac")
         return [sys.executable, path] if path.endswith(".py") else compiled(path)
 
+    @needs("bin/forestplan", "bin/forestplay")
     def test_they_talk(self):
         """In one process it is the same."""
         for name, kind, *_ in ROWS:

@@ -1,6 +1,7 @@
 """What `forestlab transcript check` says of a run that isn't right: whose entry, which rule, who owes what, which
 field."""
 from tests.cases import Case, said_by
+from tests.tools import needs
 
 HELLO_1, HELLO_2 = "payload 0 hello 1", "payload 0 hello 2"
 # A pulse's worth of two nodes without the acknowledgements.
@@ -138,8 +139,6 @@ OF_FILES = ("my_own", "independent_set", "Leader", "-set")
 
 
 class Transcripts(Case):
-    needs_programs = False
-
     def says(self, text, line, *words, network="two"):
         status, _, said = said_by(
             "transcript", "check", network, *words, data=text.replace("|", "\n").encode()
@@ -207,6 +206,7 @@ class Transcripts(Case):
             "after it (is the text cut?)",
         )
 
+    @needs("bin/forestplan", "bin/forestplay")
     def test_bars_that_a_program_ignores(self):
         """Each command that reads a network for another program says so once; the colouring minds bars."""
         for words in (["simulate"], ["explore", "--limit", "100000"], ["picture", "watch"]):

@@ -130,8 +130,6 @@ class Starts(Contained):
 class Paths(Case):
     """By hand."""
 
-    needs_programs = False
-
     def made(self, *files: str) -> str:
         home = os.path.realpath(self.folder)
         for path in files:

@@ -1,4 +1,5 @@
-"""What the workshop says, against numbers that are worked by hand."""
+"""What the workshop says, against numbers that are worked by hand. The words of why.py are pinned here alone: other
+tests take them from its tables."""
 import contextlib
 import io
 from unittest import mock
@@ -9,6 +10,7 @@ from lab.workshop.processes import last_errors
 from lab.workshop.right_rounds import RightRounds
 from lab.workshop.why import Why
 from tests.cases import Case
+from tests.tools import needs
 from tests.workshop.base import network, options_of
 
 # A row in which node 1 is in the middle, and node 3 is the root: identifiers 2 - 7 - 11. By hand: bit steps of 2, 7 and
@@ -60,19 +62,78 @@ OF_TWO = (
         "0 it had 1, it is a root and its children are by port 0; it had merged colour 0; `chosen 0` came by "
         "port 0 in pulse 14",
     ),
+    (1, 0, {"port": 0}, "in pulse 0 a node sends `hello` and its identifier, 1, by each port"),
+    (
+        1,
+        None,
+        {},
+        "the channel is the merged colour and one: the colour that it chose last, or, if it never chose, the "
+        "least that isn't barred to it",
+    ),
+)
+# Of other programs, on the networks of test_nodes.py, which works the numbers out.
+OF_LAYERS = (
+    (
+        2,
+        None,
+        {},
+        "the node of identifier 1 is in layer 0, any other in layer N + 1 where N is the number of the first "
+        "`hops N` that comes, by the least port by which it comes; if none comes, in none",
+    ),
+)
+OF_MATCHING = (
+    (
+        2,
+        16,
+        {},
+        "pulse 16 is the second of the turn of colour 1 in forest 0: a node of this colour there that has no "
+        "partner takes the child of the least port by which `free 0` has come, and sends it `take 0`; in forest "
+        "0 it had 1, its parent is by port 1 and its children are by port 0; it sent `free 0` by port 1 in pulse "
+        "13, `free 0` came by port 0 in pulse 14, `take 0` came by port 1 in pulse 15, `free 0` came by port 0 in "
+        "pulse 16",
+    ),
+)
+OF_SET = (
+    (
+        1,
+        32,
+        {},
+        "pulse 32 is the turn of the nodes of colour 1, channel 2: one of them joins if no neighbour has sent "
+        "`joined`, and then sends `joined 1` by each port, but nothing in the last pulse; it had merged colour 1; "
+        "`joined 0` came by port 1 in pulse 32",
+    ),
+)
+OF_BARRED = (
+    (
+        1,
+        None,
+        {},
+        "a node's channel is the colour that it has chosen anew, plus one; it had merged colour 1, and barred at "
+        "it: colour 0; nothing has come",
+    ),
+)
+ASKED = (
+    (ROW, "colouring", OF_ROW),
+    (network("two"), "colouring", OF_TWO),
+    (network("path4"), "layers", OF_LAYERS),
+    (network("triangle"), "matching", OF_MATCHING),
+    (network("triangle"), "independent-set", OF_SET),
+    (Network(1, [], bars={1: [1]}, name="barred one"), "recolouring", OF_BARRED),
 )
 
 
 class Words(Case):
+    @needs("bin/forestplan", "bin/forestplay")
     def test_why(self):
         """Of two nodes by hand: their three-colours are 0 and 1, both have the merged colour 0, and there are 2
         colours. So node 1 chooses in the first pulse, and node 2, which hears of it, in the third.
         """
-        for given, rows in ((ROW, OF_ROW), (network("two"), OF_TWO)):
-            rounds = RightRounds(given)
+        for given, program, rows in ASKED:
+            rounds = RightRounds(given, program)
             for v, p, of, words in rows:
                 said = Why(rounds, v).of(p, **of)
-                self.note(f"{given.name}: node {v} in pulse {p}", said.endswith(words), said)
+                name = f"{program} on {given.name}: node {v} in pulse {p}"
+                self.same(name, said[-len(words) :], words)
 
 
 PYTHON = """\
