@@ -19,7 +19,9 @@ import signal
 import subprocess
 import sys
 import tempfile
+import unittest
 from collections import defaultdict
+from collections.abc import Iterator
 from concurrent.futures import ThreadPoolExecutor
 
 from tests import TOP
@@ -68,28 +70,24 @@ def is_named(name, test):
         name = name.removeprefix(begin)
     name = name.removesuffix(".py").rstrip("/").replace("/", ".").replace("test_", "")
     test = test.replace("test_", "")
-    *folders, last = test.split(".")
-    return f"{test}.".startswith(f"{name}.") or name in folders or name in last
+    return f".{name}." in f".{test}." or name in test.split(".")[-1]
 
 
-def chosen_tests(names, words):
-    """The tests to run by their names, and these by module. A module that can't be read is one of them: its process
-    says so."""
-    from tests.running import modules, tests_of
+def names_of(suite: unittest.TestSuite) -> Iterator[str]:
+    """The names of the tests that unittest has found. A module that can't be read is one: its process says so."""
+    for test in suite:
+        if isinstance(test, unittest.TestSuite):
+            yield from names_of(test)
+        else:
+            yield test.id().partition("tests.")[2]
 
-    found = {}
-    for module in modules():
-        try:
-            tests = tests_of(module)
-        except Exception:
-            tests = {module: None}
-        chosen = {
-            test: tests[test]
-            for test in tests
-            if not names or any(is_named(name, test) for name in names)
-        }
-        if chosen:
-            found[module] = chosen
+
+def chosen_tests(names: list[str], words: argparse.ArgumentParser) -> dict[str, list[str]]:
+    """The names of the tests to run, by module."""
+    found, tests = defaultdict(list), os.path.join(TOP, "tests")
+    for test in names_of(unittest.defaultTestLoader.discover(tests, "test_*.py", TOP)):
+        if not names or any(is_named(name, test) for name in names):
+            found[".".join(test.split(".")[:2])].append(test)
     for name in names:
         if not any(is_named(name, test) for tests in found.values() for test in tests):
             words.error(f"no test has the name {name}; --list prints the names")
@@ -106,7 +104,7 @@ def run_module(module, tests, folder, running):
     """The status of a module's process, and what it said, which it writes to a file."""
     with open(os.path.join(folder, module), "wb+") as file:
         process = subprocess.Popen(
-            [sys.executable, "-m", "tests.running", module, *tests],
+            [sys.executable, "-m", "tests.running", *tests],
             stdin=subprocess.DEVNULL,
             stdout=file,
             stderr=subprocess.STDOUT,
@@ -146,9 +144,7 @@ def report_missing(tests):
 
 def run_all(chosen, jobs, folder):
     """The sums over all modules, which are reported in their order."""
-    order = sorted(
-        chosen, key=lambda module: LONGEST.index(module) if module in LONGEST else len(LONGEST)
-    )
+    order = sorted(chosen, key=lambda module: module not in LONGEST)
     running, sums, skipped = [], [0, 0], []
     with ThreadPoolExecutor(jobs) as pool:
         done = {

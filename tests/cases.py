@@ -14,6 +14,7 @@ import time
 import traceback
 import unittest
 import unittest.mock
+from collections.abc import Callable
 
 from lab.wrong import Wrong as Fault
 from tests import FORESTLAB, TOP
@@ -28,32 +29,28 @@ BRIEF, WIDE, MOST_LINES = 200, 100, 60
 
 def cut(lines: list[str]) -> str:
     """The first lines, and how many more there are."""
-    more = len(lines) - MOST_LINES
-    return "\n".join([*lines[:MOST_LINES], *([f".. and {more} more lines"] if more > 0 else [])])
+    more = [f".. and {len(lines) - MOST_LINES} more lines"] if len(lines) > MOST_LINES else []
+    return "\n".join(lines[:MOST_LINES] + more)
 
 
-def lines_to_show(value: object) -> list[str]:
+def lines_of(value: object) -> list[str]:
     """A value in lines that aren't long: a text as it stands, and anything else as Python writes it."""
     text = value if isinstance(value, str) else pprint.pformat(value, width=WIDE)
-    return [part for line in text.split("\n") for part in pieces_of(line)]
-
-
-def pieces_of(line: str) -> list[str]:
-    return [line[at : at + WIDE] for at in range(0, max(1, len(line)), WIDE)]
+    lines = text.split("\n")
+    return [line[at : at + WIDE] for line in lines for at in range(0, len(line) or 1, WIDE)]
 
 
 def difference(got: object, wanted: object) -> str:
     """What is expected and what is found; of long values the lines in which they differ."""
     if len(repr(wanted)) + len(repr(got)) <= BRIEF:
         return f"expected {wanted!r}\nbut got  {got!r}"
-    lines = difflib.unified_diff(
-        lines_to_show(wanted), lines_to_show(got), "expected", "got", lineterm="", n=1
-    )
-    return cut(list(lines) or [f"expected a {type(wanted)} and got a {type(got)}"])
+    names = ("expected", "got")
+    lines = difflib.unified_diff(lines_of(wanted), lines_of(got), *names, lineterm="", n=1)
+    return cut(list(lines)) or f"expected a {type(wanted)}, got a {type(got)}"
 
 
 def places() -> str:
-    """Where in tests/ the row is that runs, as a traceback has it: a row of `Case` is caught before it comes there."""
+    """Where in a folder of tests/ the row is, as a traceback has it, which of a row of `Case` ends before it."""
     stack = traceback.extract_stack()
     own = [at for at in stack if os.sep in at.filename.removeprefix(OWN) != at.filename]
     return "".join(traceback.format_list(own)).rstrip()
@@ -62,27 +59,30 @@ def places() -> str:
 class Case(unittest.TestCase):
     """A test is one row, or has rows: each is a `subTest`, and one that fails doesn't stop those after it."""
 
+    # Whether a row that is good isn't counted.
+    is_one_row = False
+
+    def row(self, name: object, is_good: bool, say: Callable[[], str]) -> None:
+        """A row, and what is said if it isn't good."""
+        if is_good and self.is_one_row:
+            return
+        with self.subTest(name):
+            if not is_good:
+                self.fail(f"{name}\n{places()}\n{say()}")
+
     def note(self, name: object, good: object, what: object = "") -> None:
         """A row: whether it is good, and what is said if it isn't."""
-        with self.subTest(name):
-            if not good:
-                self.fail_row(name, cut(lines_to_show(what)))
+        self.row(name, bool(good), lambda: cut(lines_of(what)))
 
     def same(self, name: object, got: object, wanted: object) -> None:
         """A row: what is found is what it has to be."""
-        with self.subTest(name):
-            if got != wanted:
-                self.fail_row(name, difference(got, wanted))
+        self.row(name, bool(got == wanted), lambda: difference(got, wanted))
 
     def refusal(self, name: object, done: tuple, status: int, said: object) -> None:
         """The row of a refusal: nothing is written, and this is said. `done` is the status and both outputs."""
-        with self.subTest(name):
-            if done[0] != status or done[1] or said not in done[2]:
-                wanted = f"expected status {status}, no output, and words with {said!r}"
-                self.fail_row(name, f"{wanted}\n{cut(lines_to_show(done))}")
-
-    def fail_row(self, name: object, said: str) -> None:
-        self.fail(f"{name}\n{places()}\n{said}")
+        is_good = done[0] == status and not done[1] and said in done[2]
+        wanted = f"expected status {status}, no output, and words with {said!r}"
+        self.row(name, is_good, lambda: cut([wanted, *lines_of(done)]))
 
     @functools.cached_property
     def folder(self):
@@ -101,13 +101,7 @@ class Case(unittest.TestCase):
 class FilesCase(Case):
     """A test over many files is one row. If it fails, what is wrong with each file is a row."""
 
-    def note(self, name: object, good: object, what: object = "") -> None:
-        if not good:
-            super().note(name, good, what)
-
-    def same(self, name: object, got: object, wanted: object) -> None:
-        if got != wanted:
-            super().same(name, got, wanted)
+    is_one_row = True
 
 
 def copied(tree, *parts):

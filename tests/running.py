@@ -1,18 +1,14 @@
-"""Finds the tests, and runs one module's in this process; tests/__main__.py calls it for each module.
+"""Runs tests of one module in this process, by unittest; tests/__main__.py calls it for each module.
 
-  python3 -m tests.running MODULE [TEST ..]
+  python3 -m tests.running NAME ..
 
-A test is a method of a `unittest.TestCase` in a module named `test_*`; any other module is a helper. What failed or was
-skipped is printed after each test, and last 'N passed, M failed'. A test that takes longer than the limit ends the
-process, with the place where it waits."""
+A NAME is MODULE, MODULE.CLASS or MODULE.CLASS.test_x. What failed or was skipped is printed after each test, and last
+'N passed, M failed'. A test that takes longer than the limit ends the process, with the place where it waits."""
 import faulthandler
-import glob
-import importlib
 import os
 import sys
 import unittest
 
-from tests import TOP
 from tests.settings import setting
 
 
@@ -22,20 +18,6 @@ def without_rt(path):
     return ":".join(
         folder for folder in path.split(":") if not os.path.exists(os.path.join(folder, "rt"))
     )
-
-
-def modules() -> list[str]:
-    """The names of all modules of tests/ that have tests."""
-    paths = sorted(glob.glob("**/test_*.py", root_dir=os.path.join(TOP, "tests"), recursive=True))
-    return [path.removesuffix(".py").replace("/", ".") for path in paths]
-
-
-def tests_of(module: str) -> dict[str, unittest.TestCase]:
-    """The tests of a module by their names, `MODULE.CLASS.test_x`."""
-    cases = unittest.defaultTestLoader.loadTestsFromModule(
-        importlib.import_module(f"tests.{module}")
-    )
-    return {test.id().removeprefix("tests."): test for case in cases for test in case}
 
 
 class Rows(unittest.TextTestResult):
@@ -79,16 +61,15 @@ class Rows(unittest.TextTestResult):
 
 
 def main() -> int:
-    module, *chosen = sys.argv[1:]
     # No test proves anything.
     os.environ["PATH"] = without_rt(os.environ["PATH"])
     faulthandler.dump_traceback_later(float(setting("limit")), exit=True)
-    tests, result = tests_of(module), Rows()
-    unittest.TestSuite(tests[name] for name in chosen or tests if name in tests).run(result)
+    names, result = [f"tests.{name}" for name in sys.argv[1:]], Rows()
+    unittest.defaultTestLoader.loadTestsFromNames(names).run(result)
     result.tell()
     if result.passed + result.failed + len(result.skipped) == 0:
         result.failed = 1
-        print(f"FAIL: {module}: nothing was run")
+        print("FAIL: nothing was run")
     print(f"{result.passed} passed, {result.failed} failed")
     return 1 if result.failed else 0
 
