@@ -16,6 +16,7 @@ memory and disks are and what is in their caches; numbers that the kernel deals 
 those of pipes; and limits that all programs of one user share (processes, waiting signals, bytes in pipes)."""
 
 import contextlib
+import fcntl
 import os
 import subprocess
 from typing import Iterable
@@ -79,9 +80,10 @@ class Sandbox(Guard):
         ]
 
     def text(self, data: bytes) -> str:
-        """The number of an open file that bubblewrap reads."""
-        number = os.memfd_create("words")
+        """The number of an open file that bubblewrap reads, and nobody changes."""
+        number = os.memfd_create("words", os.MFD_CLOEXEC | os.MFD_ALLOW_SEALING)
         os.write(number, data)
+        fcntl.fcntl(number, fcntl.F_ADD_SEALS, fcntl.F_SEAL_WRITE | fcntl.F_SEAL_GROW)
         self.files.append(number)
         return str(number)
 

@@ -125,9 +125,10 @@ def deepest(path: str, folders: Iterable[str]) -> int:
 
 
 def covered_in_proc() -> list[str]:
-    """What /proc has besides the processes: it tells what the whole machine does."""
+    """What /proc has besides the processes, and everybody may read: it tells what the whole machine does."""
     names = [name for name in os.listdir("/proc") if not name.isdecimal() and name not in OF_PROC]
-    return [os.path.join("/proc", name) for name in sorted(names)]
+    paths = [os.path.join("/proc", name) for name in sorted(names)]
+    return [path for path in paths if os.stat(path).st_mode & stat.S_IROTH]
 
 
 def reaches(path: str, user: int | None) -> bool:

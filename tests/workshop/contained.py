@@ -6,7 +6,7 @@ import re
 import subprocess
 
 from lab.workshop.guard import Guard, Limits
-from lab.workshop.leftovers import end_all
+from lab.workshop.leftovers import DUMPABLE, control, end_all
 from lab.workshop.sandbox import USERS, Sandbox
 from tests.cases import Case
 from tests.tools import need
@@ -83,6 +83,7 @@ class Contained(Case):
     def setUp(self):
         need(self, "bwrap")
         need(self, "libseccomp")
+        control(DUMPABLE, 1)  # as it is before another test has shut this process
         os.chmod(self.folder, 0o755)
         self.subs = os.path.join(self.folder, "home", "submissions")
         self.room = os.path.join(self.folder, "room")

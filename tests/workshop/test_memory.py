@@ -35,7 +35,7 @@ TAKE = (
 # What a node does at its start, and what is found: that it takes too much, or that the call isn't there.
 AT_START = {
     "files in /tmp": (
-        f"for number in range(16):\n    file = os.open(f'/tmp/{{number}}', os.O_CREAT | os.O_RDWR)\n    {FILL}"
+        f"for number in range(16):\n    file = os.open(str(number), os.O_CREAT | os.O_RDWR)\n    {FILL}"
         "    os.close(file)\n",
         FLOOD,
     ),

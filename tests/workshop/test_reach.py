@@ -14,7 +14,7 @@ from tests.workshop.test_misbehaving import MARK
 # What an attack gets where the kernel has no such call or family: there it is none.
 HASNT = "'hasnt'"
 BEGIN = """\
-import errno, glob, mmap, runpy
+import contextlib, errno, glob, mmap, runpy
 areas = []
 LACKS = (errno.EAFNOSUPPORT, errno.ESOCKTNOSUPPORT, errno.EPROTONOSUPPORT, errno.ENOSYS)
 def lacking(code):
@@ -30,7 +30,11 @@ def number(call, *words):
     found = call(*words)
     return lacking(ctypes.get_errno()) if found < 0 else found
 def words_of_all():
-    return [open(f'/proc/{name}/cmdline').read() for name in os.listdir('/proc') if name.isdigit()]
+    found = []
+    for name in filter(str.isdigit, os.listdir('/proc')):
+        with contextlib.suppress(OSError):
+            found.append(open(f'/proc/{name}/cmdline').read())
+    return found
 def last_read(path):
     before = os.stat(path).st_atime
     open(path).read()

@@ -43,7 +43,6 @@ ATTACKS = {
     "times": "os.utime({own!r})",
     "moves": "os.rename({own!r}, {own!r})",
     "at_home": "open({homes!r}, 'w')",
-    "in_dev": "open('/dev/shm/../{mark}', 'w')",
     "connects": "connected(socket.AF_INET, ('127.0.0.1', {port}))",
     "meets": "connected(socket.AF_UNIX, {socket!r})",
     "meets_by_name": "connected(socket.AF_UNIX, chr(0) + {mark!r})",
@@ -57,6 +56,7 @@ ATTACKS = {
 }
 # Those that an ordinary user can't do either, so that they get through only if root plays.
 OF_ROOT = {
+    "in_dev": "open('/dev/shm/../{mark}', 'w')",
     "system": "open('/opt/{mark}/new', 'w')",
     "device": "os.mknod('device', stat.S_IFBLK | 0o600, os.makedev(8, 0))",
     "kernel": "os.open('/proc/sys/kernel/hostname', os.O_WRONLY)",
