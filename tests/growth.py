@@ -29,6 +29,8 @@ def shapes_of(reader: Reader) -> Iterator[tuple[str, Shape]]:
     words = [found.span() for found in re.finditer(rb"[A-Za-z]+", good)]
     for at, (begin, end) in enumerate(dict.fromkeys((words[:1] + words[-1:])), 1):
         yield f"a long field in the place of word {at}", again(good[:begin], b"a", good[end:])
+        marks = "\u0300\u0316".encode()
+        yield f"marks over the letters of word {at}", again(good[:end], marks, good[end:])
     yield "blank lines before", again(b"", b"\n", good)
     yield "blank lines after", again(good, b"\n")
     yield "blanks before", again(b"", b" ", good)

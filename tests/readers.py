@@ -237,6 +237,14 @@ READERS = (
         tuple(ENCODINGS),
     ),
     Reader(
+        "encodings of gml",
+        with_encoding,
+        ("read", FILE, "--as", "gml"),
+        tuple(name + b"\n" + GML for name in ENCODINGS),
+        (*ENCODINGS, b"\\ud800", b"+2AA-", b"\\x00"),
+        needs="networkx",
+    ),
+    Reader(
         "sites",
         network.main,
         ("read", "--sites", FILE, "--reach", "9"),

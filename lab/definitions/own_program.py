@@ -31,6 +31,7 @@ import signal
 import sys
 import threading
 import traceback
+import unicodedata
 from types import CodeType, FunctionType, ModuleType, SimpleNamespace
 from typing import Any
 
@@ -50,6 +51,8 @@ AGAIN = "does it use chance other than `me.random`, or a variable outside `me`?"
 LONGEST_INBOX = 200
 # Of a file. Nobody writes a longer one, and Python takes hundreds of times as much memory to read it.
 MOST_BYTES = 1 << 20
+# Python composes the letters of a name in quadratic time. No language has more (Unicode Standard Annex 15, 13).
+MOST_MARKS = 30
 
 
 def own_program(path: str, lots: str = "1") -> type:
@@ -75,7 +78,10 @@ def own_program(path: str, lots: str = "1") -> type:
 def code_of(path: str) -> CodeType:
     """What a file says, not run yet."""
     try:
-        return compile(bytes_at(path, MOST_BYTES), path, "exec")
+        text = bytes_at(path, MOST_BYTES).decode("utf-8-sig")
+        if marks_in_a_row(text) > MOST_MARKS:
+            raise Wrong(f"{path}: more than {MOST_MARKS} marks over one letter")
+        return compile(text, path, "exec")
     except SyntaxError as why:
         raise wrong_line(path, why.lineno or 1, why.msg) from None
     except (RecursionError, MemoryError):
@@ -83,6 +89,15 @@ def code_of(path: str) -> CodeType:
         raise Wrong(f"{path}: it is nested too deep for Python") from None
     except ValueError as why:
         raise Wrong(f"{path}: {why}") from None
+
+
+def marks_in_a_row(text: str) -> int:
+    """The most marks that a text has over one letter."""
+    run = most = 0
+    for letter in "" if text.isascii() else text:
+        run = run + 1 if unicodedata.combining(letter) else 0
+        most = max(most, run)
+    return most
 
 
 def loaded(path: str, code: CodeType) -> dict:

@@ -10,6 +10,8 @@ from lab.networks.fields import shown
 from lab.wrong import wrong_line
 
 LONGEST_NAME = 200
+# A letter that is written as a letter with its marks has at most so many of both.
+MOST_IN_A_LETTER = 4
 # Where something is in a text: the number of its line, or words if it has no line.
 Where = int | str
 Edge = tuple[Where, str, str]
@@ -47,7 +49,11 @@ ERROR_VALUE = re.compile(r"#[A-Z/0]+[!?]|#N/A|#NV", re.I)
 @lru_cache(1 << 16)
 def composed(word: str) -> str | None:
     """A name with composed letters, by which names are compared; None if it is no name."""
-    word = unicodedata.normalize("NFC", word.strip())
+    word = word.strip()
+    # Python composes a letter of many marks in quadratic time.
+    if len(word) > LONGEST_NAME * MOST_IN_A_LETTER:
+        return None
+    word = unicodedata.normalize("NFC", word)
     is_seen = word.isprintable() and any(map(str.isalnum, word))
     is_worked_out = not ERROR_VALUE.fullmatch(word)
     return word if is_seen and is_worked_out and len(word) <= LONGEST_NAME else None

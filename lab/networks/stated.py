@@ -128,7 +128,10 @@ def letters_of(data: bytes, name: str, stated: str | None) -> str:
         if data.startswith(mark):
             encoding = marked
     try:
-        return data.decode(encoding)
+        text = data.decode(encoding)
+        # Some encodings have halves of pairs of UTF-16, which are no letters.
+        text.encode()
+        return text
     except LookupError:
         raise Wrong(f"{name}: there is no encoding {encoding}") from None
     except UnicodeError as why:

@@ -3,7 +3,7 @@ import re
 
 from lab.networks.fields import shown, whole
 from lab.networks.listed import Listed, Where, check_known, name_of
-from lab.networks.network_text import IDENTIFIERS, MAX_BARS, MAX_CHANNEL, MAX_EDGES
+from lab.networks.network_text import IDENTIFIERS, MAX_BARS, MAX_CHANNEL, MAX_EDGES, MAX_NODES
 from lab.networks.places import Place, across_of, near, on_ground, on_map
 from lab.networks.stated import Stated
 from lab.networks.table import Table
@@ -70,6 +70,8 @@ class Sites:
         """A site: no name and no identifier comes twice."""
         if self.lines.setdefault(name, line) != line:
             raise self.table.wrong(line, f"a second site {shown(name)}")
+        if len(self.lines) > MAX_NODES:
+            raise self.table.wrong(line, f"more than {MAX_NODES} sites")
         if self.columns and any(row[column] for column in self.columns):
             self.places[name] = self.place_of(line, row, self.columns)
         field = row.get("identifier", "")

@@ -126,6 +126,13 @@ READS = {
     ("lab/progress.py", "fields_of: file.read"): "a line of /proc",
     ("lab/workshop/leftovers.py", "processes: open"): "a line of /proc",
     ("lab/workshop/leftovers.py", "processes: file.read"): "a line of /proc",
+    (
+        "lab/workshop/memory.py",
+        "text_of: open",
+    ): "about 6 MiB: the kernel allows 65,530 lines of `maps` (vm.max_map_count)",
+    ("lab/workshop/memory.py", "text_of: file.read"): "the same",
+    ("lab/workshop/calls.py", "Filter.program: os.pread"): "the filter that this process has made",
+    ("lab/workshop/sandbox.py", "Sandbox.enter: os.open"): "nothing is read of it here",
     ("lab/door.py", "status_of: os.read"): "one byte",
     # What programs of this folder, or of the system, say.
     ("lab/programs.py", "called: subprocess.run"): OF_PROGRAM,

@@ -121,6 +121,20 @@ REFUSED = (
         "no JSON: a number of more than 4,000 digits",
     ),
     ("graph6", "A_\nA_\n", "line 2: a second graph"),
+    # A complete graph of 2,000 nodes, of which networkx would make 2 million edges first.
+    ("graph6", "~?^O" + "~" * 333_167, "line 1: more than 400000 edges"),
+    ("sparse6", ":~?^O" + "~" * 1_300_000, "line 1: more than 400000 edges"),
+    (
+        "graphml",
+        f"<graphml xmlns='{'u' * 1001}'><graph/></graphml>",
+        "line 1: a namespace of more than 1,000 letters",
+    ),
+    (
+        "gexf",
+        "<!DOCTYPE gexf [\n<!ENTITY e 'x'>]><gexf>&e;</gexf>",
+        "line 2: the text defines `e`: write what it stands for in its place",
+    ),
+    ("pairs", PAIR + "a" + "\u0300\u0316" * 400 + ",b\n", "line 2: no name of a node"),
     ("graph6", "A", "can't read it"),
 )
 YED = """\
@@ -171,6 +185,14 @@ READ = (
 )
 
 
+# (form, text, encoding): the name of a node has half a letter.
+HALVES = (
+    ("gml", 'graph [ node [ id 1 label "\\ud800" ] ]', "unicode_escape"),
+    ("json", '{"nodes": [{"id": "a+2AA-"}], "links": []}', "utf-7"),
+    ("pairs", "\\ud800,target\n", "raw_unicode_escape"),
+)
+
+
 class Reading(Case):
     def setUp(self):
         self.has_networkx = foreign.networkx() is not None
@@ -186,6 +208,18 @@ class Reading(Case):
             self.note(
                 f"{form} {text[:80]!r} says why", said in str(found.exception), found.exception
             )
+
+    def test_halves_of_letters(self):
+        """What an encoding makes of half a pair of UTF-16 is no letter, and is refused as no text of that encoding."""
+        for form, text, encoding in self.readable(HALVES):
+            with self.assertRaisesRegex(Wrong, f"net line 1: it isn't in {encoding.upper()}"):
+                read(text, form, encoding=encoding)
+
+    def test_long_names(self):
+        """A name of 200 letters may be written with a mark beside each."""
+        name = "u\u0308" * 200
+        _, names, _ = read(f"{PAIR}{name},{name}\n", "pairs")
+        self.same("composed", names, {"\u00fc" * 200})
 
     def test_read(self):
         """Each of these is one network, whatever other elements and keys are called."""
