@@ -1,6 +1,6 @@
 -- The line and the status that report each fault.
-use Rattle.std.specs.Prelude.{ℕ, List, [], ◌∷◌, ◌++◌, codes}
-use Rattle.std.specs.Fmt.{decimal}
+use Rattle.std.specs.Prelude.{ℕ, List, ◌++◌, codes}
+use Rattle.reports.specs.Lines.{at_line, at_vertex, at_vertices, line_with}
 use Rattle.dimacs_col.specs.declared.fault.ColFault.TheVariants as col
 use Rattle.interference.specs.declared.fault.NetFault.TheVariants as net
 use Rattle.run_faults.specs.declared.fault.PoolFault.TheVariants as pool
@@ -10,27 +10,6 @@ use Rattle.answers.specs.declared.fault.PlanFault.{PlanFault}
 use Rattle.answers.specs.declared.fault.PlanFault.TheVariants.{Check, Col, Event, Net, NoRoot, Memory, Pool, Replay}
 use Rattle.answers.specs.declared.fault.PlanFault.TheVariants.{Stopped}
 use Rattle.run_faults.specs.declared.replays.ReplayFault.TheVariants as replay
-use Rattle.answers.specs.declared.report.Place.{Place}
-use Rattle.answers.specs.declared.report.Place.TheVariants.{None, Line, Vertex, Vertices}
-
--- a code, and the line of the input that has the fault
-abbrev pub at_line : List ℕ → ℕ → List ℕ
-at_line code number = code ++ (codes " line " ++ decimal number)
-
--- a code, and the vertex that has the fault
-abbrev pub at_vertex : List ℕ → ℕ → List ℕ
-at_vertex code v = code ++ (codes " vertex " ++ decimal v)
-
--- a code, and the two vertices that have the fault
-abbrev pub at_vertices : List ℕ → ℕ → ℕ → List ℕ
-at_vertices code v w = code ++ (codes " vertices " ++ (decimal v ++ (codes " " ++ decimal w)))
-
--- a code, and the place that has the fault
-abbrev pub at_place : List ℕ → Place → List ℕ
-at_place code None = code
-at_place code (Line number) = at_line code number
-at_place code (Vertex v) = at_vertex code v
-at_place code (Vertices v w) = at_vertices code v w
 
 -- the text of a fault, and the status of the program
 abbrev pub fault_text : PlanFault → List ℕ × ℕ
@@ -82,10 +61,6 @@ fault_text (Replay (replay.NotWhole n)) = (at_line (codes "NotWhole") n, 1)
 fault_text (Replay replay.Memory) = (codes "memory", 4)
 fault_text Stopped = (codes "stopped", 3)
 fault_text Memory = (codes "memory", 4)
-
--- a line of a program: its name, the text, and LF
-abbrev pub line_with : List ℕ → List ℕ → List ℕ
-line_with name text = name ++ (codes ": " ++ (text ++ 10 ∷ []))
 
 -- the line with which a program of a name reports a fault
 abbrev pub fault_line : List ℕ → PlanFault → List ℕ

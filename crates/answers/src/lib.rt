@@ -3,7 +3,7 @@
 //!
 //! `byte_functions` has the commands that run worker threads, and `play_answers` those of events, replays and rounds,
 //! which only `forestplay` has. `plan_commands` calls `forest_bytes`, `plain_bytes` or `check_bytes` for a command, and
-//! `serving` calls `fault_report` if one fails.
+//! `fault_report` if one fails.
 //!
 //! ```
 //! let text = b"p edge 3 3\ne 1 2\ne 1 3\ne 2 3\n";
@@ -25,6 +25,6 @@ mod verdict;
 
 pub use answer::{forest_bytes, network_of_text, plain_bytes};
 pub use fault::PlanFault;
-pub use report::{FaultReport, fault_report};
+pub use report::fault_report;
 pub use setting::{Root, Setting};
 pub use verdict::check_bytes;

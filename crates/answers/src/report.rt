@@ -1,18 +1,16 @@
 //! The line that reports a fault, and the status that goes with it.
 
-ghost use Rattle.std.specs.Prelude.{◌≡◌, ◌++◌, IfOk, codes, string_bytes};
-ghost use Rattle.answers.specs.Faults.{at_line, at_place, fault_line, fault_status, line_with};
+ghost use Rattle.std.specs.Prelude.{◌≡◌, IfOk};
+ghost use Rattle.answers.specs.Faults.{fault_line, fault_status};
 ghost use Rattle.answers.specs.declared.fault.PlanFault.TheVariants.{Check, Col, Event, Net, Pool, Replay};
 
 use crate::fault::PlanFault;
 use channel_plan::CheckFault;
 use dimacs_col::ColFault;
 use interference::NetFault;
+use reports::{FaultReport, Place, memory_report, refusal, refusal_in_words, report_with};
 use run_faults::{EventFault, PoolFault, ReplayFault};
 use std::alloc::{AllocError, Global};
-
-// The status if the input is refused.
-const REFUSED: u8 = 1;
 
 // The status if the command line is refused; no fault of the program's has it, since its command line takes no
 // options that are out of range.
@@ -21,95 +19,8 @@ const REFUSED_WORDS: u8 = 2;
 // The status if the workers stopped before every node was done.
 const STOPPED: u8 = 3;
 
-// The status if memory ran out, a thread was refused, or a stamp would be too great.
+// The status if a thread was refused, or a stamp would be too great.
 const NOT_DONE: u8 = 4;
-
-/// The report of a fault.
-#[derive(Drop)]
-pub struct FaultReport {
-    /// The line on standard error, its line feed included.
-    pub line: Vec<u8>,
-    /// The status of the program.
-    pub status: u8,
-}
-
-// Where a fault is: nowhere in particular, at a line of the input, at a vertex, or at two vertices.
-#[derive(Clone, Copy)]
-enum Place {
-    None,
-    Line(usize),
-    Vertex(u32),
-    Vertices(u32, u32),
-}
-
-// `NAME: CODE`, and then the place.
-fn head(alloc: Global, name: &str, code: &str, place: Place) -> Result<String, AllocError>
-    ensures { IfOk result (λ text. string_bytes text ≡ name.now ++ (codes ": " ++ at_place code.now place)) }
-{
-    match place {
-        Place::None => format!(in alloc; "{name}: {code}"),
-        Place::Line(n) => format!(in alloc; "{name}: {code} line {n}"),
-        Place::Vertex(v) => format!(in alloc; "{name}: {code} vertex {v}"),
-        Place::Vertices(v, w) => format!(in alloc; "{name}: {code} vertices {v} {w}"),
-    }
-}
-
-// `NAME: CODE`, then the place, and then words.
-fn report_at(
-    alloc: Global,
-    name: &str,
-    code: &str,
-    place: Place,
-    words: &[u8],
-    status: u8,
-) -> Result<FaultReport, AllocError>
-    ensures line { IfOk result (λ report.
-        report.line.items ≡ line_with name.now (at_place code.now place ++ words.now)) }
-    ensures status { IfOk result (λ report. report.status ≡ status) }
-{
-    let mut line = head(alloc, name, code, place)?.into_bytes();
-    line.extend_from_slice(words)?;
-    line.push(b'\n')?;
-    Ok(FaultReport { line, status })
-}
-
-// The input is refused, at a place.
-fn refusal(alloc: Global, name: &str, code: &str, place: Place) -> Result<FaultReport, AllocError>
-    ensures line { IfOk result (λ report. report.line.items ≡ line_with name.now (at_place code.now place)) }
-    ensures status { IfOk result (λ report. report.status ≡ 1) }
-{
-    report_at(alloc, name, code, place, &[], REFUSED)
-}
-
-// The input is refused at a line, with words after its number.
-fn refusal_in_words(
-    alloc: Global,
-    name: &str,
-    code: &str,
-    number: usize,
-    words: &[u8],
-) -> Result<FaultReport, AllocError>
-    ensures line { IfOk result (λ report.
-        report.line.items ≡ line_with name.now (at_line code.now number ++ words.now)) }
-    ensures status { IfOk result (λ report. report.status ≡ 1) }
-{
-    report_at(alloc, name, code, Place::Line(number), words, REFUSED)
-}
-
-// `NAME: TEXT`.
-fn report_with(alloc: Global, name: &str, text: &str, status: u8) -> Result<FaultReport, AllocError>
-    ensures line { IfOk result (λ report. report.line.items ≡ line_with name.now text.now) }
-    ensures status { IfOk result (λ report. report.status ≡ status) }
-{
-    report_at(alloc, name, text, Place::None, &[], status)
-}
-
-fn memory_report(alloc: Global, name: &str) -> Result<FaultReport, AllocError>
-    ensures line { IfOk result (λ report. report.line.items ≡ line_with name.now (codes "memory")) }
-    ensures status { IfOk result (λ report. report.status ≡ 4) }
-{
-    report_with(alloc, name, "memory", NOT_DONE)
-}
 
 fn report_of_reading(alloc: Global, name: &str, fault: ColFault) -> Result<FaultReport, AllocError>
     ensures line { IfOk result (λ report. report.line.items ≡ fault_line name.now (Col fault)) }

@@ -1,6 +1,7 @@
 -- What a command of `forestplan` may answer to the bytes of its input.
 use Rattle.std.specs.Prelude.{◌≢◌, ℕ, List, Result, Ok, Err}
 use Rattle.run_faults.specs.declared.fault.PoolFault.TheVariants.{BadOptions}
+use Rattle.answers.specs.Faults.{fault_text}
 use Rattle.answers.specs.Answers.{IsFaultOfText, IsForestsAnswer, IsPlainAnswer}
 use Rattle.colour_rules.specs.Program.{colouring}
 use Rattle.byte_functions.specs.Payloads.{colouring_payloads}
@@ -39,5 +40,10 @@ abbrev pub MayAnswer : Request → List ℕ → Result (List ℕ) PlanFault → 
 MayAnswer request input (Ok answer) = IsGoodAnswer request input answer
 MayAnswer request input (Err fault) = IsFaultAnswer request input fault
 
-abbrev pub forestplan_commands : CommandSet Request
-forestplan_commands = record { executable = Forestplan; request_of = request_of; MayAnswer = MayAnswer }
+abbrev pub forestplan_commands : CommandSet Request PlanFault
+forestplan_commands = record {
+  executable = Forestplan;
+  request_of = request_of;
+  MayAnswer = MayAnswer;
+  fault_text = fault_text;
+}

@@ -1,11 +1,12 @@
 //! The commands of `forestplan`, and the answer of each to the bytes of its input.
 
 use actor::OpenGate;
-use answers::{PlanFault, check_bytes, forest_bytes, plain_bytes};
+use answers::{PlanFault, check_bytes, fault_report, forest_bytes, plain_bytes};
 use byte_functions::{plan_bytes, transcript_bytes};
 use command_line::{Declined, Executable, Request, parse};
+use reports::FaultReport;
 use serving::Commands;
-use std::alloc::Global;
+use std::alloc::{AllocError, Global};
 use std::sync::Wait;
 use std::thread::Threads;
 
@@ -18,6 +19,8 @@ impl Commands for ForestplanCommands {
 
     type Request = Request;
 
+    type Fault = PlanFault;
+
     ghost commands = { forestplan_commands };
 
     ghost can_answer = { IsInRange };
@@ -28,6 +31,14 @@ impl Commands for ForestplanCommands {
 
     fn parse<'a>(alloc: Global, words: &'a [&'a str]) -> Result<Request, Declined> {
         parse(alloc, words)
+    }
+
+    fn fault_report(
+        alloc: Global,
+        name: &str,
+        fault: PlanFault,
+    ) -> Result<FaultReport, AllocError> {
+        fault_report(alloc, name, fault)
     }
 
     fn answer_bytes<T: Threads + Wait + Sync>(

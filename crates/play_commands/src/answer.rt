@@ -1,10 +1,11 @@
 //! The commands of `forestplay`.
 
 use crate::playing::named_bytes;
-use answers::PlanFault;
+use answers::{PlanFault, fault_report};
 use command_line::{Declined, Executable, PlayRequest, parse_play};
+use reports::FaultReport;
 use serving::Commands;
-use std::alloc::Global;
+use std::alloc::{AllocError, Global};
 use std::sync::Wait;
 use std::thread::Threads;
 
@@ -17,6 +18,8 @@ impl Commands for ForestplayCommands {
 
     type Request = PlayRequest;
 
+    type Fault = PlanFault;
+
     ghost commands = { forestplay_commands };
 
     ghost can_answer = { λ request. IsPlayInRange request.play };
@@ -27,6 +30,14 @@ impl Commands for ForestplayCommands {
 
     fn parse<'a>(alloc: Global, words: &'a [&'a str]) -> Result<PlayRequest, Declined> {
         parse_play(alloc, words)
+    }
+
+    fn fault_report(
+        alloc: Global,
+        name: &str,
+        fault: PlanFault,
+    ) -> Result<FaultReport, AllocError> {
+        fault_report(alloc, name, fault)
     }
 
     fn answer_bytes<T: Threads + Wait + Sync>(

@@ -5,12 +5,11 @@ use Rattle.std.specs.declared.vec.Vec.{Vec}
 use Rattle.whole_streams.specs.Streams.{EndsAfter}
 use Rattle.whole_streams.specs.declared.source.ReadFault.{ReadFault}
 use Rattle.whole_streams.specs.declared.source.ReadFault.TheVariants.{Memory, Stream}
-use Rattle.answers.specs.Faults.{fault_line, fault_status, line_with}
-use Rattle.answers.specs.declared.fault.PlanFault.{PlanFault}
+use Rattle.reports.specs.Lines.{line_with}
 use Rattle.command_line.specs.Asked.{AreRefused, AskForHelp}
 use Rattle.command_line.specs.Line.{name_of}
 use Rattle.command_line.specs.declared.executable.Executable.{Executable}
-use Rattle.serving.specs.CommandSet.{CommandSet}
+use Rattle.serving.specs.CommandSet.{CommandSet, fault_line, fault_status}
 use Rattle.serving.specs.Streams.{HasFailed, HasNotFailed, IsCutOff, IsReadInTime, IsWritten, Taken, Written}
 
 -- an executable's line if a stream failed
@@ -39,37 +38,37 @@ Puts executable output errors text status =
     (IsWritten output text × errors.IsUntouched × (status ≡ 0))
     ⊎ (IsCutOff output text × IsReported errors (stream_line executable) × (status ≡ 4))
 
--- the bytes of an answer go to output, and its fault is reported
-abbrev pub Gives : Executable → Written → Written → Result (List ℕ) PlanFault → ℕ → Type 0
-Gives executable output errors (Ok bytes) status = Puts executable output errors bytes status
-Gives executable output errors (Err fault) status =
-    Refuses output errors (fault_line (name_of executable) fault) (fault_status fault) status
-
--- the same of an answer that is returned; or there is no memory for the line of its fault
-abbrev pub GivesAnswer : Executable → Written → Written → Result (Vec ℕ Global) PlanFault → ℕ → Type 0
-GivesAnswer executable output errors (Ok bytes) status = Gives executable output errors (Ok bytes.items) status
-GivesAnswer executable output errors (Err fault) status =
-    Gives executable output errors (Err fault) status ⊎ Refuses output errors (memory_line executable) 4 status
-
 -- why an input isn't read: a read failed; or memory ran out, and no read failed
 abbrev pub IsUnread : Taken → ReadFault → Type 0
 IsUnread input Stream = HasFailed input
 IsUnread input Memory = HasNotFailed input
 
-module _ {A : Type 0} (commands : CommandSet A) where
+module _ {A F : Type 0} (commands : CommandSet A F) where
+  -- the bytes of an answer go to output, and its fault is reported
+  abbrev pub Gives : Executable → Written → Written → Result (List ℕ) F → ℕ → Type 0
+  Gives executable output errors (Ok bytes) status = Puts executable output errors bytes status
+  Gives executable output errors (Err fault) status =
+      Refuses output errors (fault_line commands (name_of executable) fault) (fault_status commands fault) status
+
+  -- the same of an answer that is returned; or there is no memory for the line of its fault
+  abbrev pub GivesAnswer : Executable → Written → Written → Result (Vec ℕ Global) F → ℕ → Type 0
+  GivesAnswer executable output errors (Ok bytes) status = Gives executable output errors (Ok bytes.items) status
+  GivesAnswer executable output errors (Err fault) status =
+      Gives executable output errors (Err fault) status ⊎ Refuses output errors (memory_line executable) 4 status
+
   -- the command may answer so to the bytes
-  abbrev pub MayReturn : A → List ℕ → Result (Vec ℕ Global) PlanFault → Type 0
+  abbrev pub MayReturn : A → List ℕ → Result (Vec ℕ Global) F → Type 0
   MayReturn request bytes (Ok answer) = commands.MayAnswer request bytes (Ok answer.items)
   MayReturn request bytes (Err fault) = commands.MayAnswer request bytes (Err fault)
 
   -- the input ends, and the command may answer so to its bytes
-  abbrev pub IsAnswered : A → Taken → Result (Vec ℕ Global) PlanFault → Type 0
+  abbrev pub IsAnswered : A → Taken → Result (Vec ℕ Global) F → Type 0
   IsAnswered request input answer = (bytes : List ℕ) × EndsAfter input.before input.after bytes × HasNotFailed input
       × MayReturn request bytes answer
 
   -- the command may answer so to the bytes, and that is given
   abbrev pub Answers : A → List ℕ → Written → Written → ℕ → Type 0
-  Answers request bytes output errors status = (answer : Result (List ℕ) PlanFault)
+  Answers request bytes output errors status = (answer : Result (List ℕ) F)
       × commands.MayAnswer request bytes answer × Gives commands.executable output errors answer status
 
   -- the input ends, and its bytes are answered; or a read fails; or memory runs out. At most READ_LIMIT reads are made

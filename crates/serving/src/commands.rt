@@ -3,11 +3,11 @@
 ghost use Rattle.std.specs.Prelude.{◌≡◌, Some, IfOk, IfErr, Ok, Err, map};
 ghost use denote.Param.Send.{IsSync};
 ghost use Rattle.command_line.specs.Asked.{MayDecline};
-ghost use Rattle.serving.specs.CommandSet.{CommandSet};
+ghost use Rattle.serving.specs.CommandSet.{CommandSet, fault_line, fault_status};
 
-use answers::PlanFault;
 use command_line::{Declined, Executable};
-use std::alloc::Global;
+use reports::FaultReport;
+use std::alloc::{AllocError, Global};
 use std::sync::Wait;
 use std::thread::Threads;
 
@@ -16,8 +16,11 @@ pub trait Commands {
     /// What words may ask for.
     type Request: Copy;
 
+    /// Why an input has no answer.
+    type Fault;
+
     /// The executable, what its words ask for, and what may be answered.
-    ghost commands: { CommandSet Self.Request };
+    ghost commands: { CommandSet Self.Request Self.Fault };
 
     /// The requests of which the options are in range.
     ghost can_answer: { Self.Request → Type 0 };
@@ -37,6 +40,18 @@ pub trait Commands {
         ensures err { IfErr result (MayDecline commands.executable
             (commands.request_of (map (λ word. word.now) words.entry.now)) (map (λ word. word.now) words.entry.now)) };
 
+    /// The line and the status with which a program of a name reports a fault.
+    ///
+    /// # Errors
+    /// If there is no memory for the line.
+    fn fault_report(
+        alloc: Global,
+        name: &str,
+        fault: Self::Fault,
+    ) -> Result<FaultReport, AllocError>
+        ensures line { IfOk result (λ report. report.line.items ≡ fault_line commands name.now fault) }
+        ensures status { IfOk result (λ report. report.status ≡ fault_status commands fault) };
+
     /// The answer of a command to its input. A command that runs worker threads isn't promised to return. The clause
     /// `shared` says of `rt` what the bound `Sync` does, since an `impl` doesn't know that bound of its method.
     ///
@@ -47,7 +62,7 @@ pub trait Commands {
         alloc: Global,
         request: Self::Request,
         input: &[u8],
-    ) -> Result<Vec<u8>, PlanFault>
+    ) -> Result<Vec<u8>, Self::Fault>
         requires in_range { can_answer request }
         requires shared { IsSync T.row }
         ensures ok { IfOk result (λ bytes. commands.MayAnswer request input.now (Ok bytes.items)) }

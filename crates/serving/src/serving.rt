@@ -1,14 +1,13 @@
 //! Serving one command, from its words and input to its output and status.
 
 ghost use Rattle.std.specs.Prelude.{◌≡◌, ◌⊎◌, IfErr, IfOk, map};
-ghost use Rattle.answers.specs.Faults.{fault_line, fault_status};
 ghost use Rattle.command_line.specs.Line.{name_of};
+ghost use Rattle.serving.specs.CommandSet.{fault_line, fault_status};
 ghost use Rattle.serving.specs.Serve.{GivesAnswer, IsAnswered, IsReported, IsUnread, Puts, ServesWords};
 ghost use Rattle.serving.specs.Serve.{memory_line, stream_line};
 ghost use Rattle.serving.specs.Streams.{IsReadInTime, reading, writing};
 
 use crate::commands::Commands;
-use answers::{PlanFault, fault_report};
 use command_line::{Declined, Executable};
 use std::alloc::Global;
 use std::sync::Wait;
@@ -64,36 +63,36 @@ fn put<W: Sink, E: Sink>(executable: Executable, output: &mut W, errors: &mut E,
 }
 
 // Reports a fault, or that there is no memory for its line.
-fn refuse_fault<E: Sink>(
+fn refuse_fault<C: Commands, E: Sink>(
     alloc: Global,
     executable: Executable,
     errors: &mut E,
-    fault: PlanFault,
+    fault: C::Fault,
 ) -> u8
-    ensures { (IsReported (writing E.contents E.faults errors.old errors.new) (fault_line (name_of executable) fault)
-        × (result ≡ fault_status fault))
+    ensures { (IsReported (writing E.contents E.faults errors.old errors.new)
+        (fault_line C.commands (name_of executable) fault) × (result ≡ fault_status C.commands fault))
         ⊎ (IsReported (writing E.contents E.faults errors.old errors.new) (memory_line executable) × (result ≡ 4)) }
 {
-    match fault_report(alloc, executable.name(), fault) {
+    match C::fault_report(alloc, executable.name(), fault) {
         Ok(report) => refuse(errors, report.line.as_slice(), report.status),
         Err(_) => refuse_memory(executable, errors),
     }
 }
 
 // Gives an answer: its bytes go to `output`, and its fault is reported.
-fn give<W: Sink, E: Sink>(
+fn give<C: Commands, W: Sink, E: Sink>(
     alloc: Global,
     executable: Executable,
-    answer: Result<Vec<u8>, PlanFault>,
+    answer: Result<Vec<u8>, C::Fault>,
     output: &mut W,
     errors: &mut E,
 ) -> u8
-    ensures { GivesAnswer executable (writing W.contents W.faults output.old output.new)
+    ensures { GivesAnswer C.commands executable (writing W.contents W.faults output.old output.new)
         (writing E.contents E.faults errors.old errors.new) answer result }
 {
     match answer {
         Ok(bytes) => put(executable, output, errors, bytes.as_slice()),
-        Err(fault) => refuse_fault(alloc, executable, errors, fault),
+        Err(fault) => refuse_fault::<C, E>(alloc, executable, errors, fault),
     }
 }
 
@@ -103,7 +102,7 @@ fn answer_input<C: Commands, T: Threads + Wait + Sync, R: Source>(
     alloc: Global,
     request: C::Request,
     input: &mut R,
-) -> Result<Result<Vec<u8>, PlanFault>, ReadFault>
+) -> Result<Result<Vec<u8>, C::Fault>, ReadFault>
     requires in_range { C.can_answer request }
     ensures in_time { IsReadInTime (reading R.remaining R.faults R.reads_left input.old input.new) }
     ensures ok { IfOk result (λ answer.
@@ -144,7 +143,7 @@ pub fn serve<'a, C: Commands, T: Threads + Wait + Sync, R: Source, W: Sink, E: S
     let executable = C::executable();
     match C::parse(alloc, words) {
         Ok(request) => match answer_input::<C, T, R>(rt, alloc, request, input) {
-            Ok(answer) => give(alloc, executable, answer, output, errors),
+            Ok(answer) => give::<C, W, E>(alloc, executable, answer, output, errors),
             Err(ReadFault::Stream) => refuse_stream(executable, errors),
             Err(ReadFault::Memory) => refuse_memory(executable, errors),
         },

@@ -1,5 +1,6 @@
 use Rattle.std.proofs.Common.{◌≡◌, ◌++◌, IfOk, codes, subst, sym}
-use Rattle.answers.specs.Faults.{at_line, fault_line, line_with}
+use Rattle.reports.specs.Lines.{at_line, line_with}
+use Rattle.answers.specs.Faults.{fault_line}
 use Rattle.answers.specs.declared.fault.PlanFault.TheVariants.{Replay}
 use Rattle.answers.proofs.report.report_of_replay.Goals as goal
 

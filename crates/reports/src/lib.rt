@@ -1,0 +1,8 @@
+//! How a fault of any program is reported: the line on standard error, and the status.
+//!
+//! `answers` calls `refusal`, `report_with` or `memory_report` for a fault, and `serving` writes the `FaultReport`.
+#![tactic(auto)]
+
+mod report;
+
+pub use report::{FaultReport, Place, memory_report, refusal, refusal_in_words, report_with};
