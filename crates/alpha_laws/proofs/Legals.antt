@@ -1,8 +1,7 @@
 -- Legal lists are in order, and a close completes them.
 use Rattle.std.proofs.Common.{◌≡◌, ℕ, suc, zero, ◌+◌, ◌<◌, ◌≤◌, false, List, [], ◌∷◌, ◌++◌, Option, Some, None, refl, sym, ap}
 use Rattle.std.proofs.Common.{◌∙◌, arith, subst, ◌⊎◌, inl, inr, ⊎_elim, append_assoc, append-nil}
-use Rattle.std.specs.Prelude.{Contains, is_some, ◌↔◌}
-use Rattle.alpha_laws.proofs.Claims.{has_split}
+use Rattle.std.specs.Prelude.{Contains, is_some}
 use Rattle.wires.specs.declared.wire.Wire.{Wire}
 use Rattle.wires.specs.declared.wire.Wire.TheVariants.{Payload, Ack, Safe, Close}
 use Rattle.wires.specs.Wires.{data_of, acks_of, payloads_of, safes_of}
@@ -11,7 +10,7 @@ use Rattle.wires.proofs.Wires.{acks-append, begins_rest, data-append, legal-fron
 use Rattle.alpha_laws.specs.Position.{Position, move, moves, start_at, Allows, Follows}
 use Rattle.alpha_laws.proofs.Complete.{data-payloads}
 use Rattle.alpha_laws.proofs.Cursor.{moves-append, follows-front, follows-rest, follows-more, payloads_to-grows}
-use Rattle.alpha_laws.proofs.Listed.{pulses_below}
+use Rattle.alpha_laws.proofs.Listed.{has_split, pulses_below}
 use Rattle.link_rule.specs.Order.{MayFollow, IsInOrder}
 use Rattle.alpha_laws.specs.Simulates.{IsComplete}
 

@@ -23,6 +23,7 @@ pub mod Listed
 pub mod PortClaims
 pub mod Heard
 pub mod Next
+pub mod Stands
 pub mod Claims
 pub mod Complete
 pub mod Counts
@@ -37,3 +38,4 @@ pub mod Sums
 pub mod Bounded
 pub mod PulseAfter
 pub mod Legals
+pub mod Agreeing

@@ -1,5 +1,5 @@
 -- What stands in a list of wires that has come to a place of its stream.
-use Rattle.std.proofs.Common.{◌≡◌, ℕ, suc, zero, ◌+◌, ◌*◌, ◌<◌, ◌≤◌, ◌⊎◌, Bool, true, false, List, [], ◌∷◌, Option, Some, None, refl, sym, ap, ◌∙◌, arith}
+use Rattle.std.proofs.Common.{◌≡◌, ℕ, suc, zero, ◌+◌, ◌*◌, ◌<◌, ◌≤◌, ◌⊎◌, Bool, true, false, List, [], ◌∷◌, ◌++◌, Option, Some, None, refl, sym, ap, ◌∙◌, arith}
 use Rattle.std.proofs.Common.{subst, inl, inr, ⊎_elim}
 use Rattle.std.specs.Prelude.{is_some, if◌then◌else◌, Contains}
 use Rattle.std.proofs.lemmas.Bool.{cases_eq}
@@ -15,6 +15,14 @@ use Rattle.alpha_laws.specs.Position.{Position, move, moves, Follows}
 pub contains_cons : {A : Type 0} (w : A) (ws : List A) (x : A) → Contains (w ∷ ws) x → (w ≡ x) ⊎ Contains ws x
 contains_cons w ws x (zero, lt, e) = inl e
 contains_cons w ws x (suc k, lt, e) = inr (k, omega arith, e)
+
+-- what stands before and after an entry
+pub has_split : {A : Type 0} (xs : List A) (x : A) → Contains xs x → (before : List A) × (after : List A) × (xs ≡ before ++ (x ∷ after))
+has_split [] x (k, lt, e) = absurd (omega arith)
+has_split (y ∷ xs) x has = ⊎_elim
+    (λ here. ([], xs, ap (λ z. z ∷ xs) here))
+    (λ more. let rest = has_split xs x more in (y ∷ rest.0, rest.1, ap (λ l. y ∷ l) rest.2))
+    (contains_cons y xs x has)
 
 pub contains_one : {M : Type 0} (q : ℕ) (o : Option M) (r : ℕ) → Contains (sent_pulse q o) r → q ≡ r
 contains_one q None r (k, lt, e) = absurd (omega arith)

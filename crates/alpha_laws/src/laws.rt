@@ -11,6 +11,7 @@ ghost use Rattle.alpha_laws.specs.Counts.{CompleteListsAreCounted, LegalListsAre
 ghost use Rattle.alpha_laws.specs.Laws.{KeptSimulate, OnEveryNetwork, PulsesKeep, PutsKeep, StartsKeep, TakesKeep};
 ghost use Rattle.alpha_laws.specs.Progress.{EventsAreBounded, SomeNodeCanMove, WholeNetworksHaveEnded};
 ghost use Rattle.alpha_laws.specs.Simulates.{IsComplete};
+ghost use Rattle.alpha_laws.specs.Stands.{KeptStand, StandingNodesAgree};
 
 /// Each event of a node by itself leaves what it keeps of its links.
 pub fn each_event_keeps_the_links<S, M, E>()
@@ -24,6 +25,19 @@ pub fn each_event_keeps_the_links<S, M, E>()
 /// of this claim.
 pub fn kept_links_simulate<S, M, E>()
     ensures law { (program : Program S M E) → OnEveryNetwork program (KeptSimulate program) }
+{}
+
+/// A node that keeps its links, and took legal lists, stands where the synchronous run has it, whatever the other nodes
+/// do and whether or not the run ends: see `Stands`.
+pub fn kept_nodes_stand<S, M, E>()
+    ensures law { (program : Program S M E) → OnEveryNetwork program (KeptStand program) }
+{}
+
+/// First in, first out, without a common moment: of what a node that stands has put on a link and what its neighbour
+/// has taken from it, one begins the other without acknowledgements, and one begins the other in acknowledgements, at
+/// whichever two moments they are seen.
+pub fn standing_nodes_agree<S, M, E>()
+    ensures law { (program : Program S M E) (net : Net) → IsNetwork net → StandingNodesAgree program net }
 {}
 
 /// If the list of each link is complete, all lists together have as many payloads as the synchronous run sends, and
