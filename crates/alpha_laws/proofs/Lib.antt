@@ -38,4 +38,5 @@ pub mod Sums
 pub mod Bounded
 pub mod PulseAfter
 pub mod Legals
+pub mod PulseCounts
 pub mod Agreeing

@@ -6,3 +6,4 @@ pub mod Laws
 pub mod Stands
 pub mod Counts
 pub mod Progress
+pub mod PulseCounts

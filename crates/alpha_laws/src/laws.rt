@@ -10,6 +10,7 @@ ghost use Rattle.link_rule.specs.Order.{IsInOrder};
 ghost use Rattle.alpha_laws.specs.Counts.{CompleteListsAreCounted, LegalListsAreShort};
 ghost use Rattle.alpha_laws.specs.Laws.{KeptSimulate, OnEveryNetwork, PulsesKeep, PutsKeep, StartsKeep, TakesKeep};
 ghost use Rattle.alpha_laws.specs.Progress.{EventsAreBounded, SomeNodeCanMove, WholeNetworksHaveEnded};
+ghost use Rattle.alpha_laws.specs.PulseCounts.{PulsesAreCounted};
 ghost use Rattle.alpha_laws.specs.Simulates.{IsComplete};
 ghost use Rattle.alpha_laws.specs.Stands.{KeptStand, StandingNodesAgree};
 
@@ -44,6 +45,12 @@ pub fn standing_nodes_agree<S, M, E>()
 /// 2·payloads + 2·edges·(R + 1) wires, where R is the last pulse.
 pub fn complete_lists_are_counted<S, M, E>()
     ensures law { (program : Program S M E) (net : Net) → IsNetwork net → CompleteListsAreCounted program net }
+{}
+
+/// If the list of each link is complete, all lists together have 2·edges safes of each pulse below the last, as many
+/// payloads of it as the synchronous run sends, and an acknowledgement for each payload: at most 6·edges messages.
+pub fn pulses_are_counted<S, M, E>()
+    ensures law { (program : Program S M E) (net : Net) → IsNetwork net → PulsesAreCounted program net }
 {}
 
 /// A legal list of a link has at most 3·R + 1 wires, where R is the last pulse. So no link is pushed more often.
