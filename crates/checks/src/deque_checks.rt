@@ -3,12 +3,12 @@
 
 ghost use Rattle.std.specs.Prelude.{◌≡◌, ◌<◌, ◌≤◌, All, IfOk, length, map, vec_len};
 ghost use Rattle.crossbeam_deque.specs.Handles.{stealer_deque};
-ghost use Rattle.worker_deques.specs.Passes.{deques_of};
+ghost use Rattle.pool.specs.Passes.{deques_of};
 
 use crossbeam_deque::protocol::Split;
 use deque_rule::{Ledger, StealHandle, Task};
+use pool::{WorkerState, deal, make_deques, make_worker_states, split_off};
 use std::alloc::{AllocError, Global};
-use worker_deques::{WorkerState, deal, make_deques, make_worker_states, split_off};
 
 // A task that is only a number.
 #[derive(Drop)]

@@ -4,8 +4,7 @@
 //! so no task is lost and none is there twice. The tasks are known by their numbers.
 //!
 //! `task` is what lies in a deque, `ledger` the rule and what each of its steps says, `own` what a worker gives to its
-//! own deque, `steal_pass` a pass at another worker's deque, by which it steals. `worker_deques` has the deques of all
-//! workers.
+//! own deque, `steal_pass` a pass at another worker's deque, by which it steals. `pool` has the deques of all workers.
 //!
 //! Limits: `MAX_WORKERS` of `run_options`, for each of which a deque has a pass.
 #![tactic(auto)]

@@ -1,7 +1,7 @@
 -- What is left to say where ends are put side by side.
 use Rattle.std.proofs.Common.{◌≡◌, ℕ, List, length, map, true, sym, ◌∙◌}
 use Rattle.std.specs.Prelude.{Result, Ok, Err, IfOk, is_err}
-use Rattle.worker_deques.proofs.Views.{as_many}
+use Rattle.pool.proofs.Views.{as_many}
 
 -- an error says nothing of a good answer
 pub err_says : {A B : Type 0} (P : A → Type 0) (r : Result A B) → is_err r ≡ true → IfOk r P

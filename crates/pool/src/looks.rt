@@ -2,12 +2,12 @@
 
 ghost use Rattle.std.specs.Prelude.{◌≡◌, ◌<◌, length, map};
 ghost use Rattle.crossbeam_deque.specs.Handles.{stealer_deque, worker_deque};
-ghost use Rattle.worker_deques.specs.Passes.{deques_of};
+ghost use Rattle.pool.specs.Passes.{deques_of};
 
 use crate::signals::Signals;
+use crate::worker_state::WorkerState;
 use deque_rule::{StealHandle, Task, give_back};
 use std::thread;
-use worker_deques::WorkerState;
 
 /// What a turn of a task says.
 #[derive(Debug, Clone, Copy, PartialEq, Eq)]

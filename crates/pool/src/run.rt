@@ -4,12 +4,17 @@ ghost use Rattle.std.specs.Prelude.{◌≡◌, ◌≤◌, All, IfOk, length, map
 ghost use Rattle.std.specs.List.{range_with_len};
 ghost use Rattle.crossbeam_deque.specs.Handles.{stealer_deque, worker_deque};
 ghost use Rattle.deque_rule.specs.Ledgers.{AreSame};
-ghost use Rattle.worker_deques.specs.Passes.{deques_of};
+ghost use Rattle.pool.specs.Passes.{deques_of};
 
+use crate::deques::{deal, make_deques, split_off};
 use crate::faults::ThreadsFault;
+use crate::gathering::gather;
 use crate::looks::{Shared, Turned};
+use crate::place::make_places;
 use crate::signals::Signals;
 use crate::threads::{join_all, start_all};
+use crate::worker_state::WorkerState;
+use crate::worker_states::make_worker_states;
 use crossbeam_deque::protocol::Split;
 use deque_rule::{Ledger, StealHandle, Task};
 use run_options::{MAX_WORKERS, Options};
@@ -17,9 +22,6 @@ use std::alloc::Global;
 use std::sync::Wait;
 use std::thread;
 use std::thread::Threads;
-use worker_deques::{
-    WorkerState, deal, gather, make_deques, make_places, make_worker_states, split_off,
-};
 
 // A share is split off with all that was pushed and taken so far.
 pub struct Dealt;

@@ -2,12 +2,14 @@
 
 ghost use Rattle.std.specs.Prelude.{◌≡◌, ◌<◌, ◌≤◌, [], All, IfErr, IfOk, length, map, vec_capacity, vec_len};
 ghost use Rattle.crossbeam_deque.specs.Handles.{stealer_deque, worker_deque};
-ghost use Rattle.worker_deques.specs.Passes.{deques_of};
+ghost use Rattle.pool.specs.Passes.{deques_of};
 ghost use Rattle.pool.specs.declared.faults.ThreadsFault.TheVariants.{Spawn};
 
 use crate::faults::ThreadsFault;
 use crate::looks::{Shared, Turned, work};
+use crate::promise::SameDeques;
 use crate::signals::Signals;
+use crate::worker_state::WorkerState;
 use deque_rule::{StealHandle, Task};
 use interference::Memory;
 use run_options::MAX_WORKERS;
@@ -15,7 +17,6 @@ use std::snapshot::Snapshot;
 use std::sync::Wait;
 use std::thread;
 use std::thread::{PromisedHandle, Scope, Threads};
-use worker_deques::{SameDeques, WorkerState};
 
 /// A worker in a thread of its own, which can be joined.
 pub type Child<T: Task> = PromisedHandle<WorkerState<T>, SameDeques<T>>;

@@ -2,7 +2,7 @@ use Rattle.std.proofs.Common.{◌≡◌, ◌-◌, [], refl, sym, ap, ◌∙◌, 
 use Rattle.crossbeam_deque.specs.Handles.{stealer_deque, worker_deque, worker_view}
 use Rattle.deque_rule.specs.Ledgers.{all_shares, ledger, shares_of}
 use Rattle.deque_rule.proofs.Rule.{deals}
-use Rattle.worker_deques.proofs.Views.{as_many, carried}
+use Rattle.pool.proofs.Views.{as_many, carried}
 use Rattle.checks.proofs.deque_checks.begin.Goals as goal
 
 pub split_off-requires-clause-rule : goal.split_off-requires-clause-rule

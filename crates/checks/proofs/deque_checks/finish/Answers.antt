@@ -1,6 +1,6 @@
 use Rattle.std.proofs.Common.{◌∷◌, map, sym, ◌∙◌}
 use Rattle.crossbeam_deque.specs.Handles.{view, worker_view}
-use Rattle.worker_deques.proofs.Out.{finished}
+use Rattle.pool.proofs.Out.{finished}
 use Rattle.checks.proofs.deque_checks.finish.Goals as goal
 
 pub invariant_of-state : goal.invariant_of-state

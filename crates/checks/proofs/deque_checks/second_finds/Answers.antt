@@ -1,7 +1,7 @@
 use Rattle.std.proofs.Common.{◌≡◌, ◌<◌, ◌∙◌, ap, length, map, sym, arith}
 use Rattle.crossbeam_deque.specs.Handles.{stealer_deque}
-use Rattle.worker_deques.specs.Passes.{deques_of}
-use Rattle.worker_deques.proofs.Holds.{holds_at}
+use Rattle.pool.specs.Passes.{deques_of}
+use Rattle.pool.proofs.Holds.{holds_at}
 use Rattle.checks.proofs.deque_checks.second_finds.Goals as goal
 
 pub find_all-requires-clause-deques : goal.find_all-requires-clause-deques

@@ -6,7 +6,7 @@ use Rattle.std.proofs.lemmas.Iterator.Consumers.{YieldsList-end, YieldsList-turn
 use Rattle.std.proofs.lemmas.Iterator.Adapters.{YieldsList-from_vec}
 use Rattle.link_queue.specs.Ends.{held_stamped, put_stamped, taken_stamped}
 use Rattle.outcomes.specs.Meets.{RowsAreMet, put_of}
-use Rattle.worker_deques.proofs.Views.{as_many}
+use Rattle.pool.proofs.Views.{as_many}
 use Rattle.outcomes.proofs.Meetings.{err_says}
 use Rattle.outcomes.proofs.MetRows.{one_row_met}
 use Rattle.outcomes.proofs.meeting.meet_each.Goals as goal

@@ -1,5 +1,5 @@
 use Rattle.std.proofs.Common.{ℕ, map, sym, ap, ◌∙◌, subst}
-use Rattle.worker_deques.proofs.Each.{ok_says}
+use Rattle.pool.proofs.Each.{ok_says}
 use Rattle.link_queue.specs.Ends.{put_stamped, taken_stamped}
 use Rattle.outcomes.specs.Meets.{AreMet}
 use Rattle.outcomes.proofs.Meetings.{as_long, err_says}

@@ -4,7 +4,7 @@ use Rattle.std.proofs.lemmas.List.Elements.{All-push, All-same}
 use Rattle.std.proofs.lemmas.Iterator.Consumers.{YieldsList-end, YieldsList-turn}
 use Rattle.std.proofs.lemmas.Iterator.Adapters.{YieldsList-from_vec}
 use Rattle.link_queue.specs.Ends.{held_stamped, put_stamped, taken_stamped}
-use Rattle.worker_deques.proofs.Views.{as_many}
+use Rattle.pool.proofs.Views.{as_many}
 use Rattle.outcomes.specs.Meets.{AreMet, put_of}
 use Rattle.outcomes.proofs.Meetings.{err_says}
 use Rattle.outcomes.proofs.MetRows.{none_met, one_met}

@@ -1,6 +1,6 @@
 use Rattle.std.proofs.Common.{ℕ, map, sym, ◌∙◌, subst}
 use Rattle.std.specs.Prelude.{List}
-use Rattle.worker_deques.proofs.Each.{ok_says}
+use Rattle.pool.proofs.Each.{ok_says}
 use Rattle.link_queue.specs.Ends.{put_stamped, taken_stamped}
 use Rattle.outcomes.specs.Meets.{RowsAreMet}
 use Rattle.outcomes.proofs.Meetings.{as_long, err_says}

@@ -3,7 +3,7 @@ use Rattle.std.proofs.Common.{◌<◌, length, map, sym, ap, ◌∙◌, arith, r
 use Rattle.std.proofs.lemmas.Iterator.Consumers.{YieldsList-end, YieldsList-turn}
 use Rattle.std.proofs.lemmas.Iterator.Adapters.{YieldsList-from_vec}
 use Rattle.entries.specs.Recorded.{entries_by}
-use Rattle.worker_deques.proofs.Views.{as_many}
+use Rattle.pool.proofs.Views.{as_many}
 use Rattle.port_rows.proofs.ReadLists.{both_pushed}
 use Rattle.port_rows.specs.Rows.{rows_of}
 use Rattle.outcomes.proofs.Meetings.{err_says}

@@ -1,6 +1,6 @@
 use Rattle.std.proofs.Common.{map, sym, ◌∙◌, arith, ◌∷◌}
 use Rattle.crossbeam_deque.specs.Handles.{view, worker_view}
-use Rattle.worker_deques.proofs.Out.{finished}
+use Rattle.pool.proofs.Out.{finished}
 use Rattle.pool.proofs.InHand.{gave_back}
 use Rattle.pool.proofs.looks.put_back.Goals as goal
 

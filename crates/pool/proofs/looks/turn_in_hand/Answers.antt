@@ -1,6 +1,6 @@
 use Rattle.std.proofs.Common.{map, ◌∷◌}
 use Rattle.crossbeam_deque.specs.Handles.{view, worker_view}
-use Rattle.worker_deques.proofs.Out.{turned}
+use Rattle.pool.proofs.Out.{turned}
 use Rattle.pool.proofs.looks.turn_in_hand.Goals as goal
 
 pub invariant_of-state : goal.invariant_of-state

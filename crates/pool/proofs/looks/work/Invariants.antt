@@ -1,6 +1,6 @@
 use Rattle.std.proofs.Common.{◌≡◌, map}
 use Rattle.crossbeam_deque.specs.Handles.{stealer_deque, worker_deque}
-use Rattle.worker_deques.specs.Passes.{deques_of}
+use Rattle.pool.specs.Passes.{deques_of}
 use Rattle.pool.proofs.looks.work.Given as goal
 
 abbrev pub invariant-loop : goal.invariant-loop

@@ -3,10 +3,10 @@ use Rattle.std.specs.List.{range_with_len}
 use Rattle.crossbeam_deque.specs.Handles.{stealer_deque, view, worker_deque, worker_view}
 use Rattle.deque_rule.specs.Deques.{deque_of}
 use Rattle.deque_rule.specs.Ledgers.{AreSame, all_shares, ledger, shares_of}
-use Rattle.worker_deques.proofs.Holds.{dealt_on}
+use Rattle.pool.proofs.Holds.{dealt_on}
 use Rattle.deque_rule.proofs.Rule.{deals}
-use Rattle.worker_deques.specs.Passes.{deques_of}
-use Rattle.worker_deques.proofs.Views.{as_many, carried}
+use Rattle.pool.specs.Passes.{deques_of}
+use Rattle.pool.proofs.Views.{as_many, carried}
 use Rattle.pool.proofs.run.run_all.Goals as goal
 
 pub deal-owns-requires-clause-room : goal.deal-owns-requires-clause-room

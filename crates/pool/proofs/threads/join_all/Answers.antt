@@ -1,6 +1,6 @@
 use Rattle.std.proofs.Common.{arith}
 use Rattle.crossbeam_deque.specs.Handles.{worker_deque}
-use Rattle.worker_deques.specs.Passes.{deques_of}
+use Rattle.pool.specs.Passes.{deques_of}
 use Rattle.pool.proofs.Joined.{kept_images}
 use Rattle.pool.proofs.threads.join_all.Goals as goal
 

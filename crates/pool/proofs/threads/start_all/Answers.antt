@@ -4,8 +4,8 @@ use Rattle.std.proofs.lemmas.List.{length-map, length_push}
 use Rattle.std.proofs.lemmas.Iterator.Consumers.{YieldsList-end, YieldsList-turn}
 use Rattle.std.proofs.lemmas.Iterator.Adapters.{YieldsList-from_vec}
 use Rattle.crossbeam_deque.specs.Handles.{stealer_deque}
-use Rattle.worker_deques.specs.Passes.{deques_of}
-use Rattle.worker_deques.proofs.Pushed.{image_pushed}
+use Rattle.pool.specs.Passes.{deques_of}
+use Rattle.pool.proofs.Pushed.{image_pushed}
 use Rattle.pool.proofs.threads.start_all.Given.{Over}
 use Rattle.pool.proofs.threads.start_all.Goals.{In-Some}
 use Rattle.pool.proofs.threads.start_all.Goals as goal

@@ -1,9 +1,0 @@
-pub mod Absorbing
-pub mod Dealing
-pub mod Each
-pub mod Holds
-pub mod Out
-pub mod Pushed
-pub mod Returned
-pub mod Steps
-pub mod Views

@@ -1,3 +1,0 @@
-pub mod Dealt
-pub mod Passes
-pub mod Places
