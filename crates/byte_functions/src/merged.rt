@@ -8,12 +8,11 @@ ghost use Rattle.program_texts.specs.PayloadTexts.{payload_texts};
 ghost use Rattle.byte_functions.specs.Transcripts.{IsMergedText, stamped_edition};
 
 use interference::Memory;
-use merged_rows::{LeftEntries, push_merged};
 use node_api::NodeProgram;
 use outcomes::Actor;
 use program_texts::ProgramText;
 use std::alloc::{AllocError, Global};
-use transcripts::{push_named_line, push_stamped_line};
+use transcripts::{LeftEntries, push_merged, push_named_line, push_stamped_line};
 
 /// Appends the first line of a program's transcript with stamps.
 ///

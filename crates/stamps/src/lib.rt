@@ -5,7 +5,7 @@
 //! stamp of its put. So a take has a greater stamp than the put of its wire.
 //!
 //! `specs/Stamps.antt` has the stamps of one node's entries, `specs/Merged.antt` those of all nodes in one list.
-//! `order` makes that list, for tests alone: the programs merge entries in `merged_rows`. `replay_whole` of
+//! `order` makes that list, for tests alone: the programs merge entries in `transcripts`. `replay_whole` of
 //! `net_core` plays it.
 //!
 //! ```text

@@ -10,3 +10,6 @@ pub mod Texts
 pub mod LinesBehind
 pub mod Either
 pub mod EntryNumbers
+mod Keys
+mod TopKeys
+mod Merge

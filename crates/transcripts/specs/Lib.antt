@@ -6,3 +6,5 @@ pub mod Behind
 pub mod Editions
 pub mod Reader
 pub mod Faults
+pub mod Merge
+pub mod Lines

@@ -1,9 +1,10 @@
-//! Transcripts: the entries of nodes as text, written and read.
+//! Transcripts: what each node of an execution did, event by event, as text that is written and read.
 //!
-//! A transcript is a line `transcript 1 NODES`, and then a line for each entry. `transcript_text` writes it, and
-//! `read_transcript` reads what anybody wrote; what the first wrote, the second reads as the same entries. `push_row`
-//! writes one entry, for texts that have other lines too. A caller that has the entries node by node writes the same
-//! text by `push_first_line`, and by `push_entries` for each node.
+//! What a node writes down of an event is an entry (`entries`). A transcript is a line `transcript 1 NODES`, and then a
+//! line for each entry. `transcript_text` writes it, and `read_transcript` reads what anybody wrote; what the first
+//! wrote, the second reads as the same entries. `push_row` writes one entry, for texts that have other lines too. A
+//! caller that has the entries node by node writes the same text by `push_first_line`, and by `push_entries` for each
+//! node.
 //!
 //! In edition 2 the first line is `transcript 2 NODES`, and each entry has its stamp before the vertex. `stamped_text`
 //! writes it, `push_stamped_row` one entry of it, and `read_any` reads both editions. Edition 3 is the same of a
@@ -17,6 +18,11 @@
 //! let text = transcript_text(alloc, 2, &rows)?;          // "transcript 1 2", "1 put 2 close", "2 take 1 close"
 //! let (nodes, rows) = read_transcript::<Best>(alloc, text.as_slice())?;
 //! ```
+//!
+//! `push_merged` writes the entries that all nodes of a run wrote down as lines in one order: by their stamps, and then
+//! by the vertices of their nodes. The entries of the node of vertex v, its `LeftEntries`, are in place v - 1. To take
+//! the least entry takes time by the logarithm of the number of nodes (`merging`). `order` of `stamps` makes the same
+//! list for tests.
 //!
 //! `read_behind_network` reads a transcript behind a network text, with lines that count from the first one of the
 //! whole input, and `read_any_behind_network` one of any edition; `network_text` is what stands before it, and
@@ -32,19 +38,24 @@ mod editions;
 mod entry_line;
 mod fault;
 pub mod laws;
+mod left_entries;
 mod line_end;
 mod lines;
+mod merging;
 mod names;
 mod node_lines;
 mod numbers;
+mod pushing;
 mod reading;
 mod writing;
 
 pub use behind::{entry_lines, network_text, program_in, read_behind_network};
 pub use editions::{Transcript, read_any, read_any_behind_network};
 pub use fault::TextFault;
+pub use left_entries::LeftEntries;
 pub use lines::{push_row, push_stamped_row};
 pub use node_lines::push_entries;
+pub use pushing::push_merged;
 pub use reading::read_transcript;
 pub use writing::{
     push_first_line, push_named_line, push_stamped_line, stamped_text, transcript_text,

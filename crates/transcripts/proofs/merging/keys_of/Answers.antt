@@ -1,9 +1,9 @@
 use Rattle.std.proofs.Common.{◌∙◌, ◌++◌, ◌∷◌, [], arith, ap, refl, rules, subst, sym, take}
 use Rattle.std.specs.BinaryHeap.{heap_items}
 use Rattle.std.proofs.lemmas.List.{length-take-le, take_more}
-use Rattle.merged_rows.specs.Merge.{AreKeys, IsKeyAdded}
-use Rattle.merged_rows.proofs.Keys.{keys_more, no_keys}
-use Rattle.merged_rows.proofs.merging.keys_of.Goals as goal
+use Rattle.transcripts.specs.Merge.{AreKeys, IsKeyAdded}
+use Rattle.transcripts.proofs.Keys.{keys_more, no_keys}
+use Rattle.transcripts.proofs.merging.keys_of.Goals as goal
 
 -- no keys of no lists
 pub loop-index-init : goal.loop-index-init

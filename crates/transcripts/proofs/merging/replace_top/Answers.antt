@@ -1,9 +1,9 @@
 use Rattle.std.proofs.Common.{drop, rules}
 use Rattle.std.specs.BinaryHeap.{heap_items}
 use Rattle.std.proofs.lemmas.List.Sorted.{IsPermutation-cons, IsPermutation-trans}
-use Rattle.merged_rows.specs.Merge.{Key}
-use Rattle.merged_rows.proofs.Keys.{key_added, none_added}
-use Rattle.merged_rows.proofs.merging.replace_top.Goals as goal
+use Rattle.transcripts.specs.Merge.{Key}
+use Rattle.transcripts.proofs.Keys.{key_added, none_added}
+use Rattle.transcripts.proofs.merging.replace_top.Goals as goal
 
 -- the new key is put to those behind the top
 pub returns-in-Some-stamp-clause-replaced : goal.returns-in-Some-stamp-clause-replaced

@@ -2,7 +2,7 @@
 
 ghost use Rattle.std.specs.Prelude.{◌≡◌, ◌<◌, ◌^◌, IfOk, MatchOption, OnOk, drop, length};
 ghost use Rattle.std.specs.BinaryHeap.{KeepsHeap, heap_items, heap_len};
-ghost use Rattle.merged_rows.specs.Merge.{AreKeys, IsKeyAdded, IsTaken, NoneLeft, key_cmp};
+ghost use Rattle.transcripts.specs.Merge.{AreKeys, IsKeyAdded, IsTaken, NoneLeft, key_cmp};
 
 use crate::left_entries::LeftEntries;
 use entries::StampedRow;

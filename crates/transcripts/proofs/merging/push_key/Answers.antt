@@ -1,6 +1,6 @@
 use Rattle.std.specs.BinaryHeap.{heap_items}
-use Rattle.merged_rows.proofs.Keys.{key_added}
-use Rattle.merged_rows.proofs.merging.push_key.Goals as goal
+use Rattle.transcripts.proofs.Keys.{key_added}
+use Rattle.transcripts.proofs.merging.push_key.Goals as goal
 
 pub returns-in_ok-push-clause-added : goal.returns-in_ok-push-clause-added
 returns-in_ok-push-clause-added g c =

@@ -12,8 +12,8 @@ use Rattle.std.proofs.lemmas.List.Sums.{sum_by-cons}
 use Rattle.entries.specs.declared.entry.Entry.{Entry}
 use Rattle.entries.specs.Rows.{stamped_entry, stamped_row}
 use Rattle.entries.specs.declared.rows.StampedEntry.{StampedEntry}
-use Rattle.merged_rows.specs.Merge.{AreKeys, IsKeyAdded, IsTaken, Key, NoneLeft, is_key, key_cmp, keys_in, starts_at}
-use Rattle.merged_rows.proofs.Keys.{NotAfter, in_here, in_other, none_if, not_after, number, one_if, other_index, other_stamp, own_key}
+use Rattle.transcripts.specs.Merge.{AreKeys, IsKeyAdded, IsTaken, Key, NoneLeft, is_key, key_cmp, keys_in, starts_at}
+use Rattle.transcripts.proofs.Keys.{NotAfter, in_here, in_other, none_if, not_after, number, one_if, other_index, other_stamp, own_key}
 
 -- what holds of each key holds of one that is counted
 counted : (P : Key → Type 0) (p : Key → Bool) (keys : List Key) → AllByRecursion P keys → 0 < count_by p keys → (key : Key) × (p key ≡ true) × P key

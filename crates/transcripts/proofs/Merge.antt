@@ -16,7 +16,7 @@ use Rattle.entries.specs.declared.rows.StampedRow.{StampedRow}
 use Rattle.stamps.specs.Merged.{AreOrdered, IsMerge, Precedes, entries_at, list_of}
 use Rattle.program_texts.specs.PayloadTexts.{PayloadTexts}
 use Rattle.transcripts.specs.TranscriptText.{stamped_row_text}
-use Rattle.merged_rows.specs.Merge.{IsTaken, NoneLeft}
+use Rattle.transcripts.specs.Merge.{IsTaken, NoneLeft}
 use Rattle.stamps.proofs.Growing.{ordered_push}
 use Rattle.stamps.proofs.Lists.{entry_here, entry_other}
 use Rattle.stamps.proofs.Sorts.{through}

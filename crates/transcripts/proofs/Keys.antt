@@ -10,7 +10,7 @@ use Rattle.std.proofs.Math.ListN.{get_or-eq_default}
 use Rattle.std.proofs.lemmas.List.Sorted.{sum_by-IsPermutation, sum_by_pushed}
 use Rattle.stamps.proofs.Sorts.{not_lt, cmp_less}
 use Rattle.entries.specs.declared.rows.StampedEntry.{StampedEntry}
-use Rattle.merged_rows.specs.Merge.{AreKeys, IsKeyAdded, Key, is_key, key_cmp, keys_in, starts_at}
+use Rattle.transcripts.specs.Merge.{AreKeys, IsKeyAdded, Key, is_key, key_cmp, keys_in, starts_at}
 
 -- one pair is by its first part, and then by its second part, not after another
 abbrev pub NotAfter : ℕ → ℕ → ℕ → ℕ → Type 0

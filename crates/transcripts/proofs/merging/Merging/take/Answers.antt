@@ -2,9 +2,9 @@ use Rattle.std.proofs.Common.{◌<◌, ◌∷◌, arith, drop, length, refl}
 use Rattle.std.specs.BinaryHeap.{heap_items}
 use Rattle.std.specs.List.Sorted.{IsPermutation}
 use Rattle.std.proofs.lemmas.Bool.{false≢true}
-use Rattle.merged_rows.proofs.TopKeys.{keys_after, none_left, starts_within, top_first, top_some, top_starts, top_taken}
-use Rattle.merged_rows.proofs.merging.Merging.take.Goals as goal
-use Rattle.merged_rows.proofs.merging.Merging.take.Goals.{In_ok-index}
+use Rattle.transcripts.proofs.TopKeys.{keys_after, none_left, starts_within, top_first, top_some, top_starts, top_taken}
+use Rattle.transcripts.proofs.merging.Merging.take.Goals as goal
+use Rattle.transcripts.proofs.merging.Merging.take.Goals.{In_ok-index}
 
 -- the key on top, and those behind it
 first : (g : _) (c : In_ok-index g) → IsPermutation (heap_items c.args.self.now.keys) (c.in_ok-index.field-0.now ∷ drop 1 (heap_items c.args.self.now.keys))

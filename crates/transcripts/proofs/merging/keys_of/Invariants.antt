@@ -1,7 +1,7 @@
 use Rattle.std.proofs.Common.{take}
 use Rattle.std.specs.BinaryHeap.{heap_items}
-use Rattle.merged_rows.specs.Merge.{AreKeys}
-use Rattle.merged_rows.proofs.merging.keys_of.Given as goal
+use Rattle.transcripts.specs.Merge.{AreKeys}
+use Rattle.transcripts.proofs.merging.keys_of.Given as goal
 
 -- the keys of the lists so far
 abbrev pub invariant-loop-index : goal.invariant-loop-index

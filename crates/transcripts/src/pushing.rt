@@ -3,13 +3,13 @@
 ghost use Rattle.std.specs.Prelude.{◌<◌, ◌^◌, All, IfOk, length};
 ghost use Rattle.program_texts.specs.PayloadTexts.{payload_texts};
 ghost use Rattle.stamps.specs.Stamps.{Rises};
-ghost use Rattle.merged_rows.specs.Lines.{AddsMerged};
+ghost use Rattle.transcripts.specs.Lines.{AddsMerged};
 
 use crate::left_entries::LeftEntries;
+use crate::lines::push_stamped_row;
 use crate::merging::Merging;
 use node_api::PayloadText;
 use std::alloc::{AllocError, Global};
-use transcripts::push_stamped_row;
 
 /// Appends the lines of the entries of all nodes, in the order of the stamps and then of the vertices. Each next list
 /// has the entries of the next vertex, from 1. Beside the lists and the text it takes memory by the number of nodes.

@@ -2,9 +2,9 @@ use Rattle.std.proofs.Common.{length}
 use Rattle.std.specs.BinaryHeap.{heap_items}
 use Rattle.std.specs.List.{sum_by}
 use Rattle.program_texts.specs.PayloadTexts.{payload_texts}
-use Rattle.merged_rows.specs.Merge.{AreKeys}
-use Rattle.merged_rows.proofs.Merge.{HasMerged}
-use Rattle.merged_rows.proofs.pushing.push_merged.Given as goal
+use Rattle.transcripts.specs.Merge.{AreKeys}
+use Rattle.transcripts.proofs.Merge.{HasMerged}
+use Rattle.transcripts.proofs.pushing.push_merged.Given as goal
 
 -- the rows so far, whose lines the text has
 abbrev pub invariant-loop-row : goal.invariant-loop-row

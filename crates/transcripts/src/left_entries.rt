@@ -1,7 +1,7 @@
 //! The entries that a node has left to write.
 
 ghost use Rattle.std.specs.Prelude.{◌≡◌, ◌∷◌, [], MatchOption, true};
-ghost use Rattle.merged_rows.specs.Merge.{starts_at};
+ghost use Rattle.transcripts.specs.Merge.{starts_at};
 
 use entries::{StampedEntry, StampedIter};
 use std::marker::Model;
@@ -28,7 +28,7 @@ impl<'a, T> Model for LeftEntries<'a, T> {
 
     ghost Value = { List (StampedEntry T) };
 
-    ghost use Rattle.merged_rows.specs.Merge.{list_from};
+    ghost use Rattle.transcripts.specs.Merge.{list_from};
 
     ghost view = { λ left. list_from left.first left.behind };
 }

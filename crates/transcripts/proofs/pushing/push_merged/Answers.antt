@@ -2,8 +2,8 @@ use Rattle.std.proofs.Common.{◌∙◌, ◌++◌, ◌∷◌, [], ap, append-nil
 use Rattle.std.proofs.lemmas.List.{flat_map_more}
 use Rattle.program_texts.specs.PayloadTexts.{payload_texts}
 use Rattle.transcripts.specs.TranscriptText.{stamped_row_text}
-use Rattle.merged_rows.proofs.Merge.{IsMerging, fewer, merging-done, merging-init, merging-step}
-use Rattle.merged_rows.proofs.pushing.push_merged.Goals as goal
+use Rattle.transcripts.proofs.Merge.{IsMerging, fewer, merging-done, merging-init, merging-step}
+use Rattle.transcripts.proofs.pushing.push_merged.Goals as goal
 
 -- nothing is taken yet
 pub loop-row-init : goal.loop-row-init

@@ -1,3 +1,0 @@
-mod Keys
-mod TopKeys
-mod Merge
