@@ -7,7 +7,7 @@ use Rattle.interference.specs.declared.limits.TheConstants.{MAX_DEGREE}
 use Rattle.node_api.specs.Program.{Program, last_pulse_on}
 use Rattle.alpha_core.specs.View.{is_drained}
 use Rattle.event_rule.specs.State.{State, node_of, link_at}
-use Rattle.progress_laws.specs.Endings.{IsWholeState}
+use Rattle.event_rule.specs.Endings.{IsWholeState}
 use Rattle.async_colour_laws.specs.Small.{edge}
 
 -- what holds at the two vertices holds at every vertex, and what holds at port 0 at every port

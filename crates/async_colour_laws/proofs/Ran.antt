@@ -7,10 +7,10 @@ use Rattle.node_api.specs.Laws.{IsProgram}
 use Rattle.alpha_core.specs.View.{is_drained}
 use Rattle.alpha_laws.proofs.Runs.{runs}
 use Rattle.event_rule.proofs.KeptRuns.{reached_kept}
-use Rattle.progress_laws.specs.Endings.{IsWholeState}
-use Rattle.progress_laws.proofs.Deadlock.{whole_terminal}
-use Rattle.progress_laws.proofs.Maximal.{end_of}
-use Rattle.progress_laws.proofs.Room.{have_room}
+use Rattle.event_rule.specs.Endings.{IsWholeState}
+use Rattle.event_rule.proofs.Deadlock.{whole_terminal}
+use Rattle.event_rule.proofs.Maximal.{end_of}
+use Rattle.event_rule.proofs.Room.{have_room}
 use Rattle.gather_laws.proofs.Whole.{drained, whole_is}
 use Rattle.async_colour_laws.specs.Ran.{OutcomesAreRuns, WholeOutcomesAreEnds}
 

@@ -4,7 +4,7 @@ use Rattle.interference.specs.Net.{Net, IsNetwork}
 use Rattle.node_api.specs.Program.{Program, last_pulse_on}
 use Rattle.node_api.specs.Laws.{IsProgram}
 use Rattle.gather_laws.proofs.Fits.{stamps_within}
-use Rattle.progress_laws.proofs.Short.{few-events}
+use Rattle.event_rule.proofs.Short.{few-events}
 use Rattle.async_colour_laws.specs.Stamped.{StampsAreBounded, StampsFit}
 
 module _ {S M E : Type 0} (program : Program S M E) (laws : IsProgram program) (net : Net) (ok : IsNetwork net) where

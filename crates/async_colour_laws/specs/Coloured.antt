@@ -13,7 +13,7 @@ use Rattle.colour_laws.specs.Colours.{AreColours}
 use Rattle.event_rule.specs.declared.event.Event.{Event}
 use Rattle.event_rule.specs.State.{State, node_of}
 use Rattle.event_rule.specs.Step.{run}
-use Rattle.progress_laws.specs.Endings.{IsTerminal}
+use Rattle.event_rule.specs.Endings.{IsTerminal}
 
 -- every node is at the last pulse
 abbrev pub AllHalted : {S M E : Type 0} → Program S M E → Net → (ℕ → Node S M) → Type 0

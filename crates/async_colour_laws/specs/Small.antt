@@ -6,7 +6,7 @@ use Rattle.event_rule.specs.declared.event.Event.{Event}
 use Rattle.event_rule.specs.declared.event.Event.TheVariants.{Pulse, Put, Take}
 use Rattle.event_rule.specs.Step.{run}
 use Rattle.sync_rounds.specs.Spread.{spread}
-use Rattle.progress_laws.specs.Endings.{IsWholeState}
+use Rattle.event_rule.specs.Endings.{IsWholeState}
 
 abbrev pub edge : Net
 edge = record { ids = 1 ∷ 2 ∷ []; ports = (2 ∷ []) ∷ (1 ∷ []) ∷ []; bars = [] ∷ [] ∷ []; again = 0 }

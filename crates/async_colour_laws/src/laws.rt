@@ -27,7 +27,7 @@ pub fn halted_nodes_are_coloured()
 {}
 
 /// A list of events of the colouring after which no event is possible has coloured all nodes. Every list of events can
-/// be continued to one of these, since no list of events deadlocks (`progress_laws`).
+/// be continued to one of these, since no list of events deadlocks (`event_rule`).
 pub fn maximal_runs_are_coloured()
     ensures law { (net : Net) → IsNetwork net → MaximalRunsAreColoured net }
 {}

@@ -8,3 +8,11 @@ pub mod Stepping
 pub mod Exactly
 pub mod Writes
 pub mod Counted
+pub mod Deadlock
+pub mod EventCount
+pub mod Maximal
+pub mod Tables
+pub mod Fires
+pub mod Commute
+pub mod Room
+pub mod Short

@@ -8,3 +8,6 @@ pub mod Replays
 pub mod Whole
 pub mod Counted
 pub mod Laws
+pub mod Endings
+pub mod Commute
+pub mod Progress

@@ -20,7 +20,7 @@ use Rattle.wires.specs.StampedWires.{stamped, stamps_of, wires_of}
 use Rattle.alpha_laws.specs.Counts.{events_of_run}
 use Rattle.alpha_laws.proofs.Runs.{runs}
 use Rattle.event_rule.specs.State.{State}
-use Rattle.progress_laws.proofs.Maximal.{bounded}
+use Rattle.event_rule.proofs.Maximal.{bounded}
 use Rattle.entries.specs.declared.entry.Entry.{Entry}
 use Rattle.entries.specs.declared.entry.Entry.TheVariants.{Pulse, Put, Take}
 use Rattle.entries.specs.declared.rows.StampedEntry.{StampedEntry}

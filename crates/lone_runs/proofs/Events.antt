@@ -19,10 +19,10 @@ use Rattle.event_rule.specs.Step.{step, run}
 use Rattle.event_rule.specs.Events.{Possible, Steps, IsRunFrom}
 use Rattle.event_rule.proofs.Exactly.{runs-exactly, steps-exactly}
 use Rattle.event_rule.proofs.KeptRuns.{reached_kept}
-use Rattle.progress_laws.specs.Commute.{vertex_of}
-use Rattle.progress_laws.specs.Endings.{IsTerminal, IsWholeState}
-use Rattle.progress_laws.specs.Laws.{events_in}
-use Rattle.progress_laws.proofs.Maximal.{bounded, counted, end_of}
+use Rattle.event_rule.specs.Commute.{vertex_of}
+use Rattle.event_rule.specs.Endings.{IsTerminal, IsWholeState}
+use Rattle.event_rule.specs.Progress.{events_in}
+use Rattle.event_rule.proofs.Maximal.{bounded, counted, end_of}
 use Rattle.lone_runs.specs.Went.{Went}
 
 module _ {S M E : Type 0} (program : Program S M E) (net : Net) (laws : IsProgram program) (ok : IsNetwork net) where

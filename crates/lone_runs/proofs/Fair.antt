@@ -14,11 +14,11 @@ use Rattle.event_rule.specs.Step.{run}
 use Rattle.event_rule.specs.Events.{IsRunFrom, Possible}
 use Rattle.event_rule.proofs.Exactly.{runs-exactly}
 use Rattle.event_rule.proofs.KeptRuns.{reached_kept}
-use Rattle.progress_laws.specs.Commute.{vertex_of}
-use Rattle.progress_laws.specs.Endings.{IsTerminal}
-use Rattle.progress_laws.specs.Laws.{IsEnd}
-use Rattle.progress_laws.proofs.Deadlock.{whole_terminal}
-use Rattle.progress_laws.proofs.Maximal.{bounded, counted_whole, end_of}
+use Rattle.event_rule.specs.Commute.{vertex_of}
+use Rattle.event_rule.specs.Endings.{IsTerminal}
+use Rattle.event_rule.specs.Progress.{IsEnd}
+use Rattle.event_rule.proofs.Deadlock.{whole_terminal}
+use Rattle.event_rule.proofs.Maximal.{bounded, counted_whole, end_of}
 use Rattle.lone_runs.specs.Fair.{ArePasses, AreTurns}
 
 module _ {S M E : Type 0} (program : Program S M E) (net : Net) where

@@ -23,7 +23,7 @@ use Rattle.event_rule.specs.Events.{Possible, Ready, Steps}
 use Rattle.event_rule.proofs.LinkTable.{link_other, link_same}
 use Rattle.event_rule.proofs.NetKept.{NetKept}
 use Rattle.event_rule.specs.Rows.{next_wire, row_of}
-use Rattle.progress_laws.specs.Commute.{vertex_of}
+use Rattle.event_rule.specs.Commute.{vertex_of}
 use Rattle.stamps.specs.Merged.{entries_at, puts_at, stamp_behind, takes_at}
 use Rattle.stamps.specs.Stamps.{counter_of, next_stamp, taken_in}
 use Rattle.stamps.proofs.Appends.{puts_append, takes_append}

@@ -12,7 +12,7 @@ use Rattle.event_rule.specs.Step.{step}
 use Rattle.event_rule.specs.Rows.{event_of, row_of}
 use Rattle.event_rule.specs.Whole.{IsStampedReplay}
 use Rattle.event_machine.proofs.Stamped.{stamped-next}
-use Rattle.progress_laws.specs.Endings.{IsWholeState}
+use Rattle.event_rule.specs.Endings.{IsWholeState}
 use Rattle.stamps.specs.Merged.{IsInPlace}
 use Rattle.lone_runs.specs.Recorded.{AreWhole}
 

@@ -13,7 +13,7 @@ use Rattle.entries.specs.declared.entry.Entry.TheVariants as entry
 use Rattle.entries.specs.declared.rows.StampedRow.{StampedRow}
 use Rattle.event_rule.specs.declared.event.Event.{Event}
 use Rattle.event_rule.specs.declared.event.Event.TheVariants.{Pulse, Put, Take}
-use Rattle.progress_laws.specs.Commute.{vertex_of}
+use Rattle.event_rule.specs.Commute.{vertex_of}
 use Rattle.stamps.specs.Merged.{entries_at, puts_at, takes_at}
 use Rattle.stamps.specs.Stamps.{counter_from, counter_of, taken_in}
 use Rattle.stamps.proofs.Appends.{puts_append}

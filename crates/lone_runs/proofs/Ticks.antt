@@ -22,8 +22,8 @@ use Rattle.event_rule.specs.Simulation.{IsReachable}
 use Rattle.event_rule.specs.Step.{step}
 use Rattle.event_rule.proofs.Exactly.{steps-exactly}
 use Rattle.event_rule.proofs.KeptRuns.{reached_kept}
-use Rattle.progress_laws.specs.Commute.{vertex_of}
-use Rattle.progress_laws.specs.Endings.{IsTerminal}
+use Rattle.event_rule.specs.Commute.{vertex_of}
+use Rattle.event_rule.specs.Endings.{IsTerminal}
 use Rattle.stamps.specs.Merged.{IsInPlace, Precedes}
 use Rattle.lone_runs.specs.Ticks.{IsAbove, IsBeforeTick, IsInTurn, IsPassed, event_stamp}
 use Rattle.lone_runs.proofs.Events.{Before, one_of, there}

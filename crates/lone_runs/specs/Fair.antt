@@ -7,8 +7,8 @@ use Rattle.event_rule.specs.declared.event.Event.{Event}
 use Rattle.event_rule.specs.State.{State, start}
 use Rattle.event_rule.specs.Step.{run}
 use Rattle.event_rule.specs.Events.{IsRunFrom, Possible}
-use Rattle.progress_laws.specs.Commute.{vertex_of}
-use Rattle.progress_laws.specs.Laws.{IsEnd}
+use Rattle.event_rule.specs.Commute.{vertex_of}
+use Rattle.event_rule.specs.Progress.{IsEnd}
 
 -- A turn of v makes events of v, whichever and however many; it makes none only if none is possible.
 pub record IsTurn {S M E : Type 0} (program : Program S M E) (net : Net) (v : ℕ) (state next : State S M) : Type 0 where

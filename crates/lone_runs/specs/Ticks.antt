@@ -10,7 +10,7 @@ use Rattle.event_rule.specs.declared.event.Event.{Event}
 use Rattle.event_rule.specs.declared.event.Event.TheVariants.{Pulse, Put, Take}
 use Rattle.event_rule.specs.State.{NetView, State, link_at}
 use Rattle.event_rule.specs.Events.{Possible}
-use Rattle.progress_laws.specs.Commute.{vertex_of}
+use Rattle.event_rule.specs.Commute.{vertex_of}
 use Rattle.stamps.specs.Stamps.{counter_of, taken_in}
 use Rattle.stamps.specs.Merged.{Precedes, entries_at, puts_at, takes_at}
 

@@ -2,7 +2,7 @@
 use Rattle.std.specs.Prelude.{◌≡◌, ◌<◌, Bool, true, false}
 use Rattle.node_api.specs.Program.{Program}
 use Rattle.event_rule.specs.State.{NetView}
-use Rattle.progress_laws.specs.Laws.{events_in}
+use Rattle.event_rule.specs.Progress.{events_in}
 
 -- Events, of which there was one or more if `did`, lead from a state to another: it shows more events then, and else it
 -- is the same.

@@ -9,9 +9,9 @@ ghost use Rattle.event_rule.specs.declared.refused.StepRefused.{StepRefused};
 ghost use Rattle.event_rule.specs.Events.{Possible};
 ghost use Rattle.event_rule.specs.Step.{step};
 ghost use Rattle.event_rule.specs.State.{link_at, node_of, sent_of};
-ghost use Rattle.progress_laws.specs.Commute.{vertex_of};
-ghost use Rattle.progress_laws.specs.Endings.{IsTerminal, IsWholeState};
-ghost use Rattle.progress_laws.specs.Laws.{events_in};
+ghost use Rattle.event_rule.specs.Commute.{vertex_of};
+ghost use Rattle.event_rule.specs.Endings.{IsTerminal, IsWholeState};
+ghost use Rattle.event_rule.specs.Progress.{events_in};
 ghost use Rattle.lone_runs.specs.Went.{Went};
 
 use event_machine::NetState;

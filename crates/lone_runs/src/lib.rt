@@ -1,7 +1,7 @@
 //! All nodes of a network on one thread, without a clock: events of single nodes, in a fair order, until none is left.
 //!
 //! The nodes are those of a run of worker threads, and each knows its neighbours' wires alone. `run_alone` returns in
-//! every case, and its nodes are then those of the one end of `progress_laws`. Its order is one of many: `laws` has
+//! every case, and its nodes are then those of the one end of `event_rule`. Its order is one of many: `laws` has
 //! that every order in which each node's turn comes again and again ends there. `run_answers` calls it.
 //!
 //! ```text

@@ -1,6 +1,6 @@
 use Rattle.std.proofs.Common.{◌≡◌, ◌-◌}
 use Rattle.alpha_laws.specs.Counts.{events_of_run}
-use Rattle.progress_laws.specs.Laws.{events_in}
+use Rattle.event_rule.specs.Progress.{events_in}
 use Rattle.lone_runs.proofs.alone.run_alone.Given as goal
 
 abbrev pub invariant-loop-state : goal.invariant-loop-state

@@ -9,7 +9,7 @@ use Rattle.lone_runs.specs.Ticks.{IsAbove, IsInTurn, IsPassed}
 use Rattle.lone_runs.proofs.LinksLater.{writes_of}
 use Rattle.lone_runs.proofs.Recorded.{recorded_more}
 use Rattle.lone_runs.proofs.Ticks.{made, misplaced, own}
-use Rattle.progress_laws.specs.Commute.{vertex_of}
+use Rattle.event_rule.specs.Commute.{vertex_of}
 use Rattle.lone_runs.proofs.recording.record.Goals as goal
 
 -- no row is written, since the event isn't possible

@@ -1,6 +1,6 @@
 use Rattle.std.proofs.Common.{◌≡◌, ◌-◌}
 use Rattle.alpha_laws.specs.Counts.{events_of_run}
-use Rattle.progress_laws.specs.Laws.{events_in}
+use Rattle.event_rule.specs.Progress.{events_in}
 use Rattle.lone_runs.specs.Recorded.{IsRecorded}
 use Rattle.lone_runs.specs.Ticks.{IsBeforeTick}
 use Rattle.lone_runs.proofs.recording.record_all.Given as goal

@@ -3,7 +3,7 @@ use Rattle.interference.specs.Net.{IsNetwork}
 use Rattle.event_rule.specs.State.{start}
 use Rattle.event_rule.specs.Whole.{IsStampedReplay}
 use Rattle.event_machine.proofs.Stamped.{stamped-start}
-use Rattle.progress_laws.specs.Endings.{IsWholeState}
+use Rattle.event_rule.specs.Endings.{IsWholeState}
 use Rattle.stamps.specs.Table.{IsTableOf}
 use Rattle.stamps.proofs.Tables.{empty_table}
 use Rattle.lone_runs.specs.Recorded.{AreWhole}

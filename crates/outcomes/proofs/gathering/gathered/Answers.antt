@@ -11,7 +11,7 @@ use Rattle.actor.specs.HasStamps.{HasStamps}
 use Rattle.entries.specs.Recorded.{entries_by}
 use Rattle.link_queue.specs.Ends.{held_stamped, put_list, put_stamped, taken_list, taken_stamped}
 use Rattle.node_api.specs.Program.{last_pulse_on}
-use Rattle.progress_laws.proofs.Short.{few-events}
+use Rattle.event_rule.proofs.Short.{few-events}
 use Rattle.outcomes.proofs.Fits.{none_full}
 use Rattle.outcomes.proofs.Full.{all_left, all_refused, none_remembered}
 use Rattle.port_rows.proofs.Sides.{all_by}

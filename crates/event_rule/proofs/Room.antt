@@ -15,8 +15,8 @@ use Rattle.event_rule.specs.Events.{IsRunFrom, Possible, Steps}
 use Rattle.event_rule.proofs.Exactly.{runs-exactly}
 use Rattle.event_rule.proofs.KeptRuns.{start_good}
 use Rattle.event_rule.proofs.NetKept.{NetKept, all_kept}
-use Rattle.progress_laws.specs.Endings.{HasRoom, IsRunWithin}
-use Rattle.progress_laws.proofs.Maximal.{next_kept}
+use Rattle.event_rule.specs.Endings.{HasRoom, IsRunWithin}
+use Rattle.event_rule.proofs.Maximal.{next_kept}
 
 module _ {S M E : Type 0} {program : Program S M E} {net : Net} (ok : IsNetwork net) (runs : Runs program net) (capacity : ℕ) (some : 2 ≤ capacity) where
   has_room : (state : State S M) → NetKept program net state → (event : Event) → Possible program net state event → HasRoom capacity state event

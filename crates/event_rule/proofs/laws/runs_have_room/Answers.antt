@@ -1,6 +1,6 @@
 use Rattle.alpha_laws.proofs.Runs.{runs}
-use Rattle.progress_laws.proofs.Room.{have_room}
-use Rattle.progress_laws.proofs.laws.runs_have_room.Goals as goal
+use Rattle.event_rule.proofs.Room.{have_room}
+use Rattle.event_rule.proofs.laws.runs_have_room.Goals as goal
 
 pub returns : goal.returns
 returns g c = record {

@@ -20,7 +20,7 @@ use Rattle.event_rule.specs.declared.event.Event.TheVariants.{Pulse, Put, Take}
 use Rattle.event_rule.specs.State.{Link, State, no_link, node_of, link_at, link_to, sent_of, set_node, set_link, start}
 use Rattle.event_rule.specs.Events.{Steps}
 use Rattle.event_rule.proofs.NetKept.{NetKept}
-use Rattle.progress_laws.specs.Laws.{events_in}
+use Rattle.event_rule.specs.Progress.{events_in}
 
 -- the wires put on a link, and those taken from it
 abbrev pub moved : {M : Type 0} → Link M → ℕ

@@ -1,6 +1,6 @@
 use Rattle.alpha_laws.proofs.Runs.{runs}
-use Rattle.progress_laws.proofs.Maximal.{bounded, completes, counted, counted_whole, whole_counted}
-use Rattle.progress_laws.proofs.laws.runs_are_bounded.Goals as goal
+use Rattle.event_rule.proofs.Maximal.{bounded, completes, counted, counted_whole, whole_counted}
+use Rattle.event_rule.proofs.laws.runs_are_bounded.Goals as goal
 
 pub returns : goal.returns
 returns g c = record {

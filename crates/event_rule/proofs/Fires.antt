@@ -10,7 +10,7 @@ use Rattle.event_rule.specs.declared.event.Event.{Event}
 use Rattle.event_rule.specs.declared.event.Event.TheVariants.{Pulse, Put, Take}
 use Rattle.event_rule.specs.State.{Link, State, node_of, link_at, link_to, set_node, set_link, set_link_to, take_one}
 use Rattle.event_rule.specs.Events.{Exists, Steps}
-use Rattle.progress_laws.specs.Commute.{vertex_of}
+use Rattle.event_rule.specs.Commute.{vertex_of}
 
 -- a link with the first wire of an out-list put on it
 abbrev pub put_first : {M : Type 0} → List (Wire M) → Link M → Link M

@@ -21,10 +21,10 @@ use Rattle.event_rule.proofs.KeptRuns.{start_good, reached_kept, reached_simulat
 use Rattle.event_rule.proofs.KeptSteps.{Good, step_good}
 use Rattle.event_rule.proofs.NetKept.{NetKept, all_kept}
 use Rattle.event_rule.proofs.Stepping.{Stepped, stepped, steps-step}
-use Rattle.progress_laws.specs.Endings.{HasRoom, IsRunWithin, IsTerminal, IsWholeState}
-use Rattle.progress_laws.specs.Laws.{IsEnd, events_in}
-use Rattle.progress_laws.proofs.Counted.{moved_in, one_more_shows, pulses_in, shows, start_shows}
-use Rattle.progress_laws.proofs.Deadlock.{no_deadlock}
+use Rattle.event_rule.specs.Endings.{HasRoom, IsRunWithin, IsTerminal, IsWholeState}
+use Rattle.event_rule.specs.Progress.{IsEnd, events_in}
+use Rattle.event_rule.proofs.EventCount.{moved_in, one_more_shows, pulses_in, shows, start_shows}
+use Rattle.event_rule.proofs.Deadlock.{no_deadlock}
 
 module _ {S M E : Type 0} {program : Program S M E} {net : Net} (ok : IsNetwork net) (runs : Runs program net) where
   pub next_kept : (state next : State S M) (event : Event) → NetKept program net state → Steps program net state event next → NetKept program net next

@@ -1,6 +1,6 @@
 use Rattle.alpha_laws.proofs.Runs.{runs}
-use Rattle.progress_laws.proofs.Maximal.{end_of, ends_agree}
-use Rattle.progress_laws.proofs.laws.one_end.Goals as goal
+use Rattle.event_rule.proofs.Maximal.{end_of, ends_agree}
+use Rattle.event_rule.proofs.laws.one_end.Goals as goal
 
 pub returns : goal.returns
 returns g c = record {

@@ -15,7 +15,7 @@ use Rattle.event_rule.specs.declared.event.Event.TheVariants.{Pulse, Put, Take}
 use Rattle.event_rule.specs.State.{State, node_of, link_at, link_to}
 use Rattle.event_rule.specs.Events.{Possible}
 use Rattle.event_rule.proofs.NetKept.{NetKept, all_kept}
-use Rattle.progress_laws.specs.Endings.{IsWholeState, PossibleWithin}
+use Rattle.event_rule.specs.Endings.{IsWholeState, PossibleWithin}
 
 module _ {S M E : Type 0} {program : Program S M E} {net : Net} (ok : IsNetwork net) (runs : Runs program net) {state : State S M}
     (kept : NetKept program net state) where

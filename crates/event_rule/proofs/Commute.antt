@@ -14,9 +14,9 @@ use Rattle.event_rule.specs.State.{Link, State, HasLink, node_of, link_at, link_
 use Rattle.event_rule.specs.Events.{Exists, Steps}
 use Rattle.event_rule.proofs.LinkTable.{link_same, link_other}
 use Rattle.event_rule.proofs.NetKept.{NetKept}
-use Rattle.progress_laws.specs.Commute.{vertex_of}
-use Rattle.progress_laws.proofs.Fires.{Fires, change, fires, leads_to, put_first, steps}
-use Rattle.progress_laws.proofs.Tables.{links-both}
+use Rattle.event_rule.specs.Commute.{vertex_of}
+use Rattle.event_rule.proofs.Fires.{Fires, change, fires, leads_to, put_first, steps}
+use Rattle.event_rule.proofs.Tables.{links-both}
 
 -- the first wire of a link is taken and another put behind it, in either order
 one_link : {M : Type 0} (link : Link M) (out : List (Wire M)) (wire : Wire M) (rest : List (Wire M)) → link.held ≡ wire ∷ rest

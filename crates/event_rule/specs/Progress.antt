@@ -8,7 +8,7 @@ use Rattle.event_rule.specs.declared.event.Event.{Event}
 use Rattle.event_rule.specs.State.{State, start, node_of, link_at, link_to, sent_of}
 use Rattle.event_rule.specs.Step.{run}
 use Rattle.event_rule.specs.Simulation.{IsReachable}
-use Rattle.progress_laws.specs.Endings.{IsRunWithin, IsTerminal, IsWholeState, PossibleWithin}
+use Rattle.event_rule.specs.Endings.{IsRunWithin, IsTerminal, IsWholeState, PossibleWithin}
 
 -- In every state that is reached an event is possible, or the state is whole; over links of any capacity but none.
 abbrev pub NoDeadlock : {S M E : Type 0} → Program S M E → Net → Type 0

@@ -2,10 +2,10 @@
 
 ghost use Rattle.node_api.specs.Program.{Program};
 ghost use Rattle.alpha_laws.specs.Laws.{OnEveryNetwork};
-ghost use Rattle.progress_laws.specs.Commute.{EventsCommute};
-ghost use Rattle.progress_laws.specs.Laws.{MaximalRunsAgree, MaximalRunsEnd, NoDeadlock, RunsAreBounded};
-ghost use Rattle.progress_laws.specs.Laws.{RunsAreCounted, RunsAreShort, RunsCanBeCompleted, RunsHaveRoom};
-ghost use Rattle.progress_laws.specs.Laws.{WholeStatesAreTerminal};
+ghost use Rattle.event_rule.specs.Commute.{EventsCommute};
+ghost use Rattle.event_rule.specs.Progress.{MaximalRunsAgree, MaximalRunsEnd, NoDeadlock, RunsAreBounded};
+ghost use Rattle.event_rule.specs.Progress.{RunsAreCounted, RunsAreShort, RunsCanBeCompleted, RunsHaveRoom};
+ghost use Rattle.event_rule.specs.Progress.{WholeStatesAreTerminal};
 
 /// In every state that a list of events reaches, some event is possible, or every node is drained and no link holds a
 /// wire; over links of any capacity but none. In a state of the second kind no event is possible.

@@ -1,8 +1,0 @@
-pub mod Deadlock
-pub mod Counted
-pub mod Maximal
-pub mod Tables
-pub mod Fires
-pub mod Commute
-pub mod Room
-pub mod Short
