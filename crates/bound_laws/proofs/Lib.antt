@@ -7,3 +7,5 @@ mod RecolouringSent
 mod Sent
 mod SequelSent
 mod SetSent
+pub mod Composed
+mod Simulating

@@ -13,8 +13,8 @@ use Rattle.colour_rules.specs.Program.{colouring}
 use Rattle.followed.specs.declared.said.Said.{Said}
 use Rattle.followed.specs.Said.{said}
 use Rattle.followed.specs.Followed.{IsCut, Sequel, followed}
-use Rattle.followed_laws.specs.Composition.{cut_on}
-use Rattle.followed_laws.proofs.Composed.{first_sends}
+use Rattle.bound_laws.specs.Composition.{cut_on}
+use Rattle.bound_laws.proofs.Composed.{first_sends}
 use Rattle.bound_laws.proofs.ColouringSent.{both-early}
 use Rattle.bound_laws.proofs.Sent.{next, sent_below}
 

@@ -12,7 +12,7 @@ use Rattle.followed.specs.declared.said.Said.{Said}
 use Rattle.followed.specs.Said.{said}
 use Rattle.followed.specs.Followed.{Both, IsCut, Sequel, beside_of, followed, keeping}
 use Rattle.followed.specs.RunLaws.{at_port-said, goes_on, same_run}
-use Rattle.followed_laws.specs.Composition.{IsComposition, cut_on, run_after, sequel_at}
+use Rattle.bound_laws.specs.Composition.{IsComposition, cut_on, run_after, sequel_at}
 
 -- the nodes of two runs that send alike bring the same inbox
 pub same_inbox : {S T M : Type 0} (net : Net) → IsNetwork net → (a : ℕ → S × List (Option M)) (b : ℕ → T × List (Option M))

@@ -10,7 +10,7 @@ use Rattle.alpha_laws.specs.Simulates.{Simulates, heard_at}
 use Rattle.followed.specs.declared.said.Said.{Said}
 use Rattle.followed.specs.Said.{said}
 use Rattle.followed.specs.Followed.{Both, IsCut, Sequel, both_of, followed}
-use Rattle.followed_laws.specs.Composition.{cut_on, run_after}
+use Rattle.bound_laws.specs.Composition.{cut_on, run_after}
 
 -- The nodes simulate the first program up to the cut, and then the sequel. `taken` are the lists that each node has
 -- taken from its links, by port.

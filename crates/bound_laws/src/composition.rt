@@ -3,9 +3,9 @@
 ghost use Rattle.node_api.specs.Program.{Program};
 ghost use Rattle.node_api.specs.declared.program.Refused.{Refused};
 ghost use Rattle.followed.specs.Followed.{Sequel};
-ghost use Rattle.followed_laws.specs.Composition.{AreComposed};
-ghost use Rattle.followed_laws.specs.Outcomes.{OutcomesSimulateBoth};
-ghost use Rattle.followed_laws.specs.Simulated.{FollowedSimulateBoth};
+ghost use Rattle.bound_laws.specs.Composition.{AreComposed};
+ghost use Rattle.bound_laws.specs.Outcomes.{OutcomesSimulateBoth};
+ghost use Rattle.bound_laws.specs.Simulated.{FollowedSimulateBoth};
 
 use followed::rules::TOO_EARLY;
 

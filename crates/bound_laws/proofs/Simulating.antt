@@ -14,10 +14,10 @@ use Rattle.alpha_laws.specs.Simulates.{Simulates}
 use Rattle.followed.specs.declared.said.Said.{Said}
 use Rattle.followed.specs.Said.{said}
 use Rattle.followed.specs.Followed.{Both, IsCut, Sequel, followed}
-use Rattle.followed_laws.specs.Composition.{cut_on, run_after}
-use Rattle.followed_laws.specs.Simulated.{SimulateBoth}
+use Rattle.bound_laws.specs.Composition.{cut_on, run_after}
+use Rattle.bound_laws.specs.Simulated.{SimulateBoth}
 use Rattle.followed.specs.RunLaws.{at_port-said}
-use Rattle.followed_laws.proofs.Composed.{composed, same_inbox}
+use Rattle.bound_laws.proofs.Composed.{composed, same_inbox}
 
 module _ {S X A B : Type 0} (first : Program S A Refused) (sequel : Sequel S X A B) (laws : IsCut first sequel) (net : Net)
     (ok : IsNetwork net) where

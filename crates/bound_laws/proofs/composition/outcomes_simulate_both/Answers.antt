@@ -1,7 +1,7 @@
 use Rattle.gather_laws.specs.Outcome.{node_in, put_by, taken_by}
 use Rattle.followed.specs.Followed.{followed}
-use Rattle.followed_laws.proofs.Simulating.{simulate_both}
-use Rattle.followed_laws.proofs.laws.outcomes_simulate_both.Goals as goal
+use Rattle.bound_laws.proofs.Simulating.{simulate_both}
+use Rattle.bound_laws.proofs.composition.outcomes_simulate_both.Goals as goal
 
 pub returns : goal.returns
 returns g c = record {

@@ -6,8 +6,8 @@ use Rattle.node_api.specs.declared.program.Refused.{Refused}
 use Rattle.gather_laws.specs.Outcome.{IsOutcome, Outcome, node_in, taken_by}
 use Rattle.followed.specs.declared.said.Said.{Said}
 use Rattle.followed.specs.Followed.{Both, IsCut, Sequel, followed}
-use Rattle.followed_laws.specs.Composition.{cut_on}
-use Rattle.followed_laws.specs.Simulated.{SimulateBoth}
+use Rattle.bound_laws.specs.Composition.{cut_on}
+use Rattle.bound_laws.specs.Simulated.{SimulateBoth}
 
 -- Whatever the threads did, the nodes of every outcome simulate the first program, and then the sequel.
 abbrev pub OutcomesSimulateBoth : {S X A B : Type 0} → Program S A Refused → Sequel S X A B → Type 0

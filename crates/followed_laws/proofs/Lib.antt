@@ -1,2 +1,0 @@
-pub mod Composed
-mod Simulating

@@ -1,3 +1,0 @@
-pub mod Composition
-pub mod Outcomes
-pub mod Simulated
