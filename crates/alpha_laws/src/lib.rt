@@ -4,8 +4,8 @@
 //!
 //! `Simulates` of `specs/Simulates.antt` is the claim, one field for each of its words; `NodeFits` of
 //! `specs/Fits.antt` says when one node fits the lists of its links. `PortKept` of `specs/Kept.antt` is what
-//! each node keeps by itself. `event_machine` and `event_rule` cite the laws for lists of events, `gather_laws` for
-//! outcomes of worker threads. `specs/Counts.antt` counts wires and events; `specs/Progress.antt` says what such nodes
+//! each node keeps by itself. `event_machine` and `event_rule` cite the laws for lists of events, `outcomes` for
+//! those of worker threads. `specs/Counts.antt` counts wires and events; `specs/Progress.antt` says what such nodes
 //! can still do, and where they end. The last three laws are of legal lists alone.
 //!
 //! ```text

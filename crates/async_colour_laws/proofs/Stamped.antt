@@ -3,7 +3,7 @@ use Rattle.std.proofs.Common.{◌^◌, ◌<◌, arith}
 use Rattle.interference.specs.Net.{Net, IsNetwork}
 use Rattle.node_api.specs.Program.{Program, last_pulse_on}
 use Rattle.node_api.specs.Laws.{IsProgram}
-use Rattle.gather_laws.proofs.Fits.{stamps_within}
+use Rattle.outcomes.proofs.MetStamps.{stamps_within}
 use Rattle.event_rule.proofs.Short.{few-events}
 use Rattle.async_colour_laws.specs.Stamped.{StampsAreBounded, StampsFit}
 

@@ -5,7 +5,7 @@ use Rattle.node_api.specs.Program.{Program, last_pulse_on}
 use Rattle.wires.specs.declared.wire.Wire.{Wire}
 use Rattle.alpha_core.specs.View.{Node, is_halted}
 use Rattle.alpha_laws.specs.Simulates.{Simulates}
-use Rattle.gather_laws.specs.Outcome.{Outcome, IsOutcome, node_in}
+use Rattle.outcomes.specs.Outcome.{Outcome, IsOutcome, node_in}
 use Rattle.colour_rules.specs.declared.payload.Payload.{Payload}
 use Rattle.colour_rules.specs.Node as colour
 use Rattle.colour_rules.specs.Program.{colouring}

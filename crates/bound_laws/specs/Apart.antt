@@ -6,7 +6,7 @@ use Rattle.sync_rounds.specs.Reach.{IsWithinLinks}
 use Rattle.wires.specs.declared.wire.Wire.{Wire}
 use Rattle.alpha_core.specs.View.{Node}
 use Rattle.alpha_laws.specs.Simulates.{Simulates}
-use Rattle.gather_laws.specs.Outcome.{IsOutcome, Outcome, node_in}
+use Rattle.outcomes.specs.Outcome.{IsOutcome, Outcome, node_in}
 
 -- nodes within d links of one another are at most d pulses apart
 abbrev pub AreApart : {S M : Type 0} → Net → (ℕ → Node S M) → Type 0

@@ -3,7 +3,7 @@ use Rattle.std.specs.Prelude.{ℕ, Bool}
 use Rattle.interference.specs.Net.{IsNetwork, Net}
 use Rattle.node_api.specs.Program.{Program}
 use Rattle.node_api.specs.declared.program.Refused.{Refused}
-use Rattle.gather_laws.specs.Outcome.{IsOutcome, Outcome, node_in, taken_by}
+use Rattle.outcomes.specs.Outcome.{IsOutcome, Outcome, node_in, taken_by}
 use Rattle.followed.specs.declared.said.Said.{Said}
 use Rattle.followed.specs.Followed.{Both, IsCut, Sequel, followed}
 use Rattle.bound_laws.specs.Composition.{cut_on}

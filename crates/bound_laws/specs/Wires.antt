@@ -5,8 +5,8 @@ use Rattle.interference.specs.Net.{IsEdge, Net}
 use Rattle.node_api.specs.Program.{Program, last_pulse_on}
 use Rattle.link_rule.specs.Sent.{sends}
 use Rattle.wires.specs.Streams.{sent_pulses}
-use Rattle.gather_laws.specs.Counts.{wires_put}
-use Rattle.gather_laws.specs.Outcome.{IsOutcome, Outcome, is_whole}
+use Rattle.outcomes.specs.Counts.{wires_put}
+use Rattle.outcomes.specs.Outcome.{IsOutcome, Outcome, is_whole}
 
 -- how many payloads the synchronous run sends from v to w
 abbrev pub payloads_over : {S M E : Type 0} → Program S M E → Net → ℕ → ℕ → ℕ

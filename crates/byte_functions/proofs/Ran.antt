@@ -4,7 +4,7 @@ use Rattle.std.specs.Prelude.{if◌then◌else◌, IfErr, IfOk, Result, Ok, Err}
 use Rattle.interference.specs.Net.{Net}
 use Rattle.run_options.specs.Ranges.{AreInRange}
 use Rattle.run_options.specs.declared.Options.{Options}
-use Rattle.gather_laws.specs.Outcome.{Outcome, IsOutcome, is_whole}
+use Rattle.outcomes.specs.Outcome.{Outcome, IsOutcome, is_whole}
 use Rattle.run_faults.specs.declared.fault.PoolFault.TheVariants as pool
 use Rattle.node_api.specs.Program.{Program}
 use Rattle.answers.specs.declared.fault.PlanFault.TheVariants as plan

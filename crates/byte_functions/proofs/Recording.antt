@@ -5,8 +5,8 @@ use Rattle.std.proofs.lemmas.List.FromFn.{length-range_with_len}
 use Rattle.std.proofs.lemmas.List.Elements.{All-from_get_or}
 use Rattle.interference.specs.Net.{Net, IsNetwork, count_of}
 use Rattle.node_api.specs.Program.{Program}
-use Rattle.gather_laws.specs.Outcome.{Outcome, IsOutcome, entries_in, is_whole}
-use Rattle.gather_laws.specs.Merged.{WholeOutcomesReplay}
+use Rattle.outcomes.specs.Outcome.{Outcome, IsOutcome, entries_in, is_whole}
+use Rattle.outcomes.specs.Merged.{WholeOutcomesReplay}
 use Rattle.run_options.specs.declared.Edition.{Edition}
 use Rattle.run_options.specs.declared.Edition.TheVariants as edition
 use Rattle.stamps.specs.Merged.{IsMerge}

@@ -11,7 +11,7 @@ use Rattle.run_options.specs.declared.Options.{Options}
 use Rattle.run_options.specs.declared.TheConstants.{MAX_CAPACITY, MAX_WORKERS}
 use Rattle.run_faults.specs.declared.fault.PoolFault.{PoolFault}
 use Rattle.run_faults.specs.declared.fault.PoolFault.TheVariants as pool
-use Rattle.gather_laws.specs.Outcome.{Outcome, node_in, start_of}
+use Rattle.outcomes.specs.Outcome.{Outcome, node_in, start_of}
 use Rattle.alpha_core.specs.View.{Alpha}
 use Rattle.channel_plan.specs.PlanText.{plan_of}
 use Rattle.colour_rules.specs.declared.payload.Payload.{Payload}

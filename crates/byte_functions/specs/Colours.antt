@@ -2,7 +2,7 @@
 use Rattle.std.specs.Prelude.{ℕ}
 use Rattle.colour_rules.specs.Node as colour
 use Rattle.colour_rules.specs.declared.payload.Payload.{Payload}
-use Rattle.gather_laws.specs.Outcome.{Gathered}
+use Rattle.outcomes.specs.Outcome.{Gathered}
 
 -- the merged colour in its state
 abbrev pub merged_of : Gathered colour.Node Payload → ℕ

@@ -1,7 +1,7 @@
 -- The text of what the nodes of a run of workers did.
 use Rattle.std.specs.Prelude.{◌≡◌, ℕ, true, List, codes, flat_map, if◌then◌else◌, length, map}
 use Rattle.interference.specs.Net.{Net, IsNetwork, count_of}
-use Rattle.gather_laws.specs.Outcome.{Gathered, Outcome, IsOutcome, entries_in, is_whole}
+use Rattle.outcomes.specs.Outcome.{Gathered, Outcome, IsOutcome, entries_in, is_whole}
 use Rattle.event_rule.specs.State.{State}
 use Rattle.node_api.specs.Program.{Program}
 use Rattle.entries.specs.declared.rows.Row.{Row}

@@ -6,7 +6,7 @@ use Rattle.interference.specs.Net.{Net, IsNetwork}
 use Rattle.interference.specs.Making.{IsFaultOf}
 use Rattle.run_options.specs.Ranges.{AreInRange}
 use Rattle.run_options.specs.declared.Options.{Options}
-use Rattle.gather_laws.specs.Outcome.{Outcome, IsOutcome, is_whole}
+use Rattle.outcomes.specs.Outcome.{Outcome, IsOutcome, is_whole}
 use Rattle.run_faults.specs.declared.fault.PoolFault.{PoolFault}
 use Rattle.run_faults.specs.declared.fault.PoolFault.TheVariants as pool
 use Rattle.node_api.specs.Program.{Program}

@@ -2,7 +2,7 @@
 
 ghost use Rattle.std.specs.Prelude.{◌≡◌, true, IfOk, IfErr};
 ghost use Rattle.run_options.specs.Ranges.{AreInRange};
-ghost use Rattle.gather_laws.specs.Outcome.{IsOutcome, is_whole};
+ghost use Rattle.outcomes.specs.Outcome.{IsOutcome, is_whole};
 ghost use Rattle.answers.specs.Answers.{IsPlainAnswer};
 ghost use Rattle.byte_functions.specs.Workers.{IsFaultOfRun, IsFaultOfWorkers, MayRun, Ran, whole_after};
 
@@ -13,11 +13,11 @@ use async_colour_laws::laws::halted_nodes_are_coloured;
 use colour_laws::laws::colours_are_proper;
 use colour_program::Colouring;
 use colour_rules::Payload;
-use gather_laws::laws::whole_outcomes_are_complete;
 use interference::Network;
 use node_api::{NodeProgram, Refused};
 use node_pool::run_workers;
 use outcomes::Outcome;
+use outcomes::laws::whole_outcomes_are_complete;
 use run_faults::PoolFault;
 use run_options::Options;
 use std::alloc::Global;

@@ -4,12 +4,11 @@
 //! events as functions, and `specs/Events.antt` has them, and runs, as relations. `specs/Rows.antt` has what an event
 //! writes down, `specs/Replays.antt` and `specs/Whole.antt` what a replay of entries is. Proofs here say that functions
 //! and relations are the same, and that each state which is reached simulates the synchronous run. No call here makes
-//! an event: `event_machine` and `net_core` do, and what speaks of runs and replays (`gather_laws`) doesn't wait for
-//! them.
+//! an event: `event_machine` and `net_core` do, and what speaks of runs and replays (`outcomes`) doesn't wait for them.
 //!
 //! `laws` has progress: whatever events have come, some event is possible or all is done (`no_deadlock`); no list of
 //! events goes on for ever (`runs_are_bounded`); and all that go on as far as they can lead to the same nodes
-//! (`one_end`). `gather_laws` has the same for runs of worker threads.
+//! (`one_end`). `outcomes` has the same for runs of worker threads.
 //!
 //! ```text
 //! let events = [Event::Put(1, 0), Event::Take(2, 0)];

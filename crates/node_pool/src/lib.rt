@@ -1,6 +1,6 @@
 //! Asynchronous nodes of a network on worker threads: `run_workers` makes links and nodes, runs them, and gathers them.
 //!
-//! Whatever the threads did, what it returns is `IsOutcome` of `gather_laws`: each node once, at a state of the
+//! Whatever the threads did, what it returns is `IsOutcome` of `outcomes`: each node once, at a state of the
 //! synchronous run, with each link's lists. `byte_functions` makes channel plans of it.
 //!
 //! ```text

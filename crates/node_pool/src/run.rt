@@ -2,7 +2,7 @@
 
 ghost use Rattle.std.specs.Prelude.{◌≡◌, ◌≢◌, ◌↔◌, IfErr, IfOk, IsTrue, Result, Err, map};
 ghost use Rattle.actor.specs.Tables.{table_of};
-ghost use Rattle.gather_laws.specs.Outcome.{IsOutcome};
+ghost use Rattle.outcomes.specs.Outcome.{IsOutcome};
 ghost use Rattle.run_faults.specs.declared.fault.PoolFault.TheVariants.{BadOptions, StampFull};
 ghost use Rattle.run_options.specs.Ranges.{AreInRange};
 ghost use Rattle.port_rows.specs.Rows.{rows_of};

@@ -14,11 +14,11 @@ use Rattle.actor.specs.declared.aside.WhyAside.TheVariants.{Refused}
 use Rattle.actor.specs.Did.{Did}
 use Rattle.actor.specs.Node.{by_port, reacted_to}
 use Rattle.entries.specs.declared.rows.StampedEntry.{StampedEntry}
-use Rattle.gather_laws.specs.MergedRuns.{IsRunTo}
-use Rattle.gather_laws.specs.Outcome.{Outcome, entries_in, link_in, link_of, node_in, start_of}
-use Rattle.gather_laws.proofs.MetNodes.{met_written}
-use Rattle.gather_laws.proofs.Merged.{runs_merge}
-use Rattle.gather_laws.proofs.Merges.{merge_of}
+use Rattle.outcomes.specs.MergedRuns.{IsRunTo}
+use Rattle.outcomes.specs.Outcome.{Outcome, entries_in, link_in, link_of, node_in, start_of}
+use Rattle.outcomes.proofs.MetNodes.{met_written}
+use Rattle.outcomes.proofs.Merged.{runs_merge}
+use Rattle.outcomes.proofs.Merges.{merge_of}
 use Rattle.port_rows.specs.Rows.{AreCrossed}
 use Rattle.outcomes.proofs.Linked.{AreGathered, taken_is}
 use Rattle.port_rows.proofs.Sides.{all_by}

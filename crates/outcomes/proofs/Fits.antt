@@ -1,5 +1,5 @@
 -- No node that was gathered has come to its greatest stamp.
--- 1. Of nodes with all their entries, the counters and the stamps of the wires are bounded (`gather_laws`), and so is the stamp of a
+-- 1. Of nodes with all their entries, the counters and the stamps of the wires are bounded (`laws`), and so is the stamp of a
 --    wire that was set aside: its neighbour put it (`all_fit`).
 -- 2. Each node has such entries, written down or not (`none_full`).
 use Rattle.std.proofs.Common.{◌≡◌, ℕ, ◌+◌, ◌-◌, ◌<◌, ◌≤◌, List, [], ◌∷◌, ◌++◌, length, take, map, refl, sym, ap, ◌∙◌, subst, arith, None, Some, slice_get}
@@ -22,10 +22,10 @@ use Rattle.actor.specs.declared.aside.WhyAside.TheVariants.{Refused, StampFull}
 use Rattle.actor.specs.HasStamps.{IsFullAside, aside_stamp, stamp_of_why}
 use Rattle.actor.specs.Node.{by_port, reacted_to}
 use Rattle.entries.specs.declared.rows.StampedEntry.{StampedEntry}
-use Rattle.gather_laws.specs.Fits.{AreWithin, HaveMetAside}
-use Rattle.gather_laws.specs.Outcome.{Outcome, entries_in, link_in, node_in}
-use Rattle.gather_laws.proofs.Asides.{reacted_begins}
-use Rattle.gather_laws.proofs.Fits.{are_within}
+use Rattle.outcomes.specs.Fits.{AreWithin, HaveMetAside}
+use Rattle.outcomes.specs.Outcome.{Outcome, entries_in, link_in, node_in}
+use Rattle.outcomes.proofs.Asides.{reacted_begins}
+use Rattle.outcomes.proofs.MetStamps.{are_within}
 use Rattle.outcomes.proofs.Did.{DidAt, chosen, gathered_full}
 use Rattle.outcomes.proofs.Linked.{AreGathered, here, split_is, taken_here, takens_at, takens_here}
 use Rattle.port_rows.proofs.Rows.{length-nodes}

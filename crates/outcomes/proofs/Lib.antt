@@ -10,3 +10,15 @@ mod Every
 mod Meetings
 mod LinkIn
 pub mod Did
+pub mod MetNodes
+pub mod Steps
+pub mod Runs
+pub mod Clocks
+pub mod Asides
+pub mod Whole
+pub mod Counts
+pub mod Progress
+pub mod Held
+pub mod Merged
+pub mod Merges
+pub mod MetStamps

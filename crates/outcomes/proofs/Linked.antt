@@ -18,7 +18,7 @@ use Rattle.actor.specs.Written.{IsTranscript}
 use Rattle.entries.specs.declared.rows.StampedEntry.{StampedEntry}
 use Rattle.entries.specs.Rows.{bare_of}
 use Rattle.pool.proofs.Views.{as_many}
-use Rattle.gather_laws.specs.Outcome.{Outcome, alpha_in, entries_in, link_in, link_into, no_history, row_in, start_of}
+use Rattle.outcomes.specs.Outcome.{Outcome, alpha_in, entries_in, link_in, link_into, no_history, row_in, start_of}
 use Rattle.port_rows.specs.Rows.{AreCrossed, row_at}
 use Rattle.port_rows.proofs.Rows.{some_there, get_map, row_map, get_field, node_of, length-nodes}
 

@@ -23,12 +23,12 @@ use Rattle.entries.specs.Rows.{bare_of}
 use Rattle.actor.specs.Node.{by_port, reacted_to}
 use Rattle.actor.specs.Written.{IsTranscript}
 use Rattle.actor.proofs.Kept.{node_same}
-use Rattle.gather_laws.specs.Laws.{EndsHaveMet}
-use Rattle.gather_laws.specs.MergedRuns.{IsRunTo}
-use Rattle.gather_laws.specs.Outcome.{IsOutcome, Outcome, entries_in, held_on, link_in, link_of, no_history, node_in, put_by, taken_by}
-use Rattle.gather_laws.proofs.Asides.{met_simulate}
-use Rattle.gather_laws.proofs.MetNodes.{met_written}
-use Rattle.gather_laws.proofs.Merged.{runs_merge}
+use Rattle.outcomes.specs.Laws.{EndsHaveMet}
+use Rattle.outcomes.specs.MergedRuns.{IsRunTo}
+use Rattle.outcomes.specs.Outcome.{IsOutcome, Outcome, entries_in, held_on, link_in, link_of, no_history, node_in, put_by, taken_by}
+use Rattle.outcomes.proofs.Asides.{met_simulate}
+use Rattle.outcomes.proofs.MetNodes.{met_written}
+use Rattle.outcomes.proofs.Merged.{runs_merge}
 use Rattle.port_rows.proofs.Rows.{length-nodes}
 use Rattle.outcomes.proofs.Linked.{AreGathered, alpha_is, here, many, row_long, row_there, split_is, taken_here, taken_is}
 use Rattle.outcomes.proofs.Stamping.{have_met}

@@ -1,5 +1,5 @@
 -- The nodes that were gathered keep their stamps with the lists of the links, and are written down, and their ends have met: so their
--- stamps rise, and their entries in order are one run (`gather_laws`).
+-- stamps rise, and their entries in order are one run (`laws`).
 use Rattle.std.proofs.Common.{◌≡◌, ℕ, ◌-◌, ◌<◌, List, ◌++◌, map, get_or, sym, ap, ◌∙◌}
 use Rattle.std.proofs.Math.Path.{transport}
 use Rattle.std.specs.Prelude.{Bool, IsTrue, Option}
@@ -14,8 +14,8 @@ use Rattle.entries.specs.declared.rows.StampedEntry.{StampedEntry}
 use Rattle.entries.specs.Rows.{bare_of}
 use Rattle.actor.specs.Node.{by_port}
 use Rattle.actor.specs.Written.{IsTranscript}
-use Rattle.gather_laws.specs.MergedRuns.{HaveMet}
-use Rattle.gather_laws.specs.Outcome.{Outcome, entries_in, link_in, node_in, put_by, taken_by}
+use Rattle.outcomes.specs.MergedRuns.{HaveMet}
+use Rattle.outcomes.specs.Outcome.{Outcome, entries_in, link_in, node_in, put_by, taken_by}
 use Rattle.port_rows.proofs.Rows.{get_map}
 use Rattle.outcomes.proofs.Linked.{AreGathered, entries_at, here, put_is, puts_at, puts_here, split_is, taken_here, taken_is, takens_at, takens_here}
 

@@ -15,8 +15,8 @@ use Rattle.actor.specs.Node.{IsAside, by_port, reacted_to}
 use Rattle.actor.specs.Written.{IsTranscript}
 use Rattle.entries.specs.declared.rows.StampedEntry.{StampedEntry}
 use Rattle.entries.specs.Rows.{bare_of}
-use Rattle.gather_laws.specs.Outcome.{Outcome, entries_in, held_on, link_in, node_in, put_by}
-use Rattle.gather_laws.proofs.Whole.{split_wires}
+use Rattle.outcomes.specs.Outcome.{Outcome, entries_in, held_on, link_in, node_in, put_by}
+use Rattle.outcomes.proofs.Whole.{split_wires}
 use Rattle.port_rows.proofs.Rows.{get_map, get_field}
 use Rattle.outcomes.proofs.Linked.{AreGathered, alpha_is, entries_at, here, put_is, puts_at, puts_here, split_is, takens_at, takens_here}
 

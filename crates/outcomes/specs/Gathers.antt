@@ -1,6 +1,6 @@
 -- The value of what a run leaves.
 use Rattle.outcomes.specs.declared.taking_apart.Actor.{Actor}
-use Rattle.gather_laws.specs.Outcome.{Gathered}
+use Rattle.outcomes.specs.Outcome.{Gathered}
 
 -- a node after the run
 abbrev pub gathered_of : {P T : Type 0} → Actor P T → Gathered P T

@@ -1,3 +1,12 @@
 pub mod Gathers
 pub mod Meets
 pub mod Full
+pub mod MergedRuns
+pub mod Outcome
+pub mod Laws
+pub mod Whole
+pub mod Counts
+pub mod Progress
+pub mod Held
+pub mod Merged
+pub mod Fits

@@ -4,7 +4,7 @@ use Rattle.crossbeam_queue.specs.Passes.{view}
 use Rattle.wires.specs.declared.stamped.Stamped.{Stamped}
 use Rattle.link_queue.specs.declared.met.Met.{Met}
 use Rattle.link_queue.specs.Ends.{held_stamped}
-use Rattle.gather_laws.specs.Outcome.{History}
+use Rattle.outcomes.specs.Outcome.{History}
 
 module _ {T : Type 0} where
   -- all that was put on a link whose ends have met, each wire with its stamp

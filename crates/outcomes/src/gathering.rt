@@ -6,7 +6,7 @@ ghost use Rattle.node_api.specs.Program.{last_pulse_on};
 ghost use Rattle.actor.specs.declared.refused.TurnRefused.TheVariants.{StampFull};
 ghost use Rattle.actor.specs.Links.{HoldAtMost};
 ghost use Rattle.actor.specs.Stepped.{refusal_of};
-ghost use Rattle.gather_laws.specs.Outcome.{IsOutcome};
+ghost use Rattle.outcomes.specs.Outcome.{IsOutcome};
 ghost use Rattle.outcomes.specs.Full.{HasStampLeft};
 
 use crate::meeting::meet_rows;

@@ -2,7 +2,7 @@
 
 ghost use Rattle.std.specs.Prelude.{◌≡◌, ◌≤◌, ◌<◌, ◌-◌, IfSome, length, map, slice_get};
 ghost use Rattle.outcomes.specs.Meets.{history_of_met};
-ghost use Rattle.gather_laws.specs.Outcome.{all_drained, all_empty, is_whole, link_in, none_held, row_in};
+ghost use Rattle.outcomes.specs.Outcome.{all_drained, all_empty, is_whole, link_in, none_held, row_in};
 ghost use Rattle.outcomes.specs.Gathers.{gathered_of};
 
 use crate::taking_apart::Actor;
@@ -29,7 +29,7 @@ impl<P: NodeProgram> Drop for Outcome<P> {
 impl<P: NodeProgram> Model for Outcome<P> {
     ghost use Rattle.std.specs.Prelude.{map};
     ghost use Rattle.outcomes.specs.Meets.{history_of_met};
-    ghost use Rattle.gather_laws.specs.Outcome.{Outcome};
+    ghost use Rattle.outcomes.specs.Outcome.{Outcome};
     ghost use Rattle.outcomes.specs.Gathers.{gathered_of};
 
     ghost Value = { Outcome P P.Payload };

@@ -14,7 +14,7 @@ use Rattle.interference.specs.Net.{Net, IsNetwork, IsVertex, count_of, vertices}
 use Rattle.node_api.specs.Program.{Program, last_pulse_on}
 use Rattle.node_api.specs.Run.{last_state}
 use Rattle.alpha_laws.specs.Progress.{end_node}
-use Rattle.gather_laws.specs.Outcome.{Gathered, IsOutcome, Outcome, node_in, start_of}
+use Rattle.outcomes.specs.Outcome.{Gathered, IsOutcome, Outcome, node_in, start_of}
 use Rattle.run_answers.specs.Ends.{IsEndsAnswer, end_line, ends_text, gathered_end, node_end}
 use Rattle.byte_functions.proofs.Recording.{nodes-count}
 

@@ -4,7 +4,7 @@ use Rattle.answers.specs.Answers.{ReadsAs}
 use Rattle.answers.specs.Settings.{OfSet}
 use Rattle.answers.specs.declared.setting.Setting.{Setting}
 use Rattle.alpha_core.specs.View.{Node}
-use Rattle.gather_laws.specs.Outcome.{Gathered}
+use Rattle.outcomes.specs.Outcome.{Gathered}
 use Rattle.program_texts.specs.Texts.{ProgramTexts}
 use Rattle.interference.specs.Net.{Net, IsNetwork, vertices}
 use Rattle.node_api.specs.Program.{Program, last_pulse_on}

@@ -2,7 +2,7 @@
 
 ghost use Rattle.std.specs.Prelude.{◌≡◌, ◌<◌, ◌≤◌, length};
 ghost use Rattle.interference.specs.Net.{IsVertex, degree_of, vertices};
-ghost use Rattle.gather_laws.specs.Outcome.{row_in};
+ghost use Rattle.outcomes.specs.Outcome.{row_in};
 
 use actor::OpenGate;
 use colour_program::Colouring;

@@ -3,7 +3,7 @@
 
 ghost use Rattle.std.specs.Prelude.{◌≡◌, ℕ, length};
 ghost use Rattle.interference.specs.Net.{IsVertex, count_of, degree_of, vertices};
-ghost use Rattle.gather_laws.specs.Outcome.{row_in};
+ghost use Rattle.outcomes.specs.Outcome.{row_in};
 
 use crate::runs::{greeted, holds, of_one, run_of_one, triangle};
 use actor::OpenGate;

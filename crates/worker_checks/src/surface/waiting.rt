@@ -2,7 +2,7 @@
 
 ghost use Rattle.std.specs.Prelude.{◌≡◌, ◌<◌, ◌≤◌, [], ◌∷◌, ◌++◌, length};
 ghost use Rattle.wires.specs.StampedWires.{last_stamp};
-ghost use Rattle.gather_laws.specs.Outcome.{row_in};
+ghost use Rattle.outcomes.specs.Outcome.{row_in};
 ghost use Rattle.link_rule.specs.Legal.{IsLegalOn, LegalFor};
 ghost use Rattle.link_queue.specs.Ends.{IsPutEndOf, IsTakeEndOf, put_list, put_name, put_stamped, take_name};
 

@@ -1,4 +1,4 @@
-use Rattle.gather_laws.specs.Outcome.{node_in, put_by, taken_by}
+use Rattle.outcomes.specs.Outcome.{node_in, put_by, taken_by}
 use Rattle.followed.specs.Followed.{followed}
 use Rattle.bound_laws.proofs.Simulating.{simulate_both}
 use Rattle.bound_laws.proofs.composition.outcomes_simulate_both.Goals as goal

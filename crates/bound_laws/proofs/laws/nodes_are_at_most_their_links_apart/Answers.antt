@@ -1,4 +1,4 @@
-use Rattle.gather_laws.specs.Outcome.{node_in, put_by, taken_by}
+use Rattle.outcomes.specs.Outcome.{node_in, put_by, taken_by}
 use Rattle.bound_laws.proofs.Apart.{apart}
 use Rattle.bound_laws.proofs.laws.nodes_are_at_most_their_links_apart.Goals as goal
 

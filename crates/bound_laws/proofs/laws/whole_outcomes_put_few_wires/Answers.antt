@@ -2,8 +2,8 @@ use Rattle.std.proofs.Common.{◌≡◌, ℕ, ◌+◌, ◌*◌, ◌≤◌, arith
 use Rattle.interference.specs.Counts.{edge_count_of}
 use Rattle.node_api.specs.Program.{last_pulse_on}
 use Rattle.alpha_laws.specs.Counts.{payloads_sent}
-use Rattle.gather_laws.specs.Counts.{payloads_put, wires_put}
-use Rattle.gather_laws.proofs.Counts.{counted}
+use Rattle.outcomes.specs.Counts.{payloads_put, wires_put}
+use Rattle.outcomes.proofs.Counts.{counted}
 use Rattle.bound_laws.proofs.Sent.{payloads-few}
 use Rattle.bound_laws.proofs.laws.whole_outcomes_put_few_wires.Goals as goal
 

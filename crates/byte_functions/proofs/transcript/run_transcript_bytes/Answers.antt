@@ -4,7 +4,7 @@ use Rattle.std.proofs.lemmas.List.{length-map}
 use Rattle.outcomes.specs.Gathers.{gathered_of}
 use Rattle.stamps.specs.Stamps.{Rises}
 use Rattle.program_texts.specs.PayloadTexts.{payload_texts}
-use Rattle.gather_laws.specs.Merged.{WholeOutcomesReplay}
+use Rattle.outcomes.specs.Merged.{WholeOutcomesReplay}
 use Rattle.byte_functions.specs.Transcripts.{IsTextIn, stamped_edition}
 use Rattle.byte_functions.proofs.Recording.{all-rise, answered, nodes-count}
 use Rattle.byte_functions.proofs.Working.{workers-fault}

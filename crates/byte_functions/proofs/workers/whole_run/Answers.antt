@@ -1,6 +1,6 @@
 use Rattle.std.proofs.Common.{◌≡◌, subst, sym, true}
 use Rattle.std.specs.Prelude.{IfErr, IfOk}
-use Rattle.gather_laws.specs.Outcome.{IsOutcome, is_whole}
+use Rattle.outcomes.specs.Outcome.{IsOutcome, is_whole}
 use Rattle.run_options.specs.Ranges.{AreInRange}
 use Rattle.byte_functions.specs.Workers.{IsFaultOfRun, MayRun}
 use Rattle.byte_functions.proofs.Ran.{err-maps, may-run, ok-maps, whole-fault, whole-is, whole-outcome, whole-range}

@@ -1,5 +1,5 @@
 use Rattle.std.proofs.Common.{subst}
-use Rattle.gather_laws.specs.Outcome.{IsOutcome}
+use Rattle.outcomes.specs.Outcome.{IsOutcome}
 use Rattle.node_pool.proofs.run.run_over.Goals as goal
 
 -- the links that are gathered are those that were made

@@ -16,7 +16,7 @@ use Rattle.outcomes.proofs.Fits.{none_full}
 use Rattle.outcomes.proofs.Full.{all_left, all_refused, none_remembered}
 use Rattle.port_rows.proofs.Sides.{all_by}
 use Rattle.outcomes.specs.Meets.{history_of_met, put_of, taken_of}
-use Rattle.gather_laws.specs.Outcome.{IsOutcome, Outcome}
+use Rattle.outcomes.specs.Outcome.{IsOutcome, Outcome}
 use Rattle.outcomes.specs.Gathers.{gathered_of}
 use Rattle.port_rows.proofs.Rows.{all_rows, of_fields, of_items, shape_of}
 use Rattle.outcomes.proofs.Places.{ends_meet}

@@ -1,6 +1,6 @@
 use Rattle.std.proofs.Common.{nat_eq, length, refl, falls}
 use Rattle.outcomes.specs.Meets.{history_of_met}
-use Rattle.gather_laws.specs.Outcome.{none_held}
+use Rattle.outcomes.specs.Outcome.{none_held}
 use Rattle.outcomes.proofs.Every.{all_passed, failed, no_wires, passed}
 use Rattle.outcomes.proofs.outcome.none_held.Goals as goal
 

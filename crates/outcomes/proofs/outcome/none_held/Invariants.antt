@@ -1,6 +1,6 @@
 use Rattle.std.proofs.Common.{◌≡◌, drop, map}
 use Rattle.outcomes.specs.Meets.{history_of_met}
-use Rattle.gather_laws.specs.Outcome.{none_held}
+use Rattle.outcomes.specs.Outcome.{none_held}
 use Rattle.outcomes.proofs.outcome.none_held.Given as goal
 
 abbrev pub invariant-loop-met : goal.invariant-loop-met

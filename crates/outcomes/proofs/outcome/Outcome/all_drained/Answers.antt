@@ -1,7 +1,7 @@
 use Rattle.std.proofs.Common.{map, refl, sym, ap, ◌∙◌, falls}
 use Rattle.alpha_core.specs.View.{is_drained}
 use Rattle.outcomes.specs.Gathers.{gathered_of}
-use Rattle.gather_laws.specs.Outcome.{all_drained}
+use Rattle.outcomes.specs.Outcome.{all_drained}
 use Rattle.outcomes.proofs.Every.{all_passed, failed, passed}
 use Rattle.outcomes.proofs.outcome.Outcome.all_drained.Goals as goal
 

@@ -1,5 +1,5 @@
 use Rattle.std.proofs.Common.{◌≡◌, drop, map}
-use Rattle.gather_laws.specs.Outcome.{all_drained}
+use Rattle.outcomes.specs.Outcome.{all_drained}
 use Rattle.outcomes.specs.Gathers.{gathered_of}
 use Rattle.outcomes.proofs.outcome.Outcome.all_drained.Given as goal
 

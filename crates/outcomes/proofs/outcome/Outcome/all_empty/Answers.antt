@@ -1,6 +1,6 @@
 use Rattle.std.proofs.Common.{map, refl, sym, ap, ◌∙◌, falls}
 use Rattle.outcomes.specs.Meets.{history_of_met}
-use Rattle.gather_laws.specs.Outcome.{all_empty, none_held}
+use Rattle.outcomes.specs.Outcome.{all_empty, none_held}
 use Rattle.outcomes.proofs.Every.{all_passed, failed, passed}
 use Rattle.outcomes.proofs.outcome.Outcome.all_empty.Goals as goal
 

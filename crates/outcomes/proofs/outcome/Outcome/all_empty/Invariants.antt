@@ -1,6 +1,6 @@
 use Rattle.std.proofs.Common.{◌≡◌, drop, map}
 use Rattle.outcomes.specs.Meets.{history_of_met}
-use Rattle.gather_laws.specs.Outcome.{all_empty}
+use Rattle.outcomes.specs.Outcome.{all_empty}
 use Rattle.outcomes.proofs.outcome.Outcome.all_empty.Given as goal
 
 abbrev pub invariant-loop-row : goal.invariant-loop-row

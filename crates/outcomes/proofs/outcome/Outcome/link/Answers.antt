@@ -1,6 +1,6 @@
 use Rattle.std.proofs.Common.{ap}
 use Rattle.outcomes.specs.Meets.{history_of_met}
-use Rattle.gather_laws.specs.Outcome.{no_history}
+use Rattle.outcomes.specs.Outcome.{no_history}
 use Rattle.outcomes.proofs.LinkIn.{place_fits, port_there, row_there, thing_is}
 use Rattle.outcomes.proofs.outcome.Outcome.link.Goals as goal
 

@@ -1,7 +1,0 @@
-use Rattle.gather_laws.proofs.MetNodes.{met_written}
-use Rattle.gather_laws.proofs.laws.met_nodes_are_written.Goals as goal
-
-pub returns : goal.returns
-returns g c = record {
-  law = λ program laws net ok nodes counters puts takens held wrote met. met_written program net ok nodes counters puts takens held wrote met;
-}

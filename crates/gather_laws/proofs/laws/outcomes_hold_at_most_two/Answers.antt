@@ -1,5 +1,0 @@
-use Rattle.gather_laws.proofs.Held.{at_most_two}
-use Rattle.gather_laws.proofs.laws.outcomes_hold_at_most_two.Goals as goal
-
-pub returns : goal.returns
-returns g c = record { law = λ program net ok. at_most_two program net ok }

@@ -1,7 +1,0 @@
-use Rattle.gather_laws.proofs.Progress.{goes_on}
-use Rattle.gather_laws.proofs.laws.stopped_outcomes_can_go_on.Goals as goal
-
-pub returns : goal.returns
-returns g c = record {
-  law = λ program laws net ok capacity transcript outcome is some. goes_on program net ok capacity transcript outcome is some;
-}

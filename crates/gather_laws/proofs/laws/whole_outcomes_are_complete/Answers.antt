@@ -1,5 +1,0 @@
-use Rattle.gather_laws.proofs.Whole.{complete_run}
-use Rattle.gather_laws.proofs.laws.whole_outcomes_are_complete.Goals as goal
-
-pub returns : goal.returns
-returns g c = record { law = λ program net ok capacity transcript outcome is whole. complete_run program net ok capacity transcript outcome is whole }
