@@ -1,9 +1,16 @@
 //! What the commands of `forestplan` that run worker threads compute, from the bytes of a DIMACS text to the bytes of
-//! an answer. It names no stream, no command line and no system, so that a test or another program calls the same
-//! functions. The functions of all other commands are in `answers`, which needs no thread.
+//! an answer, and that nodes of the colouring which have all halted have the colours of the network.
+//!
+//! It names no stream, no command line and no system, so that a test or another program calls the same functions. The
+//! functions of all other commands are in `answers`, which needs no thread.
 //!
 //! `plan_commands` calls `plan_bytes` or `transcript_bytes` for a command. For any program of nodes, `play_commands`
 //! calls `run_transcript_bytes`, and `run_answers` makes of `whole_run` what `forestplay run` prints.
+//!
+//! `coloured_runs` has what the simulation says of two programs, the colouring and `Greatest`: every list of events
+//! simulates their synchronous run, and halted nodes are coloured, whatever ran them. So `plan_bytes` is `plain_bytes`
+//! (`laws`). That nodes halt is promised nowhere: every list of events can be continued until they have, but whoever
+//! picks the events needn't pick these.
 //!
 //! ```
 //! let text = b"p edge 3 3\ne 1 2\ne 1 3\ne 2 3\n";
@@ -14,6 +21,7 @@
 //! a fault. Vertex v has the identifier of its line `i`, and without one v.
 #![tactic(auto)]
 
+pub mod coloured_runs;
 pub mod laws;
 mod merged;
 mod plan_text;

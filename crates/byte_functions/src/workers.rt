@@ -6,10 +6,10 @@ ghost use Rattle.outcomes.specs.Outcome.{IsOutcome, is_whole};
 ghost use Rattle.answers.specs.Answers.{IsPlainAnswer};
 ghost use Rattle.byte_functions.specs.Workers.{IsFaultOfRun, IsFaultOfWorkers, MayRun, Ran, whole_after};
 
+use crate::coloured_runs::halted_nodes_are_coloured;
 use crate::plan_text::text_of_nodes;
 use actor::Gate;
 use answers::{PlanFault, Setting, network_of_text};
-use async_colour_laws::laws::halted_nodes_are_coloured;
 use colour_laws::laws::colours_are_proper;
 use colour_program::Colouring;
 use colour_rules::Payload;

@@ -8,7 +8,7 @@ use Rattle.node_api.specs.Program.{Program, last_pulse_on}
 use Rattle.alpha_core.specs.View.{is_drained}
 use Rattle.event_rule.specs.State.{State, node_of, link_at}
 use Rattle.event_rule.specs.Endings.{IsWholeState}
-use Rattle.async_colour_laws.specs.Small.{edge}
+use Rattle.byte_functions.specs.Small.{edge}
 
 -- what holds at the two vertices holds at every vertex, and what holds at port 0 at every port
 at_both : (P : ℕ → Type 0) → P 1 → P 2 → (v : ℕ) → 1 ≤ v → v ≤ 2 → P v

@@ -14,7 +14,7 @@ use Rattle.colour_laws.proofs.Rounds.{rounds_are_program}
 use Rattle.colour_laws.proofs.Starts.{colour_at_last}
 use Rattle.event_rule.proofs.KeptRuns.{reached_simulates}
 use Rattle.event_rule.proofs.Maximal.{end_of}
-use Rattle.async_colour_laws.specs.Coloured.{HaltedAreColoured, HaltedOutcomesAreColoured, HaltedRunsAreColoured, MaximalRunsAreColoured}
+use Rattle.byte_functions.specs.Coloured.{HaltedAreColoured, HaltedOutcomesAreColoured, HaltedRunsAreColoured, MaximalRunsAreColoured}
 
 module _ (net : Net) (ok : IsNetwork net) where
   halted_are_coloured : HaltedAreColoured net

@@ -3,7 +3,7 @@ use Rattle.sync_rounds.specs.Spread.{spread}
 use Rattle.sync_rounds.specs.SpreadLaws.{spread_laws}
 use Rattle.event_rule.proofs.KeptRuns.{reached_simulates}
 use Rattle.event_rule.proofs.Exactly.{runs-exactly}
-use Rattle.async_colour_laws.proofs.laws.runs_of_the_greatest.Goals as goal
+use Rattle.byte_functions.proofs.coloured_runs.runs_of_the_greatest.Goals as goal
 
 pub returns : goal.returns
 returns c = record {

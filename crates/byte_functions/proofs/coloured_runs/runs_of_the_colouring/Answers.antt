@@ -3,7 +3,7 @@ use Rattle.colour_rules.specs.Program.{colouring}
 use Rattle.colour_laws.proofs.Rounds.{rounds_are_program}
 use Rattle.event_rule.proofs.KeptRuns.{reached_simulates}
 use Rattle.event_rule.proofs.Exactly.{runs-exactly}
-use Rattle.async_colour_laws.proofs.laws.runs_of_the_colouring.Goals as goal
+use Rattle.byte_functions.proofs.coloured_runs.runs_of_the_colouring.Goals as goal
 
 pub returns : goal.returns
 returns c = record {

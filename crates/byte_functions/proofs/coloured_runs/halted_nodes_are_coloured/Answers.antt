@@ -1,5 +1,5 @@
-use Rattle.async_colour_laws.proofs.Colours.{coloured, outcomes_coloured, runs_coloured}
-use Rattle.async_colour_laws.proofs.laws.halted_nodes_are_coloured.Goals as goal
+use Rattle.byte_functions.proofs.Colours.{coloured, outcomes_coloured, runs_coloured}
+use Rattle.byte_functions.proofs.coloured_runs.halted_nodes_are_coloured.Goals as goal
 
 pub returns : goal.returns
 returns c = record {

@@ -5,7 +5,7 @@ use Rattle.node_api.specs.Program.{Program, last_pulse_on}
 use Rattle.node_api.specs.Laws.{IsProgram}
 use Rattle.outcomes.proofs.MetStamps.{stamps_within}
 use Rattle.event_rule.proofs.Short.{few-events}
-use Rattle.async_colour_laws.specs.Stamped.{StampsAreBounded, StampsFit}
+use Rattle.byte_functions.specs.Stamped.{StampsAreBounded, StampsFit}
 
 module _ {S M E : Type 0} (program : Program S M E) (laws : IsProgram program) (net : Net) (ok : IsNetwork net) where
   pub stamps-bounded : StampsAreBounded program net

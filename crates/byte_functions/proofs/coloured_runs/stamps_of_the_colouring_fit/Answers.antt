@@ -1,8 +1,8 @@
 use Rattle.std.proofs.Common.{arith}
 use Rattle.colour_rules.specs.Program.{colouring}
 use Rattle.colour_laws.proofs.Rounds.{rounds_are_program}
-use Rattle.async_colour_laws.proofs.Stamped.{stamps-fit}
-use Rattle.async_colour_laws.proofs.laws.stamps_of_the_colouring_fit.Goals as goal
+use Rattle.byte_functions.proofs.Stamped.{stamps-fit}
+use Rattle.byte_functions.proofs.coloured_runs.stamps_of_the_colouring_fit.Goals as goal
 
 pub returns : goal.returns
 returns c = record {

@@ -16,14 +16,14 @@ abbrev pub exchange : List Event
 exchange = Put 1 0 ∷ Put 2 0 ∷ Take 1 0 ∷ Take 2 0 ∷ []
 
 -- payloads, acknowledgements and safes of pulse 0; then pulse 1 of both, and the closing marks
-abbrev pub whole_run : List Event
-whole_run = exchange ++ exchange ++ exchange ++ (Pulse 1 ∷ Pulse 2 ∷ exchange)
+abbrev pub small_run : List Event
+small_run = exchange ++ exchange ++ exchange ++ (Pulse 1 ∷ Pulse 2 ∷ exchange)
 
 -- it is accepted, and at its end both nodes are at the last pulse and know 2
 abbrev pub EndsWithTheGreatest : Type 0
-EndsWithTheGreatest = IfOk (run (spread 1) edge whole_run) (λ state.
+EndsWithTheGreatest = IfOk (run (spread 1) edge small_run) (λ state.
     (map (λ node. node.view.pulse) state.nodes ≡ 1 ∷ 1 ∷ []) × (map (λ node. node.state.best) state.nodes ≡ 2 ∷ 2 ∷ []))
 
 -- and both are drained, and no link holds a wire
 abbrev pub EndsWhole : Type 0
-EndsWhole = IfOk (run (spread 1) edge whole_run) (λ state. IsWholeState (spread 1) edge state)
+EndsWhole = IfOk (run (spread 1) edge small_run) (λ state. IsWholeState (spread 1) edge state)

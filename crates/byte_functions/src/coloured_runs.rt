@@ -9,11 +9,11 @@ ghost use Rattle.sync_rounds.specs.Spread.{spread};
 ghost use Rattle.colour_rules.specs.Program.{colouring};
 ghost use Rattle.event_rule.specs.Laws.{RunsAreExact, RunsSimulate};
 ghost use Rattle.event_rule.specs.Step.{run};
-ghost use Rattle.async_colour_laws.specs.Coloured.{HaltedAreColoured, HaltedOutcomesAreColoured, HaltedRunsAreColoured};
-ghost use Rattle.async_colour_laws.specs.Coloured.{MaximalRunsAreColoured};
-ghost use Rattle.async_colour_laws.specs.Ran.{OutcomesAreRuns, WholeOutcomesAreEnds};
-ghost use Rattle.async_colour_laws.specs.Stamped.{ShortRunsFit, StampsAreBounded, StampsFit};
-ghost use Rattle.async_colour_laws.specs.Small.{EndsWhole, EndsWithTheGreatest, edge, whole_run};
+ghost use Rattle.byte_functions.specs.Coloured.{HaltedAreColoured, HaltedOutcomesAreColoured, HaltedRunsAreColoured};
+ghost use Rattle.byte_functions.specs.Coloured.{MaximalRunsAreColoured};
+ghost use Rattle.byte_functions.specs.Ran.{OutcomesAreRuns, WholeOutcomesAreEnds};
+ghost use Rattle.byte_functions.specs.Stamped.{ShortRunsFit, StampsAreBounded, StampsFit};
+ghost use Rattle.byte_functions.specs.Small.{EndsWhole, EndsWithTheGreatest, edge, small_run};
 
 use colour_laws::laws::last_pulse_is_limited;
 
@@ -67,10 +67,10 @@ pub fn stamps_of_the_colouring_fit()
 /// events, which is as many as any run of this program there can have, and its state is whole.
 pub fn a_small_run_halts()
     ensures network { IsNetwork edge }
-    ensures accepted { IsOk (run (spread 1) edge whole_run) }
+    ensures accepted { IsOk (run (spread 1) edge small_run) }
     ensures ends { EndsWithTheGreatest }
     ensures most { events_of_run (spread 1) edge ≡ 18 }
-    ensures many { length whole_run ≡ 18 }
+    ensures many { length small_run ≡ 18 }
     ensures whole { EndsWhole }
 {}
 

@@ -12,7 +12,7 @@ use Rattle.event_rule.proofs.Deadlock.{whole_terminal}
 use Rattle.event_rule.proofs.Maximal.{end_of}
 use Rattle.event_rule.proofs.Room.{have_room}
 use Rattle.outcomes.proofs.Whole.{drained, whole_is}
-use Rattle.async_colour_laws.specs.Ran.{OutcomesAreRuns, WholeOutcomesAreEnds}
+use Rattle.byte_functions.specs.Ran.{OutcomesAreRuns, WholeOutcomesAreEnds}
 
 module _ {S M E : Type 0} (program : Program S M E) (laws : IsProgram program) (net : Net) (ok : IsNetwork net) where
   pub outcomes_run : OutcomesAreRuns program net

@@ -1,4 +1,0 @@
-pub mod Colours
-pub mod Edge
-pub mod Stamped
-pub mod Ran

@@ -1,4 +1,0 @@
-pub mod Coloured
-pub mod Small
-pub mod Stamped
-pub mod Ran
