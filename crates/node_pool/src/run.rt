@@ -32,7 +32,12 @@ fn are_in_range(options: Options) -> bool
 }
 
 // Runs nodes over the links that were made, whose queues the run has picked, and gathers them.
-fn run_over<J: Wiring + Send + Sync, P: NodeProgram, G: Gate + Sync, R: Threads + Wait + Sync>(
+fn run_and_gather<
+    J: Wiring + Send + Sync,
+    P: NodeProgram,
+    G: Gate + Sync,
+    R: Threads + Wait + Sync,
+>(
     rt: &R,
     alloc: Global,
     net: &Network,
@@ -82,5 +87,5 @@ pub fn run_workers<P: NodeProgram, G: Gate + Sync, R: Threads + Wait + Sync>(
         return Err(PoolFault::BadOptions);
     }
     let made = make_links::<P>(alloc, net, options.capacity as usize)?;
-    Ok(run_over::<Brand, P, G, R>(rt, alloc, net, options, gate, made)?)
+    Ok(run_and_gather::<Brand, P, G, R>(rt, alloc, net, options, gate, made)?)
 }

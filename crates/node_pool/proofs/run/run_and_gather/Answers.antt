@@ -1,6 +1,6 @@
 use Rattle.std.proofs.Common.{subst}
 use Rattle.outcomes.specs.Outcome.{IsOutcome}
-use Rattle.node_pool.proofs.run.run_over.Goals as goal
+use Rattle.node_pool.proofs.run.run_and_gather.Goals as goal
 
 -- the links that are gathered are those that were made
 pub returns : goal.returns
