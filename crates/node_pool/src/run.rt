@@ -11,7 +11,7 @@ ghost use Rattle.node_runs.specs.Makes.{AreMade, tables_of};
 use actor::{Gate, Wiring};
 use interference::Network;
 use node_api::NodeProgram;
-use node_runs::{Made, Ran, make_links, run_made};
+use node_runs::{Made, Ran, make_links, start_and_run};
 use outcomes::{Outcome, gathered};
 use pool::ThreadsFault;
 use run_faults::PoolFault;
@@ -54,7 +54,7 @@ fn run_and_gather<
     ensures outcome { IfOk result
         (λ outcome. IsOutcome P.program net.now options.capacity options.transcript outcome) }
 {
-    let Ran { nodes, links } = run_made::<J, P, G, R>(rt, alloc, net, options, gate, made)?;
+    let Ran { nodes, links } = start_and_run::<J, P, G, R>(rt, alloc, net, options, gate, made)?;
     Ok(gathered(rt, alloc, net, &links, nodes)?)
 }
 

@@ -7,7 +7,7 @@
 //!
 //! ```text
 //! let made = make_links::<P>(alloc, &network, options.capacity as usize)?;
-//! let ran = run_made::<J, P, OpenGate, _>(&rt, alloc, &network, options, &OpenGate, made)?;
+//! let ran = start_and_run::<J, P, OpenGate, _>(&rt, alloc, &network, options, &OpenGate, made)?;
 //! ```
 //!
 //! Limits: `MAX_WORKERS` and `MAX_CAPACITY`. Without a transcript no turn can return out-of-memory. Nothing is promised
@@ -22,4 +22,4 @@ mod turns;
 mod wired;
 
 pub use making::{Made, make_links};
-pub use run::{Ran, run_made};
+pub use run::{Ran, start_and_run};

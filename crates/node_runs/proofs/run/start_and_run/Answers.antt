@@ -4,7 +4,7 @@ use Rattle.link_queue.specs.Ends.{link_capacity}
 use Rattle.port_rows.specs.Rows.{rows_of}
 use Rattle.node_runs.specs.Makes.{AreMade}
 use Rattle.node_runs.proofs.MadeRows.{made_are_new, made_within}
-use Rattle.node_runs.proofs.run.run_made.Goals as goal
+use Rattle.node_runs.proofs.run.start_and_run.Goals as goal
 
 -- the ends of the links that were made are those of the run
 pub start_nodes-requires-clause-ends : goal.start_nodes-requires-clause-ends
