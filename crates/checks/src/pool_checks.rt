@@ -3,7 +3,7 @@
 ghost use Rattle.std.specs.Prelude.{◌≡◌, ◌∷◌, [], IfOk, map};
 
 use deque_rule::Task;
-use pool::{ThreadsFault, Turned, run_all};
+use pool::{ThreadsFault, Turned, run_tasks};
 use run_options::Options;
 use std::alloc::{AllocError, Global};
 use std::sync::Wait;
@@ -81,7 +81,7 @@ fn left_by_one<R: Threads + Wait + Sync>(
     let turn = |task: &mut Box<Countdown>, _worker: u32| -> Turned
         ensures { task.new.value.number ≡ task.old.value.number }
     { count_down(task, ends_at) };
-    let left = run_all(rt, alloc, turn, tasks, options)?;
+    let left = run_tasks(rt, alloc, turn, tasks, options)?;
     Ok(lefts(left.as_slice()))
 }
 

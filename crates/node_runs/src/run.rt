@@ -17,7 +17,7 @@ use crate::turns::turn_of;
 use actor::{Gate, Links, Node, Wiring};
 use interference::Network;
 use node_api::NodeProgram;
-use pool::{ThreadsFault, Turned, run_all};
+use pool::{ThreadsFault, Turned, run_tasks};
 use run_options::{MAX_WORKERS, Options};
 use std::alloc::Global;
 use std::sync::Wait;
@@ -48,7 +48,7 @@ fn run_nodes<J: Wiring + Send + Sync, P: NodeProgram, G: Gate + Sync, R: Threads
     let turn = |node: &mut Box<Node<J, P>>, worker: u32| -> Turned
         ensures { node.new.value.vertex ≡ node.old.value.vertex }
     { turn_of(rt, links, gate, worker, node) };
-    let nodes = run_all(rt, alloc, turn, nodes, options)?;
+    let nodes = run_tasks(rt, alloc, turn, nodes, options)?;
     fault_of_refusals(nodes.as_slice())?;
     Ok(nodes)
 }

@@ -2,7 +2,7 @@
 //!
 //! In a look a worker takes the first task of its own deque, or else steals one of another's, makes one turn of the
 //! task and puts it on its own deque, or, if nothing is left for the task to do, keeps it. Whatever the threads do, no
-//! task is lost and none is there twice, and `run_all` returns each task once: what was pushed to a deque is what was
+//! task is lost and none is there twice, and `run_tasks` returns each task once: what was pushed to a deque is what was
 //! taken from it and what it holds (the rule of `deque_rule`), and the sum over all deques has each task once. What a
 //! turn leaves is a fact of the task's type, of which nothing is known here but its number; `node_runs` runs the nodes
 //! of `actor`.
@@ -13,7 +13,7 @@
 //! for threads that hand states back. `run` is all of a run, and `faults` which faults it has.
 //!
 //! ```text
-//! let tasks = run_all(&rt, alloc, |task, worker| .., tasks, options)?;   // ascending
+//! let tasks = run_tasks(&rt, alloc, |task, worker| .., tasks, options)?;   // ascending
 //! ```
 //!
 //! Limits: `MAX_WORKERS` of `run_options`. Nothing is promised of time, of fairness, of which worker has a task, or
@@ -39,6 +39,6 @@ pub use gathering::gather;
 pub use looks::Turned;
 pub use place::{Places, make_places};
 pub use promise::SameDeques;
-pub use run::run_all;
+pub use run::run_tasks;
 pub use worker_state::WorkerState;
 pub use worker_states::make_worker_states;

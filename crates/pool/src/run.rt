@@ -82,7 +82,11 @@ fn in_threads<T: Task + Send, F: Fn(&mut Box<T>, u32) -> Turned + Sync, R: Threa
 /// # Errors
 ///
 /// `Memory` if memory is refused, and `Spawn` if a thread is. The workers that had begun are joined.
-pub fn run_all<T: Task + Send, F: Fn(&mut Box<T>, u32) -> Turned + Sync, R: Threads + Wait + Sync>(
+pub fn run_tasks<
+    T: Task + Send,
+    F: Fn(&mut Box<T>, u32) -> Turned + Sync,
+    R: Threads + Wait + Sync,
+>(
     rt: &R,
     alloc: Global,
     turn: F,

@@ -5,8 +5,8 @@ use Rattle.deque_rule.specs.Ledgers.{weigh}
 use Rattle.checks.proofs.pool_checks.left_by_one.Goals as goal
 
 -- 1 and 0 are the numbers below 2
-pub run_all-requires-clause-numbers : goal.run_all-requires-clause-numbers
-run_all-requires-clause-numbers g c κs within h =
+pub run_tasks-requires-clause-numbers : goal.run_tasks-requires-clause-numbers
+run_tasks-requires-clause-numbers g c κs within h =
     let tasks = c.in_ok-tasks.tasks in
     let are = c.in_ok-tasks.ensures.numbers in
     let two : vec_len tasks ≡ 2 = omega (arith, tasks.ok.0, length-map tasks.items (λ b. b.value.number), ap length are) in

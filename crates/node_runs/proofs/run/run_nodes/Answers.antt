@@ -6,8 +6,8 @@ use Rattle.node_runs.proofs.Numbers.{as_many, from_one, from_the_last}
 use Rattle.node_runs.proofs.run.run_nodes.Goals as goal
 
 -- the numbers of the nodes are those below their count
-pub run_all-requires-clause-numbers : goal.run_all-requires-clause-numbers
-run_all-requires-clause-numbers g c κs within =
+pub run_tasks-requires-clause-numbers : goal.run_tasks-requires-clause-numbers
+run_tasks-requires-clause-numbers g c κs within =
     let nodes = c.args.nodes in
     let n = count_of g.J.Wiring.net in
     let many = as_many (λ b. b.value.vertex) nodes.items n c.requires.nodes in

@@ -7,7 +7,7 @@ use Rattle.pool.proofs.Holds.{dealt_on}
 use Rattle.deque_rule.proofs.Rule.{deals}
 use Rattle.pool.specs.Passes.{deques_of}
 use Rattle.pool.proofs.Views.{as_many, carried}
-use Rattle.pool.proofs.run.run_all.Goals as goal
+use Rattle.pool.proofs.run.run_tasks.Goals as goal
 
 pub deal-owns-requires-clause-room : goal.deal-owns-requires-clause-room
 deal-owns-requires-clause-room g c k d lt =
