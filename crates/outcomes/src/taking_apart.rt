@@ -14,12 +14,12 @@ use std::alloc::{AllocError, Global};
 pub struct Actor<P: NodeProgram> {
     // In a box, which takes the memory that the box of the node has just freed: a list of these values themselves would
     // take as much memory again as all nodes.
-    left: Box<Left<P>>,
+    left: Box<ActorParts<P>>,
 }
 
 // What is left of a node that was taken apart.
 #[derive(Drop)]
-struct Left<P: NodeProgram> {
+struct ActorParts<P: NodeProgram> {
     vertex: u32,
     alpha: AlphaNode<P>,
     entries: Entries<P::Payload>,
@@ -114,7 +114,7 @@ pub fn split_ends<J: Wiring, P: NodeProgram>(
         let entries = recorder.into_entries(alloc);
         let left = Box::new(
             alloc,
-            Left {
+            ActorParts {
                 vertex,
                 alpha,
                 entries,
