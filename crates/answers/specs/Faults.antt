@@ -3,7 +3,7 @@ use Rattle.std.specs.Prelude.{ℕ, List, ◌++◌, codes}
 use Rattle.reports.specs.Lines.{at_line, at_vertex, at_vertices, line_with}
 use Rattle.dimacs_col.specs.declared.fault.ColFault.TheVariants as col
 use Rattle.interference.specs.declared.fault.NetFault.TheVariants as net
-use Rattle.run_faults.specs.declared.fault.PoolFault.TheVariants as pool
+use Rattle.run_options.specs.declared.fault.PoolFault.TheVariants as pool
 use Rattle.channel_plan.specs.declared.plan.CheckFault.TheVariants as check
 use Rattle.run_faults.specs.declared.events.EventFault.TheVariants as event
 use Rattle.answers.specs.declared.fault.PlanFault.{PlanFault}

@@ -1,12 +1,14 @@
 //! Why a text has no answer.
 
 ghost use Rattle.std.specs.Prelude.{◌≡◌};
-ghost use Rattle.answers.specs.declared.fault.PlanFault.TheVariants.{Check, Col, Event, Net, Memory, Pool, Replay};
+ghost use Rattle.answers.specs.declared.fault.PlanFault.TheVariants.{Check, Col, Event, Net, Memory, Replay};
+ghost use Rattle.answers.specs.RunFaults.{fault_of_run};
 
 use channel_plan::CheckFault;
 use dimacs_col::ColFault;
 use interference::{Memory, NetFault};
-use run_faults::{EventFault, PoolFault, ReplayFault};
+use run_faults::{EventFault, ReplayFault};
+use run_options::{PoolFault, RunFault};
 
 /// Why a text has no answer.
 #[derive(Debug, PartialEq, Eq, Drop)]
@@ -47,11 +49,15 @@ impl From<NetFault> for PlanFault {
     }
 }
 
-impl From<PoolFault> for PlanFault {
-    ghost from_gives = { λ fault result. result ≡ Pool fault };
+impl From<RunFault> for PlanFault {
+    ghost from_gives = { λ fault result. result ≡ fault_of_run fault };
 
-    fn from(fault: PoolFault) -> PlanFault {
-        PlanFault::Pool(fault)
+    fn from(fault: RunFault) -> PlanFault {
+        match fault {
+            RunFault::Pool(fault) => PlanFault::Pool(fault),
+            RunFault::Stopped => PlanFault::Stopped,
+            RunFault::Memory => PlanFault::Memory,
+        }
     }
 }
 

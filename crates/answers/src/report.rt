@@ -9,7 +9,8 @@ use channel_plan::CheckFault;
 use dimacs_col::ColFault;
 use interference::NetFault;
 use reports::{FaultReport, Place, memory_report, refusal, refusal_in_words, report_with};
-use run_faults::{EventFault, PoolFault, ReplayFault};
+use run_faults::{EventFault, ReplayFault};
+use run_options::PoolFault;
 use std::alloc::{AllocError, Global};
 
 // The status if the command line is refused; no fault of the program's has it, since its command line takes no

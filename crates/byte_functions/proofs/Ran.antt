@@ -5,9 +5,9 @@ use Rattle.interference.specs.Net.{Net}
 use Rattle.run_options.specs.Ranges.{AreInRange}
 use Rattle.run_options.specs.declared.Options.{Options}
 use Rattle.outcomes.specs.Outcome.{Outcome, IsOutcome, is_whole}
-use Rattle.run_faults.specs.declared.fault.PoolFault.TheVariants as pool
+use Rattle.run_options.specs.declared.fault.PoolFault.TheVariants as pool
+use Rattle.run_options.specs.declared.fault.RunFault.TheVariants as run
 use Rattle.node_api.specs.Program.{Program}
-use Rattle.answers.specs.declared.fault.PlanFault.TheVariants as plan
 use Rattle.byte_functions.specs.Workers.{IsFaultOfRun, MayRun, Ran, whole_after}
 use Rattle.byte_functions.proofs.Working.{pool-fault}
 
@@ -20,26 +20,26 @@ err-maps (Ok a) f x = tt
 err-maps (Err b) f x = f b x
 
 if-whole : {S M : Type 0} (P : Outcome S M → Type 0) (outcome : Outcome S M) (whole : Bool) → P outcome
-    → IfOk (if whole then Ok outcome else Err plan.Stopped) P
+    → IfOk (if whole then Ok outcome else Err run.Stopped) P
 if-whole P outcome true is = is
 if-whole P outcome false is = tt
 
 is-whole : {S M : Type 0} (outcome : Outcome S M) (whole : Bool) → is_whole outcome ≡ whole
-    → IfOk (if whole then Ok outcome else Err plan.Stopped) (λ left. is_whole left ≡ true)
+    → IfOk (if whole then Ok outcome else Err run.Stopped) (λ left. is_whole left ≡ true)
 is-whole outcome true is = is
 is-whole outcome false is = tt
 
 if-stopped : {S M : Type 0} (o : Options) (outcome : Outcome S M) (whole : Bool) → AreInRange o
-    → IfErr (if whole then Ok outcome else Err plan.Stopped) (IsFaultOfRun o)
+    → IfErr (if whole then Ok outcome else Err run.Stopped) (IsFaultOfRun o)
 if-stopped o outcome true range = tt
 if-stopped o outcome false range = range
 
 -- what is returned of an outcome, by whether it is whole
 pub kept : {S M : Type 0} (outcome : Outcome S M) → is_whole outcome ≡ true → whole_after (Ok outcome) ≡ Ok outcome
-kept outcome whole = ap (λ b. if b then Ok outcome else Err plan.Stopped) whole
+kept outcome whole = ap (λ b. if b then Ok outcome else Err run.Stopped) whole
 
-pub stopped : {S M : Type 0} (outcome : Outcome S M) → is_whole outcome ≡ false → whole_after (Ok outcome) ≡ Err plan.Stopped
-stopped outcome whole = ap (λ b. if b then Ok outcome else Err plan.Stopped) whole
+pub stopped : {S M : Type 0} (outcome : Outcome S M) → is_whole outcome ≡ false → whole_after (Ok outcome) ≡ Err run.Stopped
+stopped outcome whole = ap (λ b. if b then Ok outcome else Err run.Stopped) whole
 
 pub whole-is : {S M : Type 0} (ran : Ran S M) → IfOk (whole_after ran) (λ outcome. is_whole outcome ≡ true)
 whole-is (Ok outcome) = is-whole outcome (is_whole outcome) refl

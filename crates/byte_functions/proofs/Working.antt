@@ -9,8 +9,10 @@ use Rattle.interference.specs.Net.{Net, IsBarred, IsNetwork, IsEdge, IsVertex, c
 use Rattle.run_options.specs.Ranges.{AreInRange}
 use Rattle.run_options.specs.declared.Options.{Options}
 use Rattle.run_options.specs.declared.TheConstants.{MAX_CAPACITY, MAX_WORKERS}
-use Rattle.run_faults.specs.declared.fault.PoolFault.{PoolFault}
-use Rattle.run_faults.specs.declared.fault.PoolFault.TheVariants as pool
+use Rattle.run_options.specs.declared.fault.PoolFault.{PoolFault}
+use Rattle.run_options.specs.declared.fault.PoolFault.TheVariants as pool
+use Rattle.run_options.specs.declared.fault.RunFault.{RunFault}
+use Rattle.run_options.specs.declared.fault.RunFault.TheVariants as run
 use Rattle.outcomes.specs.Outcome.{Outcome, node_in, start_of}
 use Rattle.alpha_core.specs.View.{Alpha}
 use Rattle.channel_plan.specs.PlanText.{plan_of}
@@ -20,14 +22,13 @@ use Rattle.colour_rules.specs.Program.{colouring}
 use Rattle.colour_laws.specs.Colours.{colours}
 use Rattle.dimacs_col.specs.Lines.{lines_of}
 use Rattle.answers.specs.Answers.{IsPlainAnswer, ReadsAs}
+use Rattle.answers.specs.RunFaults.{fault_of_run}
 use Rattle.answers.specs.Settings.{OfSet}
 use Rattle.answers.specs.declared.setting.Setting.{Setting}
 use Rattle.answers.proofs.Settings.{lines-more}
 use Rattle.answers.proofs.Plain.{plain}
 use Rattle.byte_functions.specs.Colours.{merged_of}
 use Rattle.byte_functions.specs.Workers.{IsFaultOfPool, IsFaultOfRun, IsFaultOfWorkers}
-use Rattle.answers.specs.declared.fault.PlanFault.{PlanFault}
-use Rattle.answers.specs.declared.fault.PlanFault.TheVariants as plan
 
 -- ---- the faults
 ranges : (o : Options) → AreInRange o ⊎ (AreInRange o → ⊥)
@@ -69,17 +70,12 @@ only-network : (setting : Setting) (input : List ℕ) (net : Net) → ReadsAs in
     → ReadsAs input (OfSet setting IsNetwork)
 only-network setting input net = lines-more setting (lines_of input) (λ read. IsNetwork read × (net ≡ read)) (λ read. IsNetwork read) (λ read both. both.0)
 
-pub workers-fault : (setting : Setting) (input : List ℕ) (net : Net) (o : Options) (fault : PlanFault)
-    → ReadsAs input (OfSet setting (λ read. IsNetwork read × (net ≡ read))) → IsFaultOfRun o fault → IsFaultOfWorkers setting o input fault
-workers-fault setting input net o (plan.Pool fault) read is = (only-network setting input net read, is)
-workers-fault setting input net o plan.Stopped read is = (only-network setting input net read, is)
-workers-fault setting input net o (plan.Col fault) read is = absurd is
-workers-fault setting input net o (plan.NoRoot v) read is = absurd is
-workers-fault setting input net o (plan.Net fault) read is = absurd is
-workers-fault setting input net o (plan.Check fault) read is = absurd is
-workers-fault setting input net o (plan.Event fault) read is = absurd is
-workers-fault setting input net o (plan.Replay fault) read is = absurd is
-workers-fault setting input net o plan.Memory read is = absurd is
+pub workers-fault : (setting : Setting) (input : List ℕ) (net : Net) (o : Options) (fault : RunFault)
+    → ReadsAs input (OfSet setting (λ read. IsNetwork read × (net ≡ read))) → IsFaultOfRun o fault
+    → IsFaultOfWorkers setting o input (fault_of_run fault)
+workers-fault setting input net o (run.Pool fault) read is = (only-network setting input net read, is)
+workers-fault setting input net o run.Stopped read is = (only-network setting input net read, is)
+workers-fault setting input net o run.Memory read is = absurd is
 
 -- ---- the plan
 abbrev Left : Type 0

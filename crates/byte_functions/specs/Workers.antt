@@ -1,17 +1,16 @@
 -- The faults of runs of worker threads.
 use Rattle.std.specs.Prelude.{ℕ, Bool, List, Result, Ok, Err, if◌then◌else◌}
-use Rattle.dimacs_col.specs.Lines.{lines_of}
-use Rattle.dimacs_col.specs.Reading.{IsFault}
 use Rattle.interference.specs.Net.{Net, IsNetwork}
-use Rattle.interference.specs.Making.{IsFaultOf}
 use Rattle.run_options.specs.Ranges.{AreInRange}
 use Rattle.run_options.specs.declared.Options.{Options}
 use Rattle.outcomes.specs.Outcome.{Outcome, IsOutcome, is_whole}
-use Rattle.run_faults.specs.declared.fault.PoolFault.{PoolFault}
-use Rattle.run_faults.specs.declared.fault.PoolFault.TheVariants as pool
+use Rattle.run_options.specs.declared.fault.PoolFault.{PoolFault}
+use Rattle.run_options.specs.declared.fault.PoolFault.TheVariants as pool
+use Rattle.run_options.specs.declared.fault.RunFault.{RunFault}
+use Rattle.run_options.specs.declared.fault.RunFault.TheVariants as run
 use Rattle.node_api.specs.Program.{Program}
-use Rattle.answers.specs.Answers.{ReadsAs}
-use Rattle.answers.specs.Settings.{LacksRoot, OfSet}
+use Rattle.answers.specs.Answers.{IsFaultOfText, ReadsAs}
+use Rattle.answers.specs.Settings.{OfSet}
 use Rattle.answers.specs.declared.setting.Setting.{Setting}
 use Rattle.answers.specs.declared.fault.PlanFault.{PlanFault}
 use Rattle.answers.specs.declared.fault.PlanFault.TheVariants as plan
@@ -35,32 +34,20 @@ MayRun program net options transcript (Ok outcome) =
 MayRun program net options transcript (Err fault) = IsFaultOfPool options fault
 
 -- What is returned of a run: its fault, or that it stopped if its outcome isn't whole, or else its outcome.
-abbrev pub whole_after : {S M : Type 0} → Ran S M → Result (Outcome S M) PlanFault
-whole_after (Err fault) = Err (plan.Pool fault)
-whole_after (Ok outcome) = if is_whole outcome then Ok outcome else Err plan.Stopped
+abbrev pub whole_after : {S M : Type 0} → Ran S M → Result (Outcome S M) RunFault
+whole_after (Err fault) = Err (run.Pool fault)
+whole_after (Ok outcome) = if is_whole outcome then Ok outcome else Err run.Stopped
 
 -- The fault of a run in which not every node was done. When a run is stopped isn't promised.
-abbrev pub IsFaultOfRun : Options → PlanFault → Type 0
-IsFaultOfRun options (plan.Col fault) = ⊥
-IsFaultOfRun options (plan.NoRoot v) = ⊥
-IsFaultOfRun options (plan.Net fault) = ⊥
-IsFaultOfRun options (plan.Pool fault) = IsFaultOfPool options fault
-IsFaultOfRun options (plan.Check fault) = ⊥
-IsFaultOfRun options (plan.Event fault) = ⊥
-IsFaultOfRun options (plan.Replay fault) = ⊥
-IsFaultOfRun options plan.Stopped = AreInRange options
-IsFaultOfRun options plan.Memory = ⊥
+abbrev pub IsFaultOfRun : Options → RunFault → Type 0
+IsFaultOfRun options (run.Pool fault) = IsFaultOfPool options fault
+IsFaultOfRun options run.Stopped = AreInRange options
+IsFaultOfRun options run.Memory = ⊥
 
--- The fault of an input of `plan`, of `transcript` and of `run`: of the network text, or of the root, or else of the
--- run.
+-- The fault of an input of `plan`, of `transcript` and of `run`: of the run, or else of the text, which is that of its
+-- reading, of the root, of the network, or of memory.
 abbrev pub IsFaultOfWorkers : Setting → Options → List ℕ → PlanFault → Type 0
-IsFaultOfWorkers setting options input (plan.Col fault) = IsFault (lines_of input) fault
-IsFaultOfWorkers setting options input (plan.NoRoot v) = ReadsAs input (LacksRoot setting v)
-IsFaultOfWorkers setting options input (plan.Net fault) = ReadsAs input (OfSet setting (λ net. IsFaultOf net fault))
 IsFaultOfWorkers setting options input (plan.Pool fault) =
     ReadsAs input (OfSet setting IsNetwork) × IsFaultOfPool options fault
-IsFaultOfWorkers setting options input (plan.Check fault) = ⊥
-IsFaultOfWorkers setting options input (plan.Event fault) = ⊥
-IsFaultOfWorkers setting options input (plan.Replay fault) = ⊥
 IsFaultOfWorkers setting options input plan.Stopped = ReadsAs input (OfSet setting IsNetwork) × AreInRange options
-IsFaultOfWorkers setting options input plan.Memory = Unit {0}
+IsFaultOfWorkers setting options input fault = IsFaultOfText setting input fault

@@ -18,8 +18,7 @@ use node_api::{NodeProgram, Refused};
 use node_pool::run_workers;
 use outcomes::Outcome;
 use outcomes::laws::whole_outcomes_are_complete;
-use run_faults::PoolFault;
-use run_options::Options;
+use run_options::{Options, PoolFault, RunFault};
 use std::alloc::Global;
 use std::sync::Wait;
 use std::thread::Threads;
@@ -27,16 +26,16 @@ use std::thread::Threads;
 // What a run left, if that is whole.
 fn unless_stopped<P: NodeProgram>(
     ran: Result<Outcome<P>, PoolFault>,
-) -> Result<Outcome<P>, PlanFault>
+) -> Result<Outcome<P>, RunFault>
     ensures whole { result ≡ whole_after ran }
 {
     match ran {
-        Err(fault) => Err(PlanFault::Pool(fault)),
+        Err(fault) => Err(RunFault::Pool(fault)),
         Ok(outcome) => {
             if outcome.is_whole() {
                 Ok(outcome)
             } else {
-                Err(PlanFault::Stopped)
+                Err(RunFault::Stopped)
             }
         }
     }
@@ -54,7 +53,7 @@ pub fn whole_run<P: NodeProgram, G: Gate + Sync, R: Threads + Wait + Sync>(
     options: Options,
     transcript: bool,
     gate: &G,
-) -> Result<Outcome<P>, PlanFault>
+) -> Result<Outcome<P>, RunFault>
     ensures outcome { IfOk result
         (λ outcome. IsOutcome P.program network.now options.capacity transcript outcome) }
     ensures whole { IfOk result (λ outcome. is_whole outcome ≡ true) }

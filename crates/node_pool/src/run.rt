@@ -3,7 +3,7 @@
 ghost use Rattle.std.specs.Prelude.{◌≡◌, ◌≢◌, ◌↔◌, IfErr, IfOk, IsTrue, Result, Err, map};
 ghost use Rattle.actor.specs.Tables.{table_of};
 ghost use Rattle.outcomes.specs.Outcome.{IsOutcome};
-ghost use Rattle.run_faults.specs.declared.fault.PoolFault.TheVariants.{BadOptions, StampFull};
+ghost use Rattle.run_options.specs.declared.fault.PoolFault.TheVariants.{BadOptions, StampFull};
 ghost use Rattle.run_options.specs.Ranges.{AreInRange};
 ghost use Rattle.port_rows.specs.Rows.{rows_of};
 ghost use Rattle.node_runs.specs.Makes.{AreMade, tables_of};
@@ -14,8 +14,7 @@ use node_api::NodeProgram;
 use node_runs::{Made, Ran, make_links, start_and_run};
 use outcomes::{Outcome, gathered};
 use pool::ThreadsFault;
-use run_faults::PoolFault;
-use run_options::{MAX_CAPACITY, MAX_WORKERS, Options};
+use run_options::{MAX_CAPACITY, MAX_WORKERS, Options, PoolFault};
 use std::alloc::Global;
 use std::marker::Brand;
 use std::sync::Wait;
@@ -86,6 +85,8 @@ pub fn run_workers<P: NodeProgram, G: Gate + Sync, R: Threads + Wait + Sync>(
     if !are_in_range(options) {
         return Err(PoolFault::BadOptions);
     }
-    let made = make_links::<P>(alloc, net, options.capacity as usize)?;
+    let Ok(made) = make_links::<P>(alloc, net, options.capacity as usize) else {
+        return Err(PoolFault::Memory);
+    };
     Ok(run_and_gather::<Brand, P, G, R>(rt, alloc, net, options, gate, made)?)
 }

@@ -1,6 +1,6 @@
 -- What a command of `forestplan` may answer to the bytes of its input.
 use Rattle.std.specs.Prelude.{◌≢◌, ℕ, List, Result, Ok, Err}
-use Rattle.run_faults.specs.declared.fault.PoolFault.TheVariants.{BadOptions}
+use Rattle.run_options.specs.declared.fault.PoolFault.TheVariants.{BadOptions}
 use Rattle.answers.specs.Faults.{fault_text}
 use Rattle.answers.specs.Answers.{IsFaultOfText, IsForestsAnswer, IsPlainAnswer}
 use Rattle.colour_rules.specs.Program.{colouring}

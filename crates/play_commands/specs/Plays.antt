@@ -19,7 +19,7 @@ use Rattle.answers.specs.declared.setting.Setting.{Setting}
 use Rattle.answers.specs.declared.setting.Setting.TheVariants.{AsRead, Repeating, Rooted}
 use Rattle.colour_program.specs.ColoursText.{colouring_texts}
 use Rattle.colour_rules.specs.Program.{colouring}
-use Rattle.run_faults.specs.declared.fault.PoolFault.TheVariants.{BadOptions}
+use Rattle.run_options.specs.declared.fault.PoolFault.TheVariants.{BadOptions}
 use Rattle.command_line.specs.declared.programs.NodeProgramName.{NodeProgramName}
 use Rattle.command_line.specs.declared.programs.NodeProgramName.TheVariants.{Colouring, IndependentSet, Layers, Leader}
 use Rattle.command_line.specs.declared.programs.NodeProgramName.TheVariants.{Matching, Recolouring}

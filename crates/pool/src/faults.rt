@@ -4,7 +4,7 @@ ghost use Rattle.std.specs.Prelude.{◌≡◌};
 ghost use Rattle.pool.specs.Faults.{fault_of_threads};
 
 use interference::Memory;
-use run_faults::PoolFault;
+use run_options::PoolFault;
 use std::alloc::AllocError;
 
 /// Why the threads of a run return nothing.

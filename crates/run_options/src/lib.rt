@@ -1,7 +1,8 @@
-//! How many workers run the nodes of a network, over what links, and how long; and in which form their transcript is
-//! written.
+//! How many workers run the nodes of a network, over what links, and how long; in which form their transcript is
+//! written; and why a run has no outcome.
 //!
-//! `command_line` reads the options from words, and `node_pool` runs nodes by them.
+//! `command_line` reads the options from words, and `node_pool` runs nodes by them. `node_pool` returns a `PoolFault`,
+//! and `byte_functions` a `RunFault`.
 //!
 //! ```text
 //! let options = Options { workers: 4, capacity: 4, turns: 1_000_000_000, transcript: false };
@@ -9,6 +10,10 @@
 //!
 //! Limits: `MAX_WORKERS`, `MAX_CAPACITY` and `MAX_TURNS`.
 #![tactic(auto)]
+
+mod fault;
+
+pub use fault::{PoolFault, RunFault};
 
 /// The greatest number of workers.
 pub const MAX_WORKERS: u32 = 64;

@@ -8,7 +8,7 @@ use event_rule::{RunRefused, StepRefused};
 use interference::NetFault;
 use net_core::{ReplayRefused, WholeRefused};
 use node_api::Refused;
-use run_faults::PoolFault;
+use run_options::PoolFault;
 use transcripts::TextFault;
 
 /// The line of a fault, if it has one.
