@@ -24,6 +24,7 @@ use Rattle.entries.specs.Rows.{bare_of, stamped_entry}
 use Rattle.entries.specs.declared.rows.StampedEntry.{StampedEntry}
 use Rattle.actor.specs.Kept.{IsKept}
 use Rattle.alpha_laws.specs.Kept.{NodeKept}
+use Rattle.alpha_laws.specs.Stands.{TakesAreLegal}
 use Rattle.actor.specs.Did.{Did}
 use Rattle.actor.specs.HasStamps.{HasStamps}
 use Rattle.actor.specs.Node.{IsAside, by_port, reacted_to}
@@ -39,6 +40,7 @@ use Rattle.actor.proofs.Recorded.{bare-written, same-stamped, same-written}
 use Rattle.actor.proofs.Lists.{as_long, at_place, below_as_many, below_same, same_all}
 use Rattle.actor.proofs.Queued.{parts_of}
 use Rattle.actor.proofs.Steps.{aside_is, full_not_refused, full_stamp, none_and_some, pulsed, put_one, refused_is, refused_not_full, took_one, took_refused}
+use Rattle.actor.proofs.TakenLegal.{aside_legal, took_legal}
 use Rattle.actor.proofs.Writes.{wrote_one_put, wrote_pulsed, wrote_refused, wrote_taken}
 
 -- The end x, of port i, is y now: its list has the wire w more, with stamp s, or nothing more.
@@ -116,6 +118,7 @@ module _ {J S M E : Type 0} {j : wiring.Ghosts J} {program : Program S M E} {v d
     ins = old.ins;
     last_is = old.last_is;
     keeps = old.keeps;
+    legal = old.legal;
     set_aside = old.set_aside;
     writes = same-written same old.writes;
     stamps = same-stamped same old.stamps;
@@ -134,13 +137,14 @@ module _ {J S M E : Type 0} {j : wiring.Ghosts J} {program : Program S M E} {v d
       → aside ≡ None → map {B = ℕ × ℕ} (λ e. (e.vertex, e.port)) puts' ≡ map {B = ℕ × ℕ} (λ e. (e.vertex, e.port)) puts
       → map {B = ℕ × ℕ} (λ e. (e.vertex, e.port)) takes' ≡ map {B = ℕ × ℕ} (λ e. (e.vertex, e.port)) takes → last' ≡ last → is_on wrote' ≡ is_on wrote
       → NodeKept program j.net v new (by_port (map (λ e. put_list e.end) puts')) (by_port (reacted_to aside (map (λ e. taken_list e.end) takes')))
+      → TakesAreLegal program j.net v (by_port (reacted_to aside (map (λ e. taken_list e.end) takes')))
       → IsTranscript program j.net v (is_on wrote) new (by_port (map (λ e. put_list e.end) puts'))
       (by_port (reacted_to aside (map (λ e. taken_list e.end) takes'))) (bare_of (entries_by wrote'))
       → HasStamps j.net v (is_on wrote) counter' (by_port (map (λ e. put_stamped e.end) puts')) (by_port (map (λ e. taken_stamped e.end) takes'))
       (entries_by wrote')
       → ∥ DidOf counter' aside new puts' takes' ∥₁
       → IsKept program v degree aside last' new puts' takes' wrote' counter'
-  kept-by {new} {last'} {counter'} {puts'} {takes'} {wrote'} going outs ins same on keeps writes stamps did = record {
+  kept-by {new} {last'} {counter'} {puts'} {takes'} {wrote'} going outs ins same on keeps legal writes stamps did = record {
     network = old.network;
     is_vertex = old.is_vertex;
     recorded = on ∙ old.recorded;
@@ -149,6 +153,7 @@ module _ {J S M E : Type 0} {j : wiring.Ghosts J} {program : Program S M E} {v d
     ins = ins ∙ old.ins;
     last_is = same ∙ old.last_is;
     keeps = keeps;
+    legal = legal;
     set_aside = λ a e. absurd (none_and_some aside a going e);
     writes = subst (λ t. IsTranscript program j.net v t new (by_port (map (λ e. put_list e.end) puts'))
         (by_port (reacted_to aside (map (λ e. taken_list e.end) takes'))) (bare_of (entries_by wrote'))) (sym on) writes;
@@ -166,6 +171,7 @@ module _ {J S M E : Type 0} {j : wiring.Ghosts J} {program : Program S M E} {v d
       let sent = by_port (map (λ e. put_list e.end) puts) in
       kept-by going refl (same_all (λ e. (e.vertex, e.port)) takes i x y c.is (λ k. (c.place.0 k, c.place.1 k))) refl refl
       (subst (λ l. NodeKept program j.net v node sent (by_port (reacted_to aside l))) wires old.keeps)
+      (subst (λ l. TakesAreLegal program j.net v (by_port (reacted_to aside l))) wires old.legal)
       (subst (λ l. IsTranscript program j.net v (is_on wrote) node sent (by_port (reacted_to aside l)) (bare_of (entries_by wrote))) wires old.writes)
       (subst (λ l. HasStamps j.net v (is_on wrote) counter (by_port (map (λ e. put_stamped e.end) puts)) (by_port l) (entries_by wrote))
       (sym (same_all (λ e. taken_stamped e.end) takes i x y c.is c.same)) old.stamps)
@@ -191,6 +197,7 @@ module _ {J S M E : Type 0} {j : wiring.Ghosts J} {program : Program S M E} {v d
       kept-by going refl (same_all (λ e. (e.vertex, e.port)) takes i x y c.is (λ k. (c.place.0 k, c.place.1 k))) same more.on
       (took_one program j.net (λ e. put_list e.end) (λ e. taken_list e.end) v node new puts takes aside i x y w last old.last_is count_takes lt going
       c.is (wires_gained c) legal' reacts state old.keeps)
+      (took_legal program j.net (λ e. taken_list e.end) v takes aside i x y w count_takes lt going c.is (wires_gained c) legal' old.legal)
       (wrote_taken program j.net (λ e. put_list e.end) (λ e. taken_list e.end) v (is_on wrote) old.network old.is_vertex node new puts takes aside i x y w last
       y.vertex (bare_of (entries_by wrote)) (bare_of (entries_by wrote')) old.last_is count_takes lt going c.is (wires_gained c) reacts state from
       (bare-written more) old.writes)
@@ -227,6 +234,7 @@ module _ {J S M E : Type 0} {j : wiring.Ghosts J} {program : Program S M E} {v d
         last_is = same ∙ old.last_is;
         keeps = took_refused program j.net (λ e. put_list e.end) (λ e. taken_list e.end) v node new puts takes aside i x y w a at count_takes lt going
             c.is (wires_gained c) same_node old.keeps;
+        legal = aside_legal program j.net (λ e. taken_list e.end) v takes aside i x y w a at count_takes lt going c.is (wires_gained c) old.legal;
         set_aside = is_aside;
         writes = wrote_refused program j.net (λ e. put_list e.end) (λ e. taken_list e.end) v (is_on wrote) node new puts takes aside i x y w a
             (bare_of (entries_by wrote)) at count_takes lt going c.is (wires_gained c) same_node old.writes;
@@ -277,6 +285,7 @@ module _ {J S M E : Type 0} {j : wiring.Ghosts J} {program : Program S M E} {v d
       let taken = by_port (reacted_to aside (map (λ e. taken_list e.end) takes)) in
       kept-by going (same_all (λ e. (e.vertex, e.port)) puts i x y c.is (λ k. (c.place.0 k, c.place.1 k))) refl refl refl
       (subst (λ l. NodeKept program j.net v node (by_port l) taken) wires old.keeps)
+      old.legal
       (subst (λ l. IsTranscript program j.net v (is_on wrote) node (by_port l) taken (bare_of (entries_by wrote))) wires old.writes)
       (subst (λ l. HasStamps j.net v (is_on wrote) counter (by_port l) (by_port (map (λ e. taken_stamped e.end) takes)) (entries_by wrote))
       (sym (same_all (λ e. put_stamped e.end) puts i x y c.is c.same)) old.stamps)
@@ -300,6 +309,7 @@ module _ {J S M E : Type 0} {j : wiring.Ghosts J} {program : Program S M E} {v d
       kept-by going (same_all (λ e. (e.vertex, e.port)) puts i x y c.is (λ k. (c.place.0 k, c.place.1 k))) refl same more.on
       (put_one program j.net (λ e. put_list e.end) (λ e. taken_list e.end) v node new puts takes aside i x y w count_puts lt c.is (wires_gained c) oldest
       view state old.keeps)
+      old.legal
       (wrote_one_put program j.net (λ e. put_list e.end) (λ e. taken_list e.end) v (is_on wrote) old.network old.is_vertex node new puts takes aside
       i x y w z.vertex (bare_of (entries_by wrote)) (bare_of (entries_by wrote')) count_puts lt c.is (wires_gained c) oldest view state to
       (bare-written more) old.writes)
@@ -327,6 +337,7 @@ module _ {J S M E : Type 0} {j : wiring.Ghosts J} {program : Program S M E} {v d
       let taken = by_port (reacted_to aside (map (λ e. taken_list e.end) takes)) in
       kept-by going refl refl same more.on
       (pulsed program j.net laws old.network v node new sent taken last old.last_is old.is_vertex can made old.keeps)
+      old.legal
       (wrote_pulsed program j.net v (is_on wrote) node new sent taken last number (bare_of (entries_by wrote)) (bare_of (entries_by wrote')) old.last_is
       can made is (bare-written more) old.writes)
       (has_pulsed program j.net (λ e. put_stamped e.end) (λ e. taken_stamped e.end) v (is_on wrote) old.network old.is_vertex counter next counter' number

@@ -2,6 +2,7 @@ pub mod Lists
 pub mod Queued
 pub mod Kept
 pub mod Steps
+pub mod TakenLegal
 pub mod Written
 pub mod Writes
 pub mod Refusals
@@ -14,3 +15,5 @@ mod Recorded
 pub mod Keeping
 pub mod Counting
 pub mod Attempts
+pub mod ReadFirst
+pub mod Prefixes

@@ -28,7 +28,7 @@ puts_more (Put to x ∷ xs) ys w = ⊎_elim
     (cases_Bool (to == w))
 puts_more (Take from x ∷ xs) ys w = puts_more xs ys w
 
-takes_more : {M : Type 0} (xs ys : List (Entry M)) (w : ℕ) → takes_in (xs ++ ys) w ≡ takes_in xs w ++ takes_in ys w
+pub takes_more : {M : Type 0} (xs ys : List (Entry M)) (w : ℕ) → takes_in (xs ++ ys) w ≡ takes_in xs w ++ takes_in ys w
 takes_more [] ys w = refl
 takes_more (Pulse p ∷ xs) ys w = takes_more xs ys w
 takes_more (Put to x ∷ xs) ys w = takes_more xs ys w

@@ -4,6 +4,7 @@ use Rattle.interference.specs.Net.{IsNetwork, IsVertex, degree_of}
 use Rattle.node_api.specs.Program.{Program, last_pulse_on}
 use Rattle.alpha_core.specs.View.{Node}
 use Rattle.alpha_laws.specs.Kept.{NodeKept}
+use Rattle.alpha_laws.specs.Stands.{TakesAreLegal}
 use Rattle.link_queue.specs.Ends.{put_list, put_stamped, taken_list, taken_stamped}
 use Rattle.entries.specs.Recorded.{entries_by, is_on}
 use Rattle.entries.specs.declared.recorder.Recorder.{Recorder}
@@ -33,6 +34,7 @@ module _ {J S M E : Type 0} {j : wiring.Ghosts J} where
     pub last_is : last ≡ last_pulse_on program j.net
     pub keeps : NodeKept program j.net vertex node (by_port (map (λ e. put_list e.end) puts))
         (by_port (reacted_to aside (map (λ e. taken_list e.end) takes)))
+    pub legal : TakesAreLegal program j.net vertex (by_port (reacted_to aside (map (λ e. taken_list e.end) takes)))
     pub set_aside : (a : Aside M) → aside ≡ Some a →
         IsAside (last_pulse_on program j.net) node.view (map (λ e. taken_list e.end) takes) a
     -- With a transcript, its entries are all that it did, and those lists.

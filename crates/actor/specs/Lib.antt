@@ -10,3 +10,5 @@ pub mod Props
 pub mod Node
 pub mod Tables
 pub mod Links
+pub mod Stands
+pub mod Prefixes

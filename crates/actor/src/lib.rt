@@ -29,9 +29,11 @@
 
 mod aside;
 mod gate;
+pub mod laws;
 mod links;
 mod node;
 mod refused;
+mod standing;
 mod task;
 mod turn;
 mod wired;

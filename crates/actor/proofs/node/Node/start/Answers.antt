@@ -1,10 +1,12 @@
 use Rattle.std.proofs.Common.{[], sym, subst, ap, ◌∙◌, map, refl}
 use Rattle.std.specs.Prelude.{true}
-use Rattle.interference.specs.Net.{IsNetwork, IsVertex, degree_of}
+use Rattle.interference.specs.Net.{IsNetwork, IsVertex, degree_of, neighbour_of}
 use Rattle.node_api.specs.Program.{last_pulse_on}
 use Rattle.alpha_core.specs.Program.{start_node}
 use Rattle.alpha_laws.proofs.NodeLaws.{starts_keep}
 use Rattle.alpha_laws.specs.Kept.{NodeKept}
+use Rattle.alpha_laws.specs.Stands.{TakesAreLegal}
+use Rattle.link_rule.specs.Sent.{IsLegal, sends}
 use Rattle.alpha_laws.proofs.Runs.{runs}
 use Rattle.entries.specs.Recorded.{entries_by, is_on}
 use Rattle.entries.specs.Rows.{bare_of}
@@ -12,6 +14,7 @@ use Rattle.link_queue.specs.Ends.{put_list, put_stamped, taken_list, taken_stamp
 use Rattle.actor.specs.Node.{by_port, links_in, links_out}
 use Rattle.actor.proofs.Lists.{none_at}
 use Rattle.actor.proofs.Kept.{node_same}
+use Rattle.actor.proofs.TakenLegal.{none_legal}
 use Rattle.actor.proofs.HasStamps.{has_at_start, none_stamped_at}
 use Rattle.actor.specs.Written.{IsTranscript}
 use Rattle.actor.proofs.Written.{starts_transcript}
@@ -41,6 +44,11 @@ invariant_of-result g c =
         keeps = subst (λ net. NodeKept program net c.args.vertex c.in_ok-alpha.alpha.node sent
             taken) same (subst (λ n. NodeKept program c.args.net.now c.args.vertex n sent
             taken) (sym c.in_ok-alpha.ensures.node) kept);
+        legal = subst (λ net. TakesAreLegal program net c.args.vertex taken) same (λ i lt.
+            let w = neighbour_of c.args.net.now c.args.vertex i in
+            subst (λ l. IsLegal program c.args.net.now w c.args.vertex l)
+            (none_at (λ e. taken_list e.end) c.args.takes.items c.requires.nothing_taken i)
+            (none_legal (last_pulse_on program c.args.net.now) (sends program c.args.net.now w c.args.vertex) (sends program c.args.net.now c.args.vertex w)));
         set_aside = λ a none. absurd cc;
         writes = subst (λ net. IsTranscript program net c.args.vertex (is_on c.new-2.result) c.in_ok-alpha.alpha.node sent taken
             (bare_of (entries_by c.new-2.result))) same
