@@ -16,3 +16,12 @@ pub mod Fires
 pub mod Commute
 pub mod Room
 pub mod Short
+pub mod Changes
+pub mod Later
+pub mod Turned
+pub mod Levels
+pub mod Enough
+pub mod ThreePasses
+pub mod LastPass
+pub mod Passes
+pub mod Existing

@@ -75,7 +75,7 @@ module _ {S M E : Type 0} {program : Program S M E} {net : Net} (ok : IsNetwork 
         nodes.counted_whole program net ok (node_of program net state) sent taken held simulation (all_kept ok kept).splits (sym counted ∙ many)
 
   -- an event that is possible leads on
-  leads_on : (state : State S M) → NetKept program net state → (event : Event) → Possible program net state event
+  pub leads_on : (state : State S M) → NetKept program net state → (event : Event) → Possible program net state event
       → (next : State S M) × Steps program net state event next
   leads_on state good event possible = from (step program net state event) (stepped ok runs good event)
     where
@@ -89,7 +89,7 @@ module _ {S M E : Type 0} {program : Program S M E} {net : Net} (ok : IsNetwork 
   one_more [] state last next event same s = (next, subst (λ l. Steps program net l event next) same s, refl)
   one_more (first ∷ events) state last next event (middle, f, rest) s = (middle, f, one_more events middle last next event rest s)
 
-  run_more : (events : List Event) (state next : State S M) (event : Event) → run program net events ≡ Ok state → Steps program net state event next
+  pub run_more : (events : List Event) (state next : State S M) (event : Event) → run program net events ≡ Ok state → Steps program net state event next
       → run program net (events ++ (event ∷ [])) ≡ Ok next
   run_more events state next event is s =
       ((runs-exactly ok runs (events ++ (event ∷ []))).accepts next).1

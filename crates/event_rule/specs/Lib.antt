@@ -11,3 +11,4 @@ pub mod Laws
 pub mod Endings
 pub mod Commute
 pub mod Progress
+pub mod Passes

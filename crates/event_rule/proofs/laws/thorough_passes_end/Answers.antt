@@ -1,0 +1,10 @@
+use Rattle.alpha_laws.proofs.Runs.{runs}
+use Rattle.event_rule.proofs.Existing.{exist}
+use Rattle.event_rule.proofs.Passes.{few}
+use Rattle.event_rule.proofs.laws.thorough_passes_end.Goals as goal
+
+pub returns : goal.returns
+returns g c = record {
+  ends = λ program laws net ok. few ok (runs program laws net ok);
+  exist = λ program laws net ok. exist ok (runs program laws net ok);
+}
