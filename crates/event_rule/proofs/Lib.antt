@@ -25,3 +25,4 @@ pub mod ThreePasses
 pub mod LastPass
 pub mod Passes
 pub mod Existing
+pub mod PulseMachine

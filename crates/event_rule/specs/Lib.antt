@@ -12,3 +12,4 @@ pub mod Endings
 pub mod Commute
 pub mod Progress
 pub mod Passes
+pub mod PulseMachine

@@ -7,6 +7,7 @@ ghost use Rattle.event_rule.specs.Passes.{ThoroughPassesEnd, ThoroughPassesExist
 ghost use Rattle.event_rule.specs.Progress.{MaximalRunsAgree, MaximalRunsEnd, NoDeadlock, RunsAreBounded};
 ghost use Rattle.event_rule.specs.Progress.{RunsAreCounted, RunsAreShort, RunsCanBeCompleted, RunsHaveRoom};
 ghost use Rattle.event_rule.specs.Progress.{WholeStatesAreTerminal};
+ghost use Rattle.event_rule.specs.PulseMachine.{SimulatesPulseMachine};
 
 /// In every state that a list of events reaches, some event is possible, or every node is drained and no link holds a
 /// wire; over links of any capacity but none. In a state of the second kind no event is possible.
@@ -55,4 +56,10 @@ pub fn runs_are_short<S, M, E>()
 pub fn thorough_passes_end<S, M, E>()
     ensures ends { (program : Program S M E) → OnEveryNetwork program (ThoroughPassesEnd program) }
     ensures exist { (program : Program S M E) → OnEveryNetwork program (ThoroughPassesExist program) }
+{}
+
+/// Every run simulates the pulse machine, which has the nodes' pulses and nothing else: a pulse is a step of it, which
+/// a node may make that isn't ahead of a neighbour, and a put or a take leaves it as it is.
+pub fn runs_simulate_the_pulse_machine<S, M, E>()
+    ensures law { (program : Program S M E) → OnEveryNetwork program (SimulatesPulseMachine program) }
 {}
