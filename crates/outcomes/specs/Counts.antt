@@ -1,12 +1,13 @@
 -- How many wires a run of workers put on its links.
-use Rattle.std.specs.Prelude.{◌≡◌, ℕ, ◌+◌, ◌*◌, Bool, true, length, sum_by}
+use Rattle.std.specs.Prelude.{◌≡◌, ℕ, ◌+◌, ◌*◌, ◌<◌, Bool, true, length, sum_by}
 use Rattle.interference.specs.Net.{Net}
 use Rattle.interference.specs.Counts.{edge_count_of}
 use Rattle.node_api.specs.Program.{Program, last_pulse_on}
 use Rattle.wires.specs.StampedWires.{wires_of}
 use Rattle.wires.specs.Wires.{payloads_of}
 use Rattle.alpha_laws.specs.Counts.{payloads_sent}
-use Rattle.outcomes.specs.Outcome.{Outcome, IsOutcome, is_whole}
+use Rattle.alpha_laws.specs.PulseCounts.{PulseIsCounted}
+use Rattle.outcomes.specs.Outcome.{Outcome, IsOutcome, is_whole, put_by}
 
 -- how many wires were put, on all links
 abbrev pub wires_put : {S M : Type 0} → Outcome S M → ℕ
@@ -27,3 +28,10 @@ abbrev pub WholeOutcomesAreCounted : {S M E : Type 0} → Program S M E → Net 
 WholeOutcomesAreCounted {S} {M} program net =
     (capacity : ℕ) (transcript : Bool) (outcome : Outcome S M)
     → IsOutcome program net capacity transcript outcome → is_whole outcome ≡ true → WiresAreCounted program net outcome
+
+-- So are the messages of each pulse below the last one.
+abbrev pub PulsesOfWholeOutcomesAreCounted : {S M E : Type 0} → Program S M E → Net → Type 0
+PulsesOfWholeOutcomesAreCounted {S} {M} program net =
+    (capacity : ℕ) (transcript : Bool) (outcome : Outcome S M)
+    → IsOutcome program net capacity transcript outcome → is_whole outcome ≡ true
+    → (q : ℕ) → q < last_pulse_on program net → PulseIsCounted program net (put_by outcome) q

@@ -3,7 +3,7 @@
 
 ghost use Rattle.node_api.specs.Program.{Program};
 ghost use Rattle.alpha_laws.specs.Laws.{OnEveryNetwork};
-ghost use Rattle.outcomes.specs.Counts.{WholeOutcomesAreCounted};
+ghost use Rattle.outcomes.specs.Counts.{PulsesOfWholeOutcomesAreCounted, WholeOutcomesAreCounted};
 ghost use Rattle.outcomes.specs.Fits.{MetStampsAreBounded};
 ghost use Rattle.outcomes.specs.Held.{OutcomesHoldAtMostTwo};
 ghost use Rattle.outcomes.specs.Laws.{MetNodesSimulate};
@@ -26,9 +26,12 @@ pub fn whole_outcomes_are_complete<S, M, E>()
 {}
 
 /// If an outcome is whole, the wires put on all links are twice the payloads among them and 2·edges·(R + 1) more, where
-/// R is the last pulse; and the payloads are as many as the synchronous run sends.
+/// R is the last pulse; and the payloads are as many as the synchronous run sends. Of each pulse below R there are
+/// 2·edges safes, the payloads of that pulse, and as many acknowledgements.
 pub fn whole_outcomes_are_counted<S, M, E>()
     ensures law { (program : Program S M E) (net : Net) → IsNetwork net → WholeOutcomesAreCounted program net }
+    ensures pulses { (program : Program S M E) (net : Net) → IsNetwork net
+        → PulsesOfWholeOutcomesAreCounted program net }
 {}
 
 /// No link of an outcome holds more than two wires, whatever its capacity is: of each direction at most two emitted
