@@ -17,4 +17,4 @@
 
 mod run;
 
-pub use run::run_workers;
+pub use run::{run_observed, run_workers};

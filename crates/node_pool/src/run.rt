@@ -8,7 +8,7 @@ ghost use Rattle.run_options.specs.Ranges.{AreInRange};
 ghost use Rattle.port_rows.specs.Rows.{rows_of};
 ghost use Rattle.node_runs.specs.Makes.{AreMade, tables_of};
 
-use actor::{Gate, Wiring};
+use actor::{Gate, Observer, Unobserved, Wiring};
 use interference::Network;
 use node_api::NodeProgram;
 use node_runs::{Made, Ran, make_links, start_and_run};
@@ -35,6 +35,7 @@ fn run_and_gather<
     J: Wiring + Send + Sync,
     P: NodeProgram,
     G: Gate + Sync,
+    O: Observer + Sync,
     R: Threads + Wait + Sync,
 >(
     rt: &R,
@@ -42,9 +43,11 @@ fn run_and_gather<
     net: &Network,
     options: Options,
     gate: &G,
+    observer: &O,
     made: Made<P>,
 ) -> Result<Outcome<P>, ThreadsFault>
     requires network { J.net ≡ net.now }
+    requires observed { O.observes net.now }
     requires tables { J.tables ≡ tables_of (rows_of made.ends.items) }
     requires links { J.links ≡ map table_of made.links.items }
     requires made { AreMade net.now options.capacity made.links.items (rows_of made.ends.items) }
@@ -53,8 +56,41 @@ fn run_and_gather<
     ensures outcome { IfOk result
         (λ outcome. IsOutcome P.program net.now options.capacity options.transcript outcome) }
 {
-    let Ran { nodes, links } = start_and_run::<J, P, G, R>(rt, alloc, net, options, gate, made)?;
+    let Ran { nodes, links } = start_and_run::<J, P, G, O, R>(
+        rt, alloc, net, options, gate, observer, made,
+    )?;
     Ok(gathered(rt, alloc, net, &links, nodes)?)
+}
+
+/// Runs all nodes of a network as `run_workers` does, and calls `observer.sees` with each node before and after each of
+/// its turns, whether or not the run ends. What an observer may use of such a node are the clauses of `Observer::sees`.
+///
+/// # Errors
+///
+/// Those of `run_workers`.
+pub fn run_observed<P: NodeProgram, G: Gate + Sync, O: Observer + Sync, R: Threads + Wait + Sync>(
+    rt: &R,
+    alloc: Global,
+    net: &Network,
+    options: Options,
+    gate: &G,
+    observer: &O,
+) -> Result<Outcome<P>, PoolFault>
+    requires observed { O.observes net.now }
+    ensures outcome { IfOk result
+        (λ outcome. IsOutcome P.program net.now options.capacity options.transcript outcome) }
+    ensures in_range { IfOk result (λ _. AreInRange options) }
+    ensures bad_options { IfErr result (λ fault. fault ≡ BadOptions → AreInRange options → ⊥) }
+    ensures stamps_fit { IfErr result (λ fault. fault ≢ StampFull) }
+    ensures reported_first { (AreInRange options → ⊥) → result ≡ Err BadOptions }
+{
+    if !are_in_range(options) {
+        return Err(PoolFault::BadOptions);
+    }
+    let Ok(made) = make_links::<P>(alloc, net, options.capacity as usize) else {
+        return Err(PoolFault::Memory);
+    };
+    Ok(run_and_gather::<Brand, P, G, O, R>(rt, alloc, net, options, gate, observer, made)?)
 }
 
 /// Runs all nodes of a network asynchronously, on worker threads with links between the nodes.
@@ -82,11 +118,5 @@ pub fn run_workers<P: NodeProgram, G: Gate + Sync, R: Threads + Wait + Sync>(
     ensures stamps_fit { IfErr result (λ fault. fault ≢ StampFull) }
     ensures reported_first { (AreInRange options → ⊥) → result ≡ Err BadOptions }
 {
-    if !are_in_range(options) {
-        return Err(PoolFault::BadOptions);
-    }
-    let Ok(made) = make_links::<P>(alloc, net, options.capacity as usize) else {
-        return Err(PoolFault::Memory);
-    };
-    Ok(run_and_gather::<Brand, P, G, R>(rt, alloc, net, options, gate, made)?)
+    run_observed::<P, G, Unobserved, R>(rt, alloc, net, options, gate, &Unobserved)
 }

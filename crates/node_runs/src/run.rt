@@ -14,7 +14,7 @@ use crate::making::Made;
 use crate::refusals::fault_of_refusals;
 use crate::starting::start_nodes;
 use crate::turns::turn_of;
-use actor::{Gate, Links, Node, Wiring};
+use actor::{Gate, Links, Node, Observer, Wiring};
 use interference::Network;
 use node_api::NodeProgram;
 use pool::{ThreadsFault, Turned, run_tasks};
@@ -32,22 +32,33 @@ pub struct Ran<J: Wiring, P: NodeProgram> {
 
 // Runs the nodes, given from the last vertex down, and returns each node once, ascending. None of them remembers that
 // memory was refused to a turn.
-fn run_nodes<J: Wiring + Send + Sync, P: NodeProgram, G: Gate + Sync, R: Threads + Wait + Sync>(
+fn run_nodes<
+    J: Wiring + Send + Sync,
+    P: NodeProgram,
+    G: Gate + Sync,
+    O: Observer + Sync,
+    R: Threads + Wait + Sync,
+>(
     rt: &R,
     alloc: Global,
+    net: &Network,
     links: &Links<J, P>,
     gate: &G,
+    observer: &O,
     nodes: Vec<Box<Node<J, P>>>,
     options: Options,
 ) -> Result<Vec<Box<Node<J, P>>>, ThreadsFault>
+    requires network { J.net ≡ net.now }
+    requires observed { O.observes net.now }
     requires nodes { map (λ b. b.value.vertex) nodes.items ≡ reverse (vertices J.net) }
     requires workers { (1 ≤ options.workers) × (options.workers ≤ MAX_WORKERS) }
     ensures order { IfOk result (λ all. map (λ b. b.value.vertex) all.items ≡ vertices J.net) }
     ensures none_refused { IfOk result (λ all. All (λ b. refusal_of b.value ≢ Some Memory) all.items) }
 {
     let turn = |node: &mut Box<Node<J, P>>, worker: u32| -> Turned
+        requires { (J.net ≡ net.now) × O.observes net.now }
         ensures { node.new.value.vertex ≡ node.old.value.vertex }
-    { turn_of(rt, links, gate, worker, node) };
+    { turn_of(rt, net, links, gate, observer, worker, node) };
     let nodes = run_tasks(rt, alloc, turn, nodes, options)?;
     fault_of_refusals(nodes.as_slice())?;
     Ok(nodes)
@@ -65,6 +76,7 @@ pub fn start_and_run<
     J: Wiring + Send + Sync,
     P: NodeProgram,
     G: Gate + Sync,
+    O: Observer + Sync,
     R: Threads + Wait + Sync,
 >(
     rt: &R,
@@ -72,9 +84,11 @@ pub fn start_and_run<
     net: &Network,
     options: Options,
     gate: &G,
+    observer: &O,
     made: Made<P>,
 ) -> Result<Ran<J, P>, ThreadsFault>
     requires network { J.net ≡ net.now }
+    requires observed { O.observes net.now }
     requires tables { J.tables ≡ tables_of (rows_of made.ends.items) }
     requires links { J.links ≡ map table_of made.links.items }
     requires made { AreMade net.now options.capacity made.links.items (rows_of made.ends.items) }
@@ -88,6 +102,6 @@ pub fn start_and_run<
     let Made { links, ends } = made;
     let nodes = start_nodes::<J, P>(alloc, net, ends, options.transcript)?;
     let links = Links::<J, P>::new(links);
-    let nodes = run_nodes(rt, alloc, &links, gate, nodes, options)?;
+    let nodes = run_nodes(rt, alloc, net, &links, gate, observer, nodes, options)?;
     Ok(Ran { nodes, links })
 }

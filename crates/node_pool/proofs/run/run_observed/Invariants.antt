@@ -2,7 +2,7 @@ use Rattle.std.proofs.Common.{map}
 use Rattle.actor.specs.Tables.{table_of}
 use Rattle.port_rows.specs.Rows.{rows_of}
 use Rattle.node_runs.specs.Makes.{tables_of}
-use Rattle.node_pool.proofs.run.run_workers.Given as goal
+use Rattle.node_pool.proofs.run.run_observed.Given as goal
 
 abbrev pub ghosts-run_and_gather : goal.ghosts-run_and_gather
 ghosts-run_and_gather g a = record {
