@@ -1,4 +1,4 @@
--- The transcript of a whole run is the answer to an input.
+-- The transcript of a whole run, and what it answers to an input.
 use Rattle.std.proofs.Common.{◌≡◌, ◌-◌, ◌∙◌, [], ℕ, suc, All, Bool, List, ap, arith, length, map, refl, slice_index_or, subst, sym, true}
 use Rattle.std.proofs.lemmas.List.{length-map}
 use Rattle.std.proofs.lemmas.List.FromFn.{length-range_with_len}
@@ -11,13 +11,14 @@ use Rattle.run_options.specs.declared.Edition.{Edition}
 use Rattle.run_options.specs.declared.Edition.TheVariants as edition
 use Rattle.stamps.specs.Merged.{IsMerge}
 use Rattle.stamps.specs.Stamps.{Rises}
-use Rattle.dimacs_col.specs.Lines.{lines_of}
 use Rattle.program_texts.specs.PayloadTexts.{PayloadTexts}
 use Rattle.answers.specs.Answers.{ReadsAs}
-use Rattle.answers.specs.Settings.{OfSet}
-use Rattle.answers.specs.declared.setting.Setting.{Setting}
-use Rattle.answers.proofs.Settings.{lines-more}
-use Rattle.byte_functions.specs.Transcripts.{IsMergedText, IsMergedTranscriptOf, IsTextIn, IsTranscriptIn, IsTranscriptOf, entries_text}
+use Rattle.byte_functions.specs.Transcripts.{IsMergedText, IsMergedTranscriptOf, IsTextIn, IsTranscriptOf, IsTranscriptOn, entries_text}
+
+-- what holds of the network that was read is said of the input
+pub read-as : (input : List ℕ) (net : Net) (Q : Net → Type 0) → ReadsAs input (λ read. IsNetwork read × (net ≡ read)) → Q net
+    → ReadsAs input (λ read. IsNetwork read × Q read)
+read-as input net Q (graph, reads, is) holds = (graph, reads, (is.0, subst Q is.1 holds))
 
 -- there are as many nodes as vertices
 pub nodes-count : {S M E : Type 0} (program : Program S M E) (net : Net) (capacity : ℕ) (transcript : Bool) (outcome : Outcome S M)
@@ -37,28 +38,17 @@ module _ {S M E : Type 0} (program : Program S M E) (net : Net) (capacity : ℕ)
       subst (λ k. Rises (slice_index_or (map (λ node. node.entries) outcome.nodes) k [])) back
       (is.rises refl (suc i) (omega arith, omega (arith, lt, few, same))))
 
-module _ {S M E : Type 0} (program : Program S M E) (payloads : PayloadTexts M) (words : List ℕ) (setting : Setting) (input text : List ℕ)
-    (net : Net) (capacity : ℕ) (outcome : Outcome S M)
-    (reads : ReadsAs input (OfSet setting (λ read. IsNetwork read × (net ≡ read)))) (is : IsOutcome program net capacity true outcome)
-    (whole : is_whole outcome ≡ true) where
-  -- what holds of the network that was read
-  read-as : (Q : Net → Type 0) → Q net → ReadsAs input (OfSet setting (λ read. IsNetwork read × Q read))
-  read-as Q is_so =
-      lines-more setting (lines_of input) (λ read. IsNetwork read × (net ≡ read)) (λ read. IsNetwork read × Q read)
-      (λ read both. (both.0, subst Q both.1 is_so)) reads
-
-  recorded : text ≡ entries_text payloads (count_of net) outcome.nodes → IsTranscriptIn program payloads words edition.One setting input text
-  recorded told =
-      let of_net : IsTranscriptOf program payloads net text =
-      record { capacity = capacity; outcome = outcome; is_outcome = is; whole = whole; is_text = told } in
-      read-as (λ n. IsTranscriptOf program payloads n text) of_net
+module _ {S M E : Type 0} (program : Program S M E) (payloads : PayloadTexts M) (words text : List ℕ) (net : Net) (capacity : ℕ)
+    (outcome : Outcome S M) (is : IsOutcome program net capacity true outcome) (whole : is_whole outcome ≡ true) where
+  recorded : text ≡ entries_text payloads (count_of net) outcome.nodes → IsTranscriptOf program payloads net text
+  recorded told = record { capacity = capacity; outcome = outcome; is_outcome = is; whole = whole; is_text = told }
 
   merged : IsMergedText payloads words (count_of net) outcome.nodes text → WholeOutcomesReplay program net
-      → IsTranscriptIn program payloads words edition.Two setting input text
+      → IsMergedTranscriptOf program payloads words net text
   merged (rows, merge, told) law =
       let all = subst (λ n. IsMerge n (entries_in outcome) rows) (nodes-count program net capacity true outcome is) merge in
       let played = law capacity outcome is whole rows all in
-      let of_net : IsMergedTranscriptOf program payloads words net text = record {
+      record {
         capacity = capacity;
         outcome = outcome;
         is_outcome = is;
@@ -68,11 +58,10 @@ module _ {S M E : Type 0} (program : Program S M E) (payloads : PayloadTexts M) 
         last = played.0;
         is_replay = played.1;
         is_text = told;
-      } in
-      read-as (λ n. IsMergedTranscriptOf program payloads words n text) of_net
+      }
 
-  -- the text in an edition is the answer
+  -- the text in an edition is the transcript
   pub answered : (edition : Edition) → WholeOutcomesReplay program net → IsTextIn payloads words edition (count_of net) outcome.nodes text
-      → IsTranscriptIn program payloads words edition setting input text
+      → IsTranscriptOn program payloads words edition net text
   answered edition.One law told = recorded told
   answered edition.Two law told = merged told law

@@ -28,7 +28,7 @@ use Rattle.answers.specs.declared.setting.Setting.{Setting}
 use Rattle.answers.proofs.Settings.{lines-more}
 use Rattle.answers.proofs.Plain.{plain}
 use Rattle.byte_functions.specs.Colours.{merged_of}
-use Rattle.byte_functions.specs.Workers.{IsFaultOfPool, IsFaultOfRun, IsFaultOfWorkers}
+use Rattle.byte_functions.specs.Workers.{IsFaultOfPool, IsFaultOfRun, IsFaultOfTranscript, IsFaultOfWorkers}
 
 -- ---- the faults
 ranges : (o : Options) → AreInRange o ⊎ (AreInRange o → ⊥)
@@ -65,17 +65,28 @@ pub without_transcript : (o : Options) (transcript : Bool)
 without_transcript o transcript is =
     record { some_worker = is.some_worker; workers = is.workers; some_capacity = is.some_capacity; capacity = is.capacity }
 
--- a network was read, and the fault of its run is that of the input
+-- a fault of the run is one of its transcript
+pub transcript-fault : (o : Options) (fault : RunFault) → IsFaultOfRun o fault → IsFaultOfTranscript o fault
+transcript-fault o (run.Pool fault) is = is
+transcript-fault o run.Stopped is = is
+transcript-fault o run.Memory is = tt
+
+-- a network was read, and the fault of its run, or of the transcript, is that of the input
 only-network : (setting : Setting) (input : List ℕ) (net : Net) → ReadsAs input (OfSet setting (λ read. IsNetwork read × (net ≡ read)))
     → ReadsAs input (OfSet setting IsNetwork)
 only-network setting input net = lines-more setting (lines_of input) (λ read. IsNetwork read × (net ≡ read)) (λ read. IsNetwork read) (λ read both. both.0)
 
+pub recorders-fault : (setting : Setting) (input : List ℕ) (net : Net) (o : Options) (fault : RunFault)
+    → ReadsAs input (OfSet setting (λ read. IsNetwork read × (net ≡ read))) → IsFaultOfTranscript o fault
+    → IsFaultOfWorkers setting o input (fault_of_run fault)
+recorders-fault setting input net o (run.Pool fault) read is = (only-network setting input net read, is)
+recorders-fault setting input net o run.Stopped read is = (only-network setting input net read, is)
+recorders-fault setting input net o run.Memory read is = tt
+
 pub workers-fault : (setting : Setting) (input : List ℕ) (net : Net) (o : Options) (fault : RunFault)
     → ReadsAs input (OfSet setting (λ read. IsNetwork read × (net ≡ read))) → IsFaultOfRun o fault
     → IsFaultOfWorkers setting o input (fault_of_run fault)
-workers-fault setting input net o (run.Pool fault) read is = (only-network setting input net read, is)
-workers-fault setting input net o run.Stopped read is = (only-network setting input net read, is)
-workers-fault setting input net o run.Memory read is = absurd is
+workers-fault setting input net o fault read is = recorders-fault setting input net o fault read (transcript-fault o fault is)
 
 -- ---- the plan
 abbrev Left : Type 0

@@ -9,9 +9,6 @@ use Rattle.program_texts.specs.Texts.{ProgramTexts}
 use Rattle.transcripts.specs.TranscriptText.{named_edition, stamped_row_text, text_of, transcript_of}
 use Rattle.program_texts.specs.PayloadTexts.{PayloadTexts}
 use Rattle.answers.specs.Answers.{ReadsAs}
-use Rattle.answers.specs.Settings.{OfSet}
-use Rattle.answers.specs.declared.setting.Setting.{Setting}
-use Rattle.answers.specs.declared.setting.Setting.TheVariants.{AsRead}
 use Rattle.event_rule.specs.Whole.{IsWholeReplay}
 use Rattle.run_options.specs.declared.Edition.{Edition}
 use Rattle.run_options.specs.declared.Edition.TheVariants as edition
@@ -68,19 +65,12 @@ module _ {S M E : Type 0} (program : Program S M E) (payloads : PayloadTexts M) 
     pub is_replay : IsWholeReplay program net rows last
     pub is_text : text ≡ text_of words (stamped_row_text payloads) (count_of net) rows
 
-  -- the answer is the transcript of a whole run on the network that the input describes, as it is set: without stamps
-  -- or with them
-  abbrev pub IsTranscriptIn : List ℕ → Edition → Setting → List ℕ → List ℕ → Type 0
-  IsTranscriptIn words edition.One setting input answer =
-      ReadsAs input (OfSet setting (λ net. IsNetwork net × IsTranscriptOf net answer))
-  IsTranscriptIn words edition.Two setting input answer =
-      ReadsAs input (OfSet setting (λ net. IsNetwork net × IsMergedTranscriptOf words net answer))
+  -- the text is the transcript of a whole run on the network: without stamps or with them
+  abbrev pub IsTranscriptOn : List ℕ → Edition → Net → List ℕ → Type 0
+  IsTranscriptOn words edition.One net text = IsTranscriptOf net text
+  IsTranscriptOn words edition.Two net text = IsMergedTranscriptOf words net text
 
-  -- the same, in edition 1 or 2, of the network as it is read
+  -- the answer is that, in edition 1 or 2, of the network that the input describes
   abbrev pub IsTranscriptAnswer : Edition → List ℕ → List ℕ → Type 0
-  IsTranscriptAnswer edition input answer = IsTranscriptIn (codes "2") edition AsRead input answer
-
-  -- the same of a program with texts: its transcript with stamps names it, unless it has edition 2
-  abbrev pub IsProgramTranscript : ProgramTexts S → Edition → Setting → List ℕ → List ℕ → Type 0
-  IsProgramTranscript texts edition setting input answer =
-      IsTranscriptIn (stamped_edition texts) edition setting input answer
+  IsTranscriptAnswer edition input answer =
+      ReadsAs input (λ net. IsNetwork net × IsTranscriptOn (codes "2") edition net answer)

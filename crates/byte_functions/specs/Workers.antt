@@ -44,8 +44,13 @@ IsFaultOfRun options (run.Pool fault) = IsFaultOfPool options fault
 IsFaultOfRun options run.Stopped = AreInRange options
 IsFaultOfRun options run.Memory = ⊥
 
--- The fault of an input of `plan`, of `transcript` and of `run`: of the run, or else of the text, which is that of its
--- reading, of the root, of the network, or of memory.
+-- The fault of the transcript of a run: that of the run, or that memory ran out for the text.
+abbrev pub IsFaultOfTranscript : Options → RunFault → Type 0
+IsFaultOfTranscript options run.Memory = Unit {0}
+IsFaultOfTranscript options fault = IsFaultOfRun options fault
+
+-- The fault of an input of `plan`, of `transcript` and of `run`: that of the text, or else that of the run on its
+-- network.
 abbrev pub IsFaultOfWorkers : Setting → Options → List ℕ → PlanFault → Type 0
 IsFaultOfWorkers setting options input (plan.Pool fault) =
     ReadsAs input (OfSet setting IsNetwork) × IsFaultOfPool options fault

@@ -4,8 +4,8 @@
 //! It names no stream, no command line and no system, so that a test or another program calls the same functions. The
 //! functions of all other commands are in `answers`, which needs no thread.
 //!
-//! `plan_commands` calls `plan_bytes` or `transcript_bytes` for a command. For any program of nodes, `play_commands`
-//! calls `run_transcript_bytes`, and `run_answers` makes of `whole_run` what `forestplay run` prints.
+//! `plan_commands` calls `plan_bytes` or `transcript_bytes` for a command. For any program of nodes, `run_answers`
+//! calls `whole_run` and `run_transcript`, of which it makes what `forestplay run` prints.
 //!
 //! `coloured_runs` has what the simulation says of two programs, the colouring and `Greatest`: every list of events
 //! simulates their synchronous run, and halted nodes are coloured, whatever ran them. So `plan_bytes` is `plain_bytes`
@@ -29,5 +29,5 @@ mod transcript;
 mod workers;
 
 pub use merged::push_edition_line;
-pub use transcript::{run_transcript_bytes, transcript_bytes};
+pub use transcript::{run_transcript, transcript_bytes};
 pub use workers::{plan_bytes, whole_run};

@@ -7,21 +7,21 @@ ghost use Rattle.outcomes.specs.Gathers.{gathered_of};
 ghost use Rattle.stamps.specs.Stamps.{Rises};
 ghost use Rattle.program_texts.specs.PayloadTexts.{payload_texts};
 ghost use Rattle.byte_functions.specs.Payloads.{colouring_payloads};
-ghost use Rattle.byte_functions.specs.Transcripts.{IsProgramTranscript, IsTextIn, IsTranscriptAnswer, entries_text};
+ghost use Rattle.byte_functions.specs.Transcripts.{IsTextIn, IsTranscriptAnswer, IsTranscriptOn, entries_text};
 ghost use Rattle.byte_functions.specs.Transcripts.{stamped_edition};
-ghost use Rattle.byte_functions.specs.Workers.{IsFaultOfWorkers};
+ghost use Rattle.byte_functions.specs.Workers.{IsFaultOfTranscript, IsFaultOfWorkers};
 
 use crate::merged::merged_text;
 use crate::workers::whole_run;
 use actor::Gate;
 use answers::{PlanFault, Setting, network_of_text};
 use colour_program::Colouring;
-use interference::Memory;
+use interference::{Memory, Network};
 use node_api::{NodeProgram, Refused};
 use outcomes::Actor;
 use outcomes::laws::whole_outcomes_replay;
 use program_texts::ProgramText;
-use run_options::{Edition, Options};
+use run_options::{Edition, Options, RunFault};
 use std::alloc::Global;
 use std::sync::Wait;
 use std::thread::Threads;
@@ -65,41 +65,42 @@ fn text_in<P: ProgramText>(
     }
 }
 
-/// The transcript of a run of a program on the network that a DIMACS text describes: what each node put, took and did
-/// until its last pulse. In edition 1 it has the entries of each node in its own order, vertex by vertex; in edition 2
-/// all entries in the order of their stamps and then of their vertices, which is a run that `replay_bytes` accepts. If
-/// the program is named, the latter has edition 3, with the name in its first line. The run is as in `plan_bytes`, but
-/// has a transcript, whatever the options say. The network is as `setting` says. With more than one worker two calls
-/// may give different transcripts.
+/// The transcript of a run of a program on a network, which is dropped when the run is over: what each node put, took
+/// and did until its last pulse. In edition 1 it has the entries of each node in its own order, vertex by vertex; in
+/// edition 2 all entries in the order of their stamps and then of their vertices, which is a run that `replay_bytes`
+/// accepts. If the program is named, the latter has edition 3, with the name in its first line. The run is as in
+/// `plan_bytes`, but has a transcript, whatever the options say. With more than one worker two calls may give different
+/// transcripts.
 ///
 /// It is not promised that the call returns, nor that any number of looks is enough.
 ///
 /// # Errors
-/// As of `plan_bytes`; and before the fault of the network `NoRoot` if the root is no vertex.
-pub fn run_transcript_bytes<P: ProgramText, G: Gate + Sync, R: Threads + Wait + Sync>(
+/// As of `whole_run`; then `Memory` if there is no memory for the text.
+pub fn run_transcript<P: ProgramText, G: Gate + Sync, R: Threads + Wait + Sync>(
     rt: &R,
     alloc: Global,
-    input: &[u8],
-    setting: Setting,
+    network: Network,
     options: Options,
     edition: Edition,
     gate: &G,
-) -> Result<Vec<u8>, PlanFault>
-    ensures ok { IfOk result (λ text. IsProgramTranscript P.program (payload_texts P.Payload.PayloadText.own) P.texts
-        edition setting input.now text.items) }
+) -> Result<Vec<u8>, RunFault>
+    ensures ok { IfOk result (λ text. IsTranscriptOn P.program (payload_texts P.Payload.PayloadText.own)
+        (stamped_edition P.texts) edition network text.items) }
     ensures in_range { IfOk result (λ _. AreInRange options) }
-    ensures fault { IfErr result (IsFaultOfWorkers setting options input.now) }
+    ensures fault { IfErr result (IsFaultOfTranscript options) }
 {
     whole_outcomes_replay::<P, P::Payload, Refused>();
-    let network = network_of_text(alloc, input, setting)?;
     let outcome = whole_run::<P, G, R>(rt, alloc, &network, options, true, gate)?;
     let count = network.nodes();
     // The text takes the room of what it doesn't speak of any more.
     drop(network);
-    Ok(text_in(alloc, edition, count, outcome.into_actors())?)
+    match text_in(alloc, edition, count, outcome.into_actors()) {
+        Ok(text) => Ok(text),
+        Err(_) => Err(RunFault::Memory),
+    }
 }
 
-/// `run_transcript_bytes` of the colouring.
+/// The transcript of a run of the colouring, as `run_transcript` makes it, on the network that a DIMACS text describes.
 ///
 /// # Errors
 /// As of `plan_bytes`.
@@ -115,13 +116,6 @@ pub fn transcript_bytes<G: Gate + Sync, R: Threads + Wait + Sync>(
     ensures in_range { IfOk result (λ _. AreInRange options) }
     ensures fault { IfErr result (IsFaultOfWorkers Setting.AsRead options input.now) }
 {
-    run_transcript_bytes::<Colouring, G, R>(
-        rt,
-        alloc,
-        input,
-        Setting::AsRead,
-        options,
-        edition,
-        gate,
-    )
+    let network = network_of_text(alloc, input, Setting::AsRead)?;
+    Ok(run_transcript::<Colouring, G, R>(rt, alloc, network, options, edition, gate)?)
 }

@@ -6,7 +6,6 @@ use Rattle.run_options.specs.declared.Edition.TheVariants as edition
 use Rattle.run_answers.specs.Ends.{IsEndsAnswer}
 use Rattle.program_texts.specs.PayloadTexts.{PayloadTexts}
 use Rattle.byte_functions.specs.Payloads.{colouring_payloads}
-use Rattle.byte_functions.specs.Transcripts.{IsProgramTranscript}
 use Rattle.byte_functions.specs.Workers.{IsFaultOfWorkers}
 use Rattle.answers.specs.Answers.{IsFaultOfText}
 use Rattle.play_answers.specs.EventAnswers.{IsEventsAnswer, IsFaultOfEvents}
@@ -33,7 +32,7 @@ use Rattle.layers.specs.Texts.{layers_texts, layers_texts_from}
 use Rattle.layers.specs.declared.layer.TheConstants.{ROOT_ID}
 use Rattle.leader.specs.Election.{election}
 use Rattle.leader.specs.Texts.{leader_texts}
-use Rattle.run_answers.specs.Transcripts.{IsLoneTranscript}
+use Rattle.run_answers.specs.Transcripts.{IsLoneTranscript, IsProgramTranscript}
 use Rattle.matching.specs.Knowing.{matching}
 use Rattle.matching.specs.Texts.{matching_texts}
 use Rattle.recolouring.specs.Knowing.{recolouring}

@@ -10,7 +10,6 @@ ghost use Rattle.play_commands.specs.Plays.{MayPlay, MayPlayNamed, layers_root};
 
 use actor::OpenGate;
 use answers::{PlanFault, Root, Setting};
-use byte_functions::run_transcript_bytes;
 use colour_program::Colouring;
 use command_line::{NodeProgramName, Play, Shown};
 use independent_set::IndependentSet;
@@ -21,7 +20,9 @@ use matching::Matching;
 use play_answers::{events_bytes, replay_bytes};
 use program_texts::ProgramText;
 use recolouring::Recolouring;
-use run_answers::{alone_bytes, alone_transcript_bytes, ends_bytes, rounds_bytes, run_bytes};
+use run_answers::{
+    alone_bytes, alone_transcript_bytes, ends_bytes, rounds_bytes, run_bytes, run_transcript_bytes,
+};
 use run_options::Edition;
 use std::alloc::Global;
 use std::sync::Wait;

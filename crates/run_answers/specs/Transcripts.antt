@@ -1,4 +1,4 @@
--- The transcript of a run on one thread.
+-- The transcript of a run, on worker threads or on one thread.
 use Rattle.std.specs.Prelude.{◌≡◌, ℕ, List}
 use Rattle.interference.specs.Net.{Net, IsNetwork, count_of}
 use Rattle.node_api.specs.Program.{Program}
@@ -11,7 +11,16 @@ use Rattle.program_texts.specs.PayloadTexts.{PayloadTexts}
 use Rattle.answers.specs.Answers.{ReadsAs}
 use Rattle.answers.specs.Settings.{OfSet}
 use Rattle.answers.specs.declared.setting.Setting.{Setting}
-use Rattle.byte_functions.specs.Transcripts.{stamped_edition}
+use Rattle.run_options.specs.declared.Edition.{Edition}
+use Rattle.byte_functions.specs.Transcripts.{IsTranscriptOn, stamped_edition}
+
+-- the answer is the transcript of a whole run of workers on the network that the input describes, as it is set: without
+-- stamps, or with them and with the program's name if it is named
+abbrev pub IsProgramTranscript : {S M E : Type 0} → Program S M E → PayloadTexts M → ProgramTexts S → Edition → Setting
+    → List ℕ → List ℕ → Type 0
+IsProgramTranscript program payloads texts edition setting input answer =
+    ReadsAs input
+    (OfSet setting (λ net. IsNetwork net × IsTranscriptOn program payloads (stamped_edition texts) edition net answer))
 
 -- The text has these words of its edition, and rows that are a whole replay: the event machine plays them in their
 -- order, each has the stamp that the counter of its node gives it, and in the end every node is drained and every link

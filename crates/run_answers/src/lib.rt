@@ -9,7 +9,7 @@
 //! // "node 1 pulse 2 leader 2", "node 2 pulse 2 leader 2 elected", a line each; the same of `alone_bytes`, `run_bytes`
 //! ```
 //!
-//! Limits: those of `answers`. The transcript of a run of worker threads is in `byte_functions`.
+//! Limits: those of `answers`.
 #![tactic(auto)]
 
 mod ends;
@@ -26,4 +26,4 @@ pub use ends::alone_bytes;
 pub use last_states::ends_bytes;
 pub use rounds::rounds_bytes;
 pub use run::run_bytes;
-pub use transcript::alone_transcript_bytes;
+pub use transcript::{alone_transcript_bytes, run_transcript_bytes};

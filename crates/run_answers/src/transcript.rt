@@ -1,19 +1,25 @@
-//! The transcript of nodes that one thread ran.
+//! The transcript of nodes that worker threads ran, or one thread.
 
 ghost use Rattle.std.specs.Prelude.{◌≡◌, IfOk, IfErr};
+ghost use Rattle.run_options.specs.Ranges.{AreInRange};
 ghost use Rattle.transcripts.specs.TranscriptText.{stamped_row_text, text_of};
 ghost use Rattle.program_texts.specs.PayloadTexts.{payload_texts};
 ghost use Rattle.answers.specs.Answers.{IsFaultOfText};
 ghost use Rattle.byte_functions.specs.Transcripts.{stamped_edition};
-ghost use Rattle.run_answers.specs.Transcripts.{IsLoneTranscript};
+ghost use Rattle.byte_functions.specs.Workers.{IsFaultOfWorkers};
+ghost use Rattle.run_answers.specs.Transcripts.{IsLoneTranscript, IsProgramTranscript};
 
+use actor::Gate;
 use answers::{PlanFault, Setting, network_of_text};
-use byte_functions::push_edition_line;
+use byte_functions::{push_edition_line, run_transcript};
 use entries::StampedRow;
 use interference::Memory;
 use lone_runs::record_alone;
 use program_texts::ProgramText;
+use run_options::{Edition, Options};
 use std::alloc::Global;
+use std::sync::Wait;
+use std::thread::Threads;
 use transcripts::push_stamped_row;
 
 // The transcript of so many nodes with these rows.
@@ -52,4 +58,29 @@ pub fn alone_transcript_bytes<P: ProgramText>(
     let network = network_of_text(alloc, input, setting)?;
     let rows = record_alone::<P>(alloc, &network)?;
     Ok(text_of_rows::<P>(alloc, network.nodes(), rows.as_slice())?)
+}
+
+/// The transcript of a run of a program, on worker threads, on the network that a DIMACS text describes, as
+/// `run_transcript` makes it. The network is as `setting` says.
+///
+/// It is not promised that the call returns, nor that any number of looks is enough.
+///
+/// # Errors
+/// As of `plan_bytes`; and before the fault of the network `NoRoot` if the root is no vertex.
+pub fn run_transcript_bytes<P: ProgramText, G: Gate + Sync, R: Threads + Wait + Sync>(
+    rt: &R,
+    alloc: Global,
+    input: &[u8],
+    setting: Setting,
+    options: Options,
+    edition: Edition,
+    gate: &G,
+) -> Result<Vec<u8>, PlanFault>
+    ensures ok { IfOk result (λ text. IsProgramTranscript P.program (payload_texts P.Payload.PayloadText.own) P.texts
+        edition setting input.now text.items) }
+    ensures in_range { IfOk result (λ _. AreInRange options) }
+    ensures fault { IfErr result (IsFaultOfWorkers setting options input.now) }
+{
+    let network = network_of_text(alloc, input, setting)?;
+    Ok(run_transcript::<P, G, R>(rt, alloc, network, options, edition, gate)?)
 }

@@ -7,41 +7,40 @@ use Rattle.program_texts.specs.PayloadTexts.{payload_texts}
 use Rattle.outcomes.specs.Merged.{WholeOutcomesReplay}
 use Rattle.byte_functions.specs.Transcripts.{IsTextIn, stamped_edition}
 use Rattle.byte_functions.proofs.Recording.{all-rise, answered, nodes-count}
-use Rattle.byte_functions.proofs.Working.{workers-fault}
-use Rattle.byte_functions.proofs.transcript.run_transcript_bytes.Goals as goal
+use Rattle.byte_functions.proofs.Working.{transcript-fault}
+use Rattle.byte_functions.proofs.transcript.run_transcript.Goals as goal
 
 -- The plan: the nodes of a whole outcome are as many as vertices, and their stamps rise; the text of its nodes in the
--- edition is the answer.
+-- edition is the transcript.
 pub text_in-requires-clause-count : goal.text_in-requires-clause-count
 text_in-requires-clause-count g c = λ lives within.
-    let net = c.in_ok-network.network in
+    let net = c.args.network in
     let outcome = c.in_ok-outcome.outcome in
     sym (length-map c.into_actors.result.items gathered_of) ∙ ap length c.into_actors.ensures.nodes
     ∙ nodes-count g.P.NodeProgram.program net c.args.options.capacity true outcome c.in_ok-outcome.ensures.outcome ∙ sym c.nodes-count.ensures.count
 
 pub text_in-requires-clause-rising : goal.text_in-requires-clause-rising
 text_in-requires-clause-rising g c = λ lives within.
-    let net = c.in_ok-network.network in
+    let net = c.args.network in
     let outcome = c.in_ok-outcome.outcome in
     subst (λ nodes. All Rises (map (λ node. node.entries) nodes)) (sym c.into_actors.ensures.nodes)
     (all-rise g.P.NodeProgram.program net c.args.options.capacity outcome c.in_ok-outcome.ensures.outcome)
 
-pub returns-clause-ok : goal.returns-clause-ok
-returns-clause-ok g c =
-    let net = c.in_ok-network.network in
+pub returns-in-Ok-clause-ok : goal.returns-in-Ok-clause-ok
+returns-in-Ok-clause-ok g c =
+    let net = c.args.network in
     let outcome = c.in_ok-outcome.outcome in
-    let text = c.in_ok-text_in.field-0.items in
+    let text = c.in-Ok.text.items in
     let here = c.nodes-count.ensures.network in
     let law : WholeOutcomesReplay g.P.NodeProgram.program net = c.whole_outcomes_replay.ensures.law g.P.NodeProgram.program net here in
     let payloads = payload_texts g.P.Payload.PayloadText in
     let words = stamped_edition g.P.ProgramText.texts in
-    answered g.P.NodeProgram.program payloads words c.args.setting c.args.input.now text net c.args.options.capacity outcome c.in_ok-network.ensures.ok
+    answered g.P.NodeProgram.program payloads words text net c.args.options.capacity outcome
     c.in_ok-outcome.ensures.outcome c.in_ok-outcome.ensures.whole c.args.edition law
     (subst (λ n. IsTextIn payloads words c.args.edition n outcome.nodes text) c.nodes-count.ensures.count
-    (subst (λ nodes. IsTextIn payloads words c.args.edition c.nodes-count.result nodes text) c.into_actors.ensures.nodes c.in_ok-text_in.ensures))
+    (subst (λ nodes. IsTextIn payloads words c.args.edition c.nodes-count.result nodes text) c.into_actors.ensures.nodes c.in-Ok.ensures))
 
 pub returns-in_err-outcome-clause-fault : goal.returns-in_err-outcome-clause-fault
 returns-in_err-outcome-clause-fault g c =
-    let p = err_from_is_err_and c.from_residual-in_err-outcome.result c.from_residual-in_err-outcome.ensures.1 in
-    rw (p.1, p.2) (workers-fault c.args.setting c.args.input.now c.in_ok-network.network c.args.options c.in_err-outcome.field-0.0
-    c.in_ok-network.ensures.ok c.in_err-outcome.ensures.fault)
+    let p = err_from_is_err_and c.from_residual.result c.from_residual.ensures.1 in
+    rw (p.1, p.2) (transcript-fault c.args.options c.in_err-outcome.field-0.0 c.in_err-outcome.ensures.fault)
