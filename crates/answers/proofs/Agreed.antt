@@ -119,10 +119,7 @@ agreed-fault both (plan.Check fault) a (other, reads, (ok, is)) =
     text-fault (network_with a.graph) (plan_lines (lines_of both)) a.rows fault a.read a.proper
     (subst (λ net. IsFaultOfPlanText net (plan_lines (lines_of both)) fault) (same-net (network_lines (lines_of both)) a.graph other a.reads reads)
     is)
-agreed-fault both (plan.NoRoot v) a is = absurd is
 agreed-fault both (plan.Pool fault) a is = absurd is
-agreed-fault both (plan.Event fault) a is = absurd is
-agreed-fault both (plan.Replay fault) a is = absurd is
 agreed-fault both plan.Stopped a is = absurd is
 agreed-fault both plan.Memory a is = refl
 

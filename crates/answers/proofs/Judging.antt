@@ -12,7 +12,6 @@ use Rattle.answers.specs.Answers.{IsFaultOfText, ReadsAs}
 use Rattle.answers.specs.Verdicts.{IsCheckAnswer, IsFaultOfCheck, verdict_text}
 use Rattle.answers.specs.declared.fault.PlanFault.{PlanFault}
 use Rattle.answers.specs.declared.fault.PlanFault.TheVariants as plan
-use Rattle.answers.specs.declared.setting.Setting.TheVariants.{AsRead}
 
 -- the two texts that an input is cut into
 pub record AreParts (input front behind : List ℕ) : Type 0 where
@@ -20,15 +19,12 @@ pub record AreParts (input front behind : List ℕ) : Type 0 where
   pub plan : reading_of (lines_of behind) ≡ reading_of (plan_lines (lines_of input))
 
 -- ---- the network text
-pub fault-text : (input network : List ℕ) (fault : PlanFault) → AreNetworkLines (lines_of input) (lines_of network) → IsFaultOfText AsRead network fault →
+pub fault-text : (input network : List ℕ) (fault : PlanFault) → AreNetworkLines (lines_of input) (lines_of network) → IsFaultOfText network fault →
     IsFaultOfCheck input fault
 fault-text input network (plan.Col fault) are is = fault-of plan_word (lines_of input) (lines_of network) fault are is
 fault-text input network (plan.Net fault) are (graph, reads, is) = (graph, graph-of plan_word (lines_of input) (lines_of network) graph are reads, is)
-fault-text input network (plan.NoRoot v) are (graph, reads, is) = absurd is
 fault-text input network (plan.Check fault) are is = absurd is
 fault-text input network (plan.Pool fault) are is = absurd is
-fault-text input network (plan.Event fault) are is = absurd is
-fault-text input network (plan.Replay fault) are is = absurd is
 fault-text input network plan.Stopped are is = absurd is
 fault-text input network plan.Memory are is = tt
 

@@ -1,8 +1,6 @@
 mod AtVertices
 pub mod Numbering
 mod GivenIds
-pub mod Rooted
-pub mod Settings
 pub mod Plain
 pub mod Following
 pub mod ProperPlans

@@ -6,11 +6,9 @@ use Rattle.dimacs_col.specs.Reading.{Graph, IsFault, IsGraph, id_in}
 use Rattle.interference.specs.Net.{Net, IsNetwork}
 use Rattle.interference.specs.Making.{IsFaultOf, network_of}
 use Rattle.answers.specs.Plans.{IsChannelPlan}
-use Rattle.answers.specs.Settings.{LacksRoot, OfSet}
 use Rattle.answers.specs.Texts.{colours_text, forests_text}
 use Rattle.answers.specs.declared.fault.PlanFault.{PlanFault}
 use Rattle.answers.specs.declared.fault.PlanFault.TheVariants as plan
-use Rattle.answers.specs.declared.setting.Setting.{Setting}
 
 -- the identifier of each vertex: the one that it is given, or its own number
 abbrev pub identifiers_with : List (ℕ × ℕ) → ℕ → List ℕ
@@ -28,18 +26,12 @@ LinesReadAs lines holds = (graph : Graph) × IsGraph lines graph × holds (netwo
 abbrev pub ReadsAs : List ℕ → (Net → Type 0) → Type 0
 ReadsAs text holds = LinesReadAs (lines_of text) holds
 
--- the fault of a text: that of its reading; or that the root which is set, if one is, is no vertex; or that of the
--- network which was read, as it is set
-abbrev pub IsFaultOfText : Setting → List ℕ → PlanFault → Type 0
-IsFaultOfText setting text (plan.Col fault) = IsFault (lines_of text) fault
-IsFaultOfText setting text (plan.NoRoot v) = ReadsAs text (LacksRoot setting v)
-IsFaultOfText setting text (plan.Net fault) = ReadsAs text (OfSet setting (λ net. IsFaultOf net fault))
-IsFaultOfText setting text (plan.Pool fault) = ⊥
-IsFaultOfText setting text (plan.Check fault) = ⊥
-IsFaultOfText setting text (plan.Event fault) = ⊥
-IsFaultOfText setting text (plan.Replay fault) = ⊥
-IsFaultOfText setting text plan.Stopped = ⊥
-IsFaultOfText setting text plan.Memory = Unit {0}
+-- the fault of a text: that of its reading, or else that of the network which was read
+abbrev pub IsFaultOfText : List ℕ → PlanFault → Type 0
+IsFaultOfText text (plan.Col fault) = IsFault (lines_of text) fault
+IsFaultOfText text (plan.Net fault) = ReadsAs text (λ net. IsFaultOf net fault)
+IsFaultOfText text plan.Memory = Unit {0}
+IsFaultOfText text _ = ⊥
 
 -- the answer is the forests text of the network that the input describes
 abbrev pub IsForestsAnswer : List ℕ → List ℕ → Type 0

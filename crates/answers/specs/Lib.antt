@@ -1,7 +1,5 @@
 pub mod Texts
 pub mod Plans
-pub mod Roots
-pub mod Settings
 pub mod Faults
 pub mod RunFaults
 pub mod Answers

@@ -35,12 +35,8 @@ IsFaultOfPlanText net lines fault = IsFaultOfReading lines fault
 -- the fault of an input of `check`: of the network text before the plan text, or else of the plan text
 abbrev pub IsFaultOfCheck : List ℕ → PlanFault → Type 0
 IsFaultOfCheck input (plan.Col fault) = IsFault (network_lines (lines_of input)) fault
-IsFaultOfCheck input (plan.NoRoot v) = ⊥
 IsFaultOfCheck input (plan.Net fault) = LinesReadAs (network_lines (lines_of input)) (λ net. IsFaultOf net fault)
-IsFaultOfCheck input (plan.Pool fault) = ⊥
 IsFaultOfCheck input (plan.Check fault) = LinesReadAs (network_lines (lines_of input))
     (λ net. IsNetwork net × IsFaultOfPlanText net (plan_lines (lines_of input)) fault)
-IsFaultOfCheck input (plan.Event fault) = ⊥
-IsFaultOfCheck input (plan.Replay fault) = ⊥
-IsFaultOfCheck input plan.Stopped = ⊥
 IsFaultOfCheck input plan.Memory = Unit {0}
+IsFaultOfCheck input _ = ⊥

@@ -8,13 +8,10 @@ ghost use Rattle.interference.specs.Making.{BarsFit, EdgesFit, IsFaultOf};
 ghost use Rattle.interference.specs.Net.{IsNetwork};
 ghost use Rattle.answers.specs.Answers.{IsFaultOfText, IsForestsAnswer, IsPlainAnswer, ReadsAs};
 ghost use Rattle.answers.specs.Answers.{identifiers_with, network_with};
-ghost use Rattle.answers.specs.Settings.{IsRootAmong, OfSet};
 
 use crate::colours_text::text_of_plan;
 use crate::fault::PlanFault;
 use crate::forests_text::text_of_forests;
-use crate::setting::Setting;
-use crate::setting_up::{missing_root, repeated_as, set_ids};
 use colour_laws::laws::colours_are_proper;
 use dimacs_col::{ColFile, read};
 use interference::{NetFault, Network};
@@ -32,8 +29,15 @@ fn numbers(alloc: Global, nodes: u32) -> Result<Vec<u128>, AllocError>
     Ok(ids)
 }
 
-// The identifier of each vertex: the first one given, and so the one that is written last, or its number.
-fn identifiers(alloc: Global, nodes: u32, given: &[(u32, u128)]) -> Result<Vec<u128>, AllocError>
+/// The identifier of each vertex of a graph: the first one given, and so the one that is written last, or its number.
+///
+/// # Errors
+/// If memory ran out.
+pub fn identifiers(
+    alloc: Global,
+    nodes: u32,
+    given: &[(u32, u128)],
+) -> Result<Vec<u128>, AllocError>
     requires { AreVertices nodes given.now }
     ensures { IfOk result (λ ids. ids.items ≡ identifiers_with given.now nodes) }
 {
@@ -45,49 +49,39 @@ fn identifiers(alloc: Global, nodes: u32, given: &[(u32, u128)]) -> Result<Vec<u
     Ok(ids)
 }
 
-// The network of a graph, as `setting` says.
-fn network_of_graph(alloc: Global, graph: &ColFile, setting: Setting) -> Result<Network, NetFault>
+// The network of a graph.
+fn network_of_graph(alloc: Global, graph: &ColFile) -> Result<Network, NetFault>
     requires edges { EdgesFit graph.now.nodes graph.now.edges.items }
     requires vertices { AreVertices graph.now.nodes graph.now.ids.items }
     requires bars { BarsFit graph.now.nodes graph.now.bars.items }
-    requires root { IsRootAmong setting graph.now.nodes }
-    ensures ok { IfOk result (λ net.
-        OfSet setting (λ made. IsNetwork made × (net ≡ made)) (network_with (graph_of graph.now))) }
+    ensures made { IfOk result (λ net. net ≡ network_with (graph_of graph.now)) }
     ensures network { IfOk result IsNetwork }
-    ensures fault { IfErr result (λ fault.
-        OfSet setting (λ made. IsFaultOf made fault) (network_with (graph_of graph.now))) }
+    ensures fault { IfErr result (IsFaultOf (network_with (graph_of graph.now))) }
 {
     let Ok(ids) = identifiers(alloc, graph.nodes, graph.ids.as_slice()) else {
         return Err(NetFault::Memory);
     };
-    let Ok(ids) = set_ids(alloc, ids, setting) else {
-        return Err(NetFault::Memory);
-    };
-    let network = Network::new(
+    Network::new(
         alloc,
         graph.nodes,
         ids.as_slice(),
         graph.edges.as_slice(),
         graph.bars.as_slice(),
-    )?;
-    Ok(repeated_as(network, setting))
+    )
 }
 
-/// The network that a DIMACS text describes, as `setting` says.
+/// The network that a DIMACS text describes.
 ///
 /// # Errors
-/// `Col` with the fault of the reading; else `NoRoot` if the root is no vertex; else `Net` with the fault of the
-/// network. Reading and network may instead fail for lack of memory: `ColFault::Memory` or `NetFault::Memory`.
-pub fn network_of_text(alloc: Global, input: &[u8], setting: Setting) -> Result<Network, PlanFault>
-    ensures ok { IfOk result (λ net. ReadsAs input.now (OfSet setting (λ read. IsNetwork read × (net ≡ read)))) }
+/// `Col` with the fault of the reading; else `Net` with the fault of the network. Reading and network may instead fail
+/// for lack of memory: `ColFault::Memory` or `NetFault::Memory`.
+pub fn network_of_text(alloc: Global, input: &[u8]) -> Result<Network, PlanFault>
+    ensures ok { IfOk result (λ net. ReadsAs input.now (λ read. IsNetwork read × (net ≡ read))) }
     ensures network { IfOk result IsNetwork }
-    ensures fault { IfErr result (IsFaultOfText setting input.now) }
+    ensures fault { IfErr result (IsFaultOfText input.now) }
 {
     let graph = read(alloc, input)?;
-    match missing_root(setting, graph.nodes) {
-        Some(v) => Err(PlanFault::NoRoot(v)),
-        None => Ok(network_of_graph(alloc, &graph, setting)?),
-    }
+    Ok(network_of_graph(alloc, &graph)?)
 }
 
 /// The forests text of the network that a DIMACS text describes.
@@ -97,9 +91,9 @@ pub fn network_of_text(alloc: Global, input: &[u8], setting: Setting) -> Result<
 /// memory: `ColFault::Memory`, `NetFault::Memory` or `Memory`.
 pub fn forest_bytes(alloc: Global, input: &[u8]) -> Result<Vec<u8>, PlanFault>
     ensures ok { IfOk result (λ text. IsForestsAnswer input.now text.items) }
-    ensures fault { IfErr result (IsFaultOfText Setting.AsRead input.now) }
+    ensures fault { IfErr result (IsFaultOfText input.now) }
 {
-    let network = network_of_text(alloc, input, Setting::AsRead)?;
+    let network = network_of_text(alloc, input)?;
     Ok(text_of_forests(alloc, &network)?)
 }
 
@@ -110,9 +104,9 @@ pub fn forest_bytes(alloc: Global, input: &[u8]) -> Result<Vec<u8>, PlanFault>
 /// As of `forest_bytes`.
 pub fn plain_bytes(alloc: Global, input: &[u8]) -> Result<Vec<u8>, PlanFault>
     ensures ok { IfOk result (λ text. IsPlainAnswer input.now text.items) }
-    ensures fault { IfErr result (IsFaultOfText Setting.AsRead input.now) }
+    ensures fault { IfErr result (IsFaultOfText input.now) }
 {
     colours_are_proper();
-    let network = network_of_text(alloc, input, Setting::AsRead)?;
+    let network = network_of_text(alloc, input)?;
     Ok(text_of_plan(alloc, &network)?)
 }

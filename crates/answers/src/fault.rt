@@ -1,13 +1,12 @@
 //! Why a text has no answer.
 
 ghost use Rattle.std.specs.Prelude.{◌≡◌};
-ghost use Rattle.answers.specs.declared.fault.PlanFault.TheVariants.{Check, Col, Event, Net, Memory, Replay};
 ghost use Rattle.answers.specs.RunFaults.{fault_of_run};
+ghost use Rattle.answers.specs.declared.fault.PlanFault.TheVariants.{Check, Col, Net, Memory};
 
 use channel_plan::CheckFault;
 use dimacs_col::ColFault;
 use interference::{Memory, NetFault};
-use run_faults::{EventFault, ReplayFault};
 use run_options::{PoolFault, RunFault};
 
 /// Why a text has no answer.
@@ -15,18 +14,12 @@ use run_options::{PoolFault, RunFault};
 pub enum PlanFault {
     /// The text is no graph.
     Col(ColFault),
-    /// The vertex that is to be the root isn't in its graph.
-    NoRoot(u32),
     /// Its graph is no network.
     Net(NetFault),
     /// The run of workers on it has no outcome.
     Pool(PoolFault),
     /// The plan that follows it is refused.
     Check(CheckFault),
-    /// The events that follow it are refused.
-    Event(EventFault),
-    /// The transcript that follows it is refused.
-    Replay(ReplayFault),
     /// The workers stopped, and not every node was done.
     Stopped,
     /// Memory ran out.
@@ -66,22 +59,6 @@ impl From<CheckFault> for PlanFault {
 
     fn from(fault: CheckFault) -> PlanFault {
         PlanFault::Check(fault)
-    }
-}
-
-impl From<EventFault> for PlanFault {
-    ghost from_gives = { λ fault result. result ≡ Event fault };
-
-    fn from(fault: EventFault) -> PlanFault {
-        PlanFault::Event(fault)
-    }
-}
-
-impl From<ReplayFault> for PlanFault {
-    ghost from_gives = { λ fault result. result ≡ Replay fault };
-
-    fn from(fault: ReplayFault) -> PlanFault {
-        PlanFault::Replay(fault)
     }
 }
 

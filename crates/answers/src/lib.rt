@@ -1,9 +1,9 @@
 //! The answers of the commands that start no thread, from the bytes of a DIMACS text to the bytes of an answer, and the
-//! report of each fault of any command.
+//! report of each fault of `forestplan`.
 //!
-//! `byte_functions` has the commands that run worker threads, and `play_answers` those of events, replays and rounds,
-//! which only `forestplay` has. `plan_commands` calls `forest_bytes`, `plain_bytes` or `check_bytes` for a command, and
-//! `fault_report` if one fails.
+//! `byte_functions` has the commands that run worker threads. `plan_commands` calls `forest_bytes`, `plain_bytes` or
+//! `check_bytes` for a command, and `fault_report` if one fails. The faults of `forestplay` are in `play_inputs`, which
+//! calls `report_of_reading`, `report_of_network` and `report_of_pool` for those that both programs have.
 //!
 //! ```
 //! let text = b"p edge 3 3\ne 1 2\ne 1 3\ne 2 3\n";
@@ -19,12 +19,9 @@ mod colours_text;
 mod fault;
 mod forests_text;
 mod report;
-mod setting;
-mod setting_up;
 mod verdict;
 
-pub use answer::{forest_bytes, network_of_text, plain_bytes};
+pub use answer::{forest_bytes, identifiers, network_of_text, plain_bytes};
 pub use fault::PlanFault;
-pub use report::fault_report;
-pub use setting::{Root, Setting};
+pub use report::{fault_report, report_of_network, report_of_pool, report_of_reading};
 pub use verdict::check_bytes;

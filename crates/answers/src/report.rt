@@ -1,15 +1,14 @@
 //! The line that reports a fault, and the status that goes with it.
 
 ghost use Rattle.std.specs.Prelude.{◌≡◌, IfOk};
-ghost use Rattle.answers.specs.Faults.{fault_line, fault_status};
-ghost use Rattle.answers.specs.declared.fault.PlanFault.TheVariants.{Check, Col, Event, Net, Pool, Replay};
+ghost use Rattle.reports.specs.Lines.{line_with};
+ghost use Rattle.answers.specs.Faults.{check_text, col_text, fault_line, fault_status, net_text, pool_text};
 
 use crate::fault::PlanFault;
 use channel_plan::CheckFault;
 use dimacs_col::ColFault;
 use interference::NetFault;
-use reports::{FaultReport, Place, memory_report, refusal, refusal_in_words, report_with};
-use run_faults::{EventFault, ReplayFault};
+use reports::{FaultReport, Place, memory_report, refusal, report_with, stopped_report};
 use run_options::PoolFault;
 use std::alloc::{AllocError, Global};
 
@@ -17,15 +16,20 @@ use std::alloc::{AllocError, Global};
 // options that are out of range.
 const REFUSED_WORDS: u8 = 2;
 
-// The status if the workers stopped before every node was done.
-const STOPPED: u8 = 3;
-
 // The status if a thread was refused, or a stamp would be too great.
 const NOT_DONE: u8 = 4;
 
-fn report_of_reading(alloc: Global, name: &str, fault: ColFault) -> Result<FaultReport, AllocError>
-    ensures line { IfOk result (λ report. report.line.items ≡ fault_line name.now (Col fault)) }
-    ensures status { IfOk result (λ report. report.status ≡ fault_status (Col fault)) }
+/// The line and the status with which a program of a name reports a fault of the reading of a DIMACS text.
+///
+/// # Errors
+/// If there is no memory for the line.
+pub fn report_of_reading(
+    alloc: Global,
+    name: &str,
+    fault: ColFault,
+) -> Result<FaultReport, AllocError>
+    ensures line { IfOk result (λ report. report.line.items ≡ line_with name.now (col_text fault).0) }
+    ensures status { IfOk result (λ report. report.status ≡ (col_text fault).1) }
 {
     match fault {
         ColFault::NoProblem => refusal(alloc, name, "F1", Place::None),
@@ -45,9 +49,17 @@ fn report_of_reading(alloc: Global, name: &str, fault: ColFault) -> Result<Fault
     }
 }
 
-fn report_of_network(alloc: Global, name: &str, fault: NetFault) -> Result<FaultReport, AllocError>
-    ensures line { IfOk result (λ report. report.line.items ≡ fault_line name.now (Net fault)) }
-    ensures status { IfOk result (λ report. report.status ≡ fault_status (Net fault)) }
+/// The line and the status with which a program of a name reports a fault of a network.
+///
+/// # Errors
+/// If there is no memory for the line.
+pub fn report_of_network(
+    alloc: Global,
+    name: &str,
+    fault: NetFault,
+) -> Result<FaultReport, AllocError>
+    ensures line { IfOk result (λ report. report.line.items ≡ line_with name.now (net_text fault).0) }
+    ensures status { IfOk result (λ report. report.status ≡ (net_text fault).1) }
 {
     match fault {
         NetFault::Degree(v) => refusal(alloc, name, "N1", Place::Vertex(v)),
@@ -56,9 +68,17 @@ fn report_of_network(alloc: Global, name: &str, fault: NetFault) -> Result<Fault
     }
 }
 
-fn report_of_pool(alloc: Global, name: &str, fault: PoolFault) -> Result<FaultReport, AllocError>
-    ensures line { IfOk result (λ report. report.line.items ≡ fault_line name.now (Pool fault)) }
-    ensures status { IfOk result (λ report. report.status ≡ fault_status (Pool fault)) }
+/// The line and the status with which a program of a name reports a fault of a run of workers.
+///
+/// # Errors
+/// If there is no memory for the line.
+pub fn report_of_pool(
+    alloc: Global,
+    name: &str,
+    fault: PoolFault,
+) -> Result<FaultReport, AllocError>
+    ensures line { IfOk result (λ report. report.line.items ≡ line_with name.now (pool_text fault).0) }
+    ensures status { IfOk result (λ report. report.status ≡ (pool_text fault).1) }
 {
     match fault {
         PoolFault::Memory => memory_report(alloc, name),
@@ -69,8 +89,8 @@ fn report_of_pool(alloc: Global, name: &str, fault: PoolFault) -> Result<FaultRe
 }
 
 fn report_of_check(alloc: Global, name: &str, fault: CheckFault) -> Result<FaultReport, AllocError>
-    ensures line { IfOk result (λ report. report.line.items ≡ fault_line name.now (Check fault)) }
-    ensures status { IfOk result (λ report. report.status ≡ fault_status (Check fault)) }
+    ensures line { IfOk result (λ report. report.line.items ≡ line_with name.now (check_text fault).0) }
+    ensures status { IfOk result (λ report. report.status ≡ (check_text fault).1) }
 {
     match fault {
         CheckFault::Missing(v) => refusal(alloc, name, "C1", Place::Vertex(v)),
@@ -84,58 +104,6 @@ fn report_of_check(alloc: Global, name: &str, fault: CheckFault) -> Result<Fault
     }
 }
 
-fn report_of_events(alloc: Global, name: &str, fault: EventFault) -> Result<FaultReport, AllocError>
-    ensures line { IfOk result (λ report. report.line.items ≡ fault_line name.now (Event fault)) }
-    ensures status { IfOk result (λ report. report.status ≡ fault_status (Event fault)) }
-{
-    match fault {
-        EventFault::NoEvent(n) => refusal(alloc, name, "NoEvent", Place::Line(n)),
-        EventFault::NotReady(n, words) => {
-            refusal_in_words(alloc, name, "NotReady", n, words.as_slice())
-        }
-        EventFault::NothingToPut(n, words) => {
-            refusal_in_words(alloc, name, "NothingToPut", n, words.as_slice())
-        }
-        EventFault::LinkEmpty(n, words) => {
-            refusal_in_words(alloc, name, "LinkEmpty", n, words.as_slice())
-        }
-        EventFault::NoSuch(n) => refusal(alloc, name, "NoSuch", Place::Line(n)),
-        EventFault::Memory => memory_report(alloc, name),
-    }
-}
-
-fn report_of_replay(
-    alloc: Global,
-    name: &str,
-    fault: ReplayFault,
-) -> Result<FaultReport, AllocError>
-    ensures line { IfOk result (λ report. report.line.items ≡ fault_line name.now (Replay fault)) }
-    ensures status { IfOk result (λ report. report.status ≡ fault_status (Replay fault)) }
-{
-    match fault {
-        ReplayFault::Syntax(n) => refusal(alloc, name, "X1", Place::Line(n)),
-        ReplayFault::WrongProgram(n, words) => {
-            refusal_in_words(alloc, name, "WrongProgram", n, words.as_slice())
-        }
-        ReplayFault::NotReady(n, words) => {
-            refusal_in_words(alloc, name, "NotReady", n, words.as_slice())
-        }
-        ReplayFault::NothingToPut(n, words) => {
-            refusal_in_words(alloc, name, "NothingToPut", n, words.as_slice())
-        }
-        ReplayFault::LinkEmpty(n, words) => {
-            refusal_in_words(alloc, name, "LinkEmpty", n, words.as_slice())
-        }
-        ReplayFault::NoSuch(n) => refusal(alloc, name, "NoSuch", Place::Line(n)),
-        ReplayFault::WrongWire(n, words) => {
-            refusal_in_words(alloc, name, "WrongWire", n, words.as_slice())
-        }
-        ReplayFault::WrongStamp(n) => refusal(alloc, name, "WrongStamp", Place::Line(n)),
-        ReplayFault::NotWhole(n) => refusal(alloc, name, "NotWhole", Place::Line(n)),
-        ReplayFault::Memory => memory_report(alloc, name),
-    }
-}
-
 /// The line and the status with which a program of a name reports a fault.
 ///
 /// # Errors
@@ -146,13 +114,10 @@ pub fn fault_report(alloc: Global, name: &str, fault: PlanFault) -> Result<Fault
 {
     match fault {
         PlanFault::Col(fault) => report_of_reading(alloc, name, fault),
-        PlanFault::NoRoot(v) => refusal(alloc, name, "NoRoot", Place::Vertex(v)),
         PlanFault::Net(fault) => report_of_network(alloc, name, fault),
         PlanFault::Pool(fault) => report_of_pool(alloc, name, fault),
         PlanFault::Check(fault) => report_of_check(alloc, name, fault),
-        PlanFault::Event(fault) => report_of_events(alloc, name, fault),
-        PlanFault::Replay(fault) => report_of_replay(alloc, name, fault),
-        PlanFault::Stopped => report_with(alloc, name, "stopped", STOPPED),
+        PlanFault::Stopped => stopped_report(alloc, name),
         PlanFault::Memory => memory_report(alloc, name),
     }
 }

@@ -5,7 +5,6 @@ ghost use Rattle.answers.specs.Verdicts.{IsCheckAnswer, IsFaultOfCheck, verdict_
 
 use crate::answer::network_of_text;
 use crate::fault::PlanFault;
-use crate::setting::Setting;
 use channel_plan::{check, read_plan, split_plan};
 use interference::Memory;
 use number_rows::push_row;
@@ -32,7 +31,7 @@ pub fn check_bytes(alloc: Global, input: &[u8]) -> Result<Vec<u8>, PlanFault>
     ensures fault { IfErr result (IsFaultOfCheck input.now) }
 {
     let (network_text, plan_text) = split_plan(input);
-    let network = network_of_text(alloc, network_text, Setting::AsRead)?;
+    let network = network_of_text(alloc, network_text)?;
     let plan = read_plan(alloc, plan_text)?;
     let greatest = check(alloc, &network, &plan)?;
     Ok(text_of_verdict(alloc, greatest)?)

@@ -20,12 +20,8 @@ use Rattle.colour_rules.specs.declared.payload.Payload.{Payload}
 use Rattle.colour_rules.specs.Node as colour
 use Rattle.colour_rules.specs.Program.{colouring}
 use Rattle.colour_laws.specs.Colours.{colours}
-use Rattle.dimacs_col.specs.Lines.{lines_of}
 use Rattle.answers.specs.Answers.{IsPlainAnswer, ReadsAs}
 use Rattle.answers.specs.RunFaults.{fault_of_run}
-use Rattle.answers.specs.Settings.{OfSet}
-use Rattle.answers.specs.declared.setting.Setting.{Setting}
-use Rattle.answers.proofs.Settings.{lines-more}
 use Rattle.answers.proofs.Plain.{plain}
 use Rattle.byte_functions.specs.Colours.{merged_of}
 use Rattle.byte_functions.specs.Workers.{IsFaultOfPool, IsFaultOfRun, IsFaultOfTranscript, IsFaultOfWorkers}
@@ -72,21 +68,14 @@ transcript-fault o run.Stopped is = is
 transcript-fault o run.Memory is = tt
 
 -- a network was read, and the fault of its run, or of the transcript, is that of the input
-only-network : (setting : Setting) (input : List ℕ) (net : Net) → ReadsAs input (OfSet setting (λ read. IsNetwork read × (net ≡ read)))
-    → ReadsAs input (OfSet setting IsNetwork)
-only-network setting input net = lines-more setting (lines_of input) (λ read. IsNetwork read × (net ≡ read)) (λ read. IsNetwork read) (λ read both. both.0)
+only-network : (input : List ℕ) (net : Net) → ReadsAs input (λ read. IsNetwork read × (net ≡ read)) → ReadsAs input IsNetwork
+only-network input net (graph, reads, is) = (graph, reads, is.0)
 
-pub recorders-fault : (setting : Setting) (input : List ℕ) (net : Net) (o : Options) (fault : RunFault)
-    → ReadsAs input (OfSet setting (λ read. IsNetwork read × (net ≡ read))) → IsFaultOfTranscript o fault
-    → IsFaultOfWorkers setting o input (fault_of_run fault)
-recorders-fault setting input net o (run.Pool fault) read is = (only-network setting input net read, is)
-recorders-fault setting input net o run.Stopped read is = (only-network setting input net read, is)
-recorders-fault setting input net o run.Memory read is = tt
-
-pub workers-fault : (setting : Setting) (input : List ℕ) (net : Net) (o : Options) (fault : RunFault)
-    → ReadsAs input (OfSet setting (λ read. IsNetwork read × (net ≡ read))) → IsFaultOfRun o fault
-    → IsFaultOfWorkers setting o input (fault_of_run fault)
-workers-fault setting input net o fault read is = recorders-fault setting input net o fault read (transcript-fault o fault is)
+pub recorders-fault : (input : List ℕ) (net : Net) (o : Options) (fault : RunFault) → ReadsAs input (λ read. IsNetwork read × (net ≡ read))
+    → IsFaultOfTranscript o fault → IsFaultOfWorkers o input (fault_of_run fault)
+recorders-fault input net o (run.Pool fault) read is = (only-network input net read, is)
+recorders-fault input net o run.Stopped read is = (only-network input net read, is)
+recorders-fault input net o run.Memory read is = tt
 
 -- ---- the plan
 abbrev Left : Type 0

@@ -10,8 +10,6 @@ use Rattle.run_options.specs.declared.fault.RunFault.{RunFault}
 use Rattle.run_options.specs.declared.fault.RunFault.TheVariants as run
 use Rattle.node_api.specs.Program.{Program}
 use Rattle.answers.specs.Answers.{IsFaultOfText, ReadsAs}
-use Rattle.answers.specs.Settings.{OfSet}
-use Rattle.answers.specs.declared.setting.Setting.{Setting}
 use Rattle.answers.specs.declared.fault.PlanFault.{PlanFault}
 use Rattle.answers.specs.declared.fault.PlanFault.TheVariants as plan
 
@@ -49,10 +47,8 @@ abbrev pub IsFaultOfTranscript : Options → RunFault → Type 0
 IsFaultOfTranscript options run.Memory = Unit {0}
 IsFaultOfTranscript options fault = IsFaultOfRun options fault
 
--- The fault of an input of `plan`, of `transcript` and of `run`: that of the text, or else that of the run on its
--- network.
-abbrev pub IsFaultOfWorkers : Setting → Options → List ℕ → PlanFault → Type 0
-IsFaultOfWorkers setting options input (plan.Pool fault) =
-    ReadsAs input (OfSet setting IsNetwork) × IsFaultOfPool options fault
-IsFaultOfWorkers setting options input plan.Stopped = ReadsAs input (OfSet setting IsNetwork) × AreInRange options
-IsFaultOfWorkers setting options input fault = IsFaultOfText setting input fault
+-- The fault of an input of `plan` and of `transcript`: that of the text, or else that of the run on its network.
+abbrev pub IsFaultOfWorkers : Options → List ℕ → PlanFault → Type 0
+IsFaultOfWorkers options input (plan.Pool fault) = ReadsAs input IsNetwork × IsFaultOfPool options fault
+IsFaultOfWorkers options input plan.Stopped = ReadsAs input IsNetwork × AreInRange options
+IsFaultOfWorkers options input fault = IsFaultOfText input fault

@@ -14,7 +14,7 @@ ghost use Rattle.byte_functions.specs.Workers.{IsFaultOfTranscript, IsFaultOfWor
 use crate::merged::merged_text;
 use crate::workers::whole_run;
 use actor::Gate;
-use answers::{PlanFault, Setting, network_of_text};
+use answers::{PlanFault, network_of_text};
 use colour_program::Colouring;
 use interference::{Memory, Network};
 use node_api::{NodeProgram, Refused};
@@ -114,8 +114,8 @@ pub fn transcript_bytes<G: Gate + Sync, R: Threads + Wait + Sync>(
 ) -> Result<Vec<u8>, PlanFault>
     ensures ok { IfOk result (λ text. IsTranscriptAnswer colouring colouring_payloads edition input.now text.items) }
     ensures in_range { IfOk result (λ _. AreInRange options) }
-    ensures fault { IfErr result (IsFaultOfWorkers Setting.AsRead options input.now) }
+    ensures fault { IfErr result (IsFaultOfWorkers options input.now) }
 {
-    let network = network_of_text(alloc, input, Setting::AsRead)?;
+    let network = network_of_text(alloc, input)?;
     Ok(run_transcript::<Colouring, G, R>(rt, alloc, network, options, edition, gate)?)
 }

@@ -9,7 +9,7 @@ ghost use Rattle.byte_functions.specs.Workers.{IsFaultOfRun, IsFaultOfWorkers, M
 use crate::coloured_runs::halted_nodes_are_coloured;
 use crate::plan_text::text_of_nodes;
 use actor::Gate;
-use answers::{PlanFault, Setting, network_of_text};
+use answers::{PlanFault, network_of_text};
 use colour_laws::laws::colours_are_proper;
 use colour_program::Colouring;
 use colour_rules::Payload;
@@ -89,12 +89,12 @@ pub fn plan_bytes<G: Gate + Sync, R: Threads + Wait + Sync>(
 ) -> Result<Vec<u8>, PlanFault>
     ensures ok { IfOk result (λ text. IsPlainAnswer input.now text.items) }
     ensures in_range { IfOk result (λ _. AreInRange options) }
-    ensures fault { IfErr result (IsFaultOfWorkers Setting.AsRead options input.now) }
+    ensures fault { IfErr result (IsFaultOfWorkers options input.now) }
 {
     colours_are_proper();
     whole_outcomes_are_complete::<Colouring, Payload, Refused>();
     halted_nodes_are_coloured();
-    let network = network_of_text(alloc, input, Setting::AsRead)?;
+    let network = network_of_text(alloc, input)?;
     let outcome = whole_run::<Colouring, G, R>(rt, alloc, &network, options, false, gate)?;
     Ok(text_of_nodes(alloc, outcome.actors())?)
 }

@@ -12,8 +12,8 @@ use Rattle.event_rule.proofs.Parts.{take-split}
 use Rattle.event_rule.proofs.Reached.{run_push}
 use Rattle.event_texts.specs.Played.{IsFaultOfRun, IsFaultOfStep, IsRefusal, IsRefusalOfStep, events_in, fault_with}
 use Rattle.event_texts.specs.Reading.{Script}
-use Rattle.run_faults.specs.declared.events.EventFault.{EventFault}
-use Rattle.run_faults.specs.declared.events.EventFault.TheVariants.{LinkEmpty, Memory, NoEvent, NoSuch, NotReady, NothingToPut}
+use Rattle.event_texts.specs.declared.fault.EventFault.{EventFault}
+use Rattle.event_texts.specs.declared.fault.EventFault.TheVariants.{LinkEmpty, Memory, NoEvent, NoSuch, NotReady, NothingToPut}
 
 module _ {S M E : Type 0} (program : Program S M E) (net : Net) where
   -- the event at an index of a script, and the state that the events before it reach

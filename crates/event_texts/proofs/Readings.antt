@@ -5,8 +5,8 @@ use Rattle.event_rule.specs.declared.event.Event.{Event}
 use Rattle.event_texts.specs.EventLines.{event_of}
 use Rattle.event_texts.specs.Reader.{IsFaultOfReading, IsLineFault}
 use Rattle.event_texts.specs.Reading.{Script, is_passed_word, known_after, read_from}
-use Rattle.run_faults.specs.declared.events.EventFault.{EventFault}
-use Rattle.run_faults.specs.declared.events.EventFault.TheVariants.{LinkEmpty, Memory, NoEvent, NoSuch, NotReady, NothingToPut}
+use Rattle.event_texts.specs.declared.fault.EventFault.{EventFault}
+use Rattle.event_texts.specs.declared.fault.EventFault.TheVariants.{LinkEmpty, Memory, NoEvent, NoSuch, NotReady, NothingToPut}
 
 -- ---- one line
 pub known-blank : (n : ℕ) (known : Script) (line : Line) → line ≡ [] → known_after n known line ≡ Some known

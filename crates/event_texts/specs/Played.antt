@@ -11,8 +11,8 @@ use Rattle.event_rule.specs.State.{State}
 use Rattle.event_rule.specs.Step.{run, step}
 use Rattle.event_texts.specs.Missing.{missing_text}
 use Rattle.event_texts.specs.Reading.{Script}
-use Rattle.run_faults.specs.declared.events.EventFault.{EventFault}
-use Rattle.run_faults.specs.declared.events.EventFault.TheVariants.{Memory, NotReady, NothingToPut, LinkEmpty, NoSuch}
+use Rattle.event_texts.specs.declared.fault.EventFault.{EventFault}
+use Rattle.event_texts.specs.declared.fault.EventFault.TheVariants.{Memory, NotReady, NothingToPut, LinkEmpty, NoSuch}
 
 abbrev pub events_in : Script → List Event
 events_in script = map (λ row. row.1) script

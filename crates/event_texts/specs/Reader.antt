@@ -2,8 +2,8 @@
 use Rattle.std.specs.Prelude.{◌≡◌, ℕ, Err, List}
 use Rattle.dimacs_col.specs.Lines.{Line}
 use Rattle.event_texts.specs.Reading.{script_of}
-use Rattle.run_faults.specs.declared.events.EventFault.{EventFault}
-use Rattle.run_faults.specs.declared.events.EventFault.TheVariants.{NoEvent, Memory}
+use Rattle.event_texts.specs.declared.fault.EventFault.{EventFault}
+use Rattle.event_texts.specs.declared.fault.EventFault.TheVariants.{NoEvent, Memory}
 
 -- the line is wrong, and this is its number; or memory ran out
 abbrev pub IsLineFault : Type 0 → ℕ → EventFault → Type 0

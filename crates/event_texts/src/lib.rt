@@ -17,6 +17,7 @@
 
 mod event_line;
 mod expected;
+mod fault;
 pub mod laws;
 mod missing;
 mod playing;
@@ -25,6 +26,7 @@ mod split;
 mod state_text;
 
 pub use expected::expected_words;
+pub use fault::EventFault;
 pub use missing::missing_words;
 pub use playing::play;
 pub use reading::read_events;

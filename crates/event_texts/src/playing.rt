@@ -4,12 +4,12 @@ ghost use Rattle.std.specs.Prelude.{◌≡◌, IfOk, IfErr, Ok};
 ghost use Rattle.event_texts.specs.Played.{IsFaultOfRun, IsFaultOfStep, events_in};
 ghost use Rattle.event_rule.specs.Step.{run};
 
+use crate::fault::EventFault;
 use crate::missing::missing_words;
 use event_machine::NetState;
 use event_rule::{Event, StepRefused};
 use interference::Network;
 use node_api::NodeProgram;
-use run_faults::EventFault;
 use std::alloc::Global;
 
 // The refusal of an event in a state, with its line and what it lacks.

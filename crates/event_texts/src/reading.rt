@@ -6,9 +6,9 @@ ghost use Rattle.event_texts.specs.Reader.{IsFaultOfReading, IsLineFault};
 ghost use Rattle.event_texts.specs.Reading.{is_passed_word, known_after, script_of};
 
 use crate::event_line::{event_with, is_event_word};
+use crate::fault::EventFault;
 use dimacs_col::{Fields, Lines};
 use event_rule::Event;
-use run_faults::EventFault;
 use std::alloc::Global;
 
 #[derive(Drop)]

@@ -10,7 +10,6 @@ use Rattle.answers.specs.Verdicts.{IsCheckAnswer, IsFaultOfCheck}
 use Rattle.byte_functions.specs.Workers.{IsFaultOfWorkers}
 use Rattle.answers.specs.declared.fault.PlanFault.{PlanFault}
 use Rattle.answers.specs.declared.fault.PlanFault.TheVariants.{Pool}
-use Rattle.answers.specs.declared.setting.Setting.TheVariants.{AsRead}
 use Rattle.command_line.specs.Asked.{request_of}
 use Rattle.command_line.specs.declared.executable.Executable.TheVariants.{Forestplan}
 use Rattle.command_line.specs.declared.request.Request.{Request}
@@ -28,11 +27,11 @@ IsGoodAnswer Check input answer = IsCheckAnswer input answer
 
 -- the fault of an input for each command, a line for each; the options of a command line are never out of range
 abbrev pub IsFaultAnswer : Request → List ℕ → PlanFault → Type 0
-IsFaultAnswer Forests input fault = IsFaultOfText AsRead input fault
-IsFaultAnswer Plain input fault = IsFaultOfText AsRead input fault
-IsFaultAnswer (Plan options) input fault = IsFaultOfWorkers AsRead options input fault × (fault ≢ Pool BadOptions)
+IsFaultAnswer Forests input fault = IsFaultOfText input fault
+IsFaultAnswer Plain input fault = IsFaultOfText input fault
+IsFaultAnswer (Plan options) input fault = IsFaultOfWorkers options input fault × (fault ≢ Pool BadOptions)
 IsFaultAnswer (Transcript options edition) input fault =
-    IsFaultOfWorkers AsRead options input fault × (fault ≢ Pool BadOptions)
+    IsFaultOfWorkers options input fault × (fault ≢ Pool BadOptions)
 IsFaultAnswer Check input fault = IsFaultOfCheck input fault
 
 -- the bytes that a command may answer, or its fault

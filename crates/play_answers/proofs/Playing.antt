@@ -12,33 +12,33 @@ use Rattle.event_texts.specs.Played.{IsFaultOfRun, events_in}
 use Rattle.event_texts.specs.Reader.{IsFaultOfReading}
 use Rattle.event_texts.specs.Reading.{Script, script_of}
 use Rattle.event_texts.specs.StateText.{state_text}
-use Rattle.run_faults.specs.declared.events.EventFault.{EventFault}
+use Rattle.event_texts.specs.declared.fault.EventFault.{EventFault}
 use Rattle.program_texts.specs.Texts.{ProgramTexts}
 use Rattle.program_texts.specs.PayloadTexts.{PayloadTexts}
-use Rattle.answers.specs.Answers.{IsFaultOfText, LinesReadAs, ReadsAs, network_with}
+use Rattle.answers.specs.Answers.{LinesReadAs, ReadsAs, network_with}
+use Rattle.play_inputs.specs.Inputs.{IsFaultOfText}
 use Rattle.play_answers.specs.EventAnswers.{AreInStep, IsEventsAnswer, IsFaultOfEventLines, IsFaultOfEvents, IsStateReached}
-use Rattle.answers.specs.declared.fault.PlanFault.{PlanFault}
-use Rattle.answers.specs.Settings.{OfSet}
-use Rattle.answers.specs.declared.fault.PlanFault.TheVariants as plan
-use Rattle.answers.specs.declared.setting.Setting.{Setting}
-use Rattle.answers.proofs.Settings.{set-more}
+use Rattle.play_inputs.specs.declared.fault.PlayFault.{PlayFault}
+use Rattle.play_inputs.specs.Settings.{OfSet}
+use Rattle.play_inputs.specs.declared.fault.PlayFault.TheVariants as play
+use Rattle.play_inputs.specs.declared.setting.Setting.{Setting}
+use Rattle.play_inputs.proofs.Settings.{set-more}
 
 -- what is known of the network of a text
 abbrev Reads : Setting → List ℕ → Net → Type 0
 Reads setting network net = ReadsAs network (OfSet setting (λ read. IsNetwork read × (net ≡ read)))
 
 module _ {S M E : Type 0} (program : Program S M E) (setting : Setting) where
-  pub fault-network : (input network : List ℕ) (fault : PlanFault) → AreNetworkLines (lines_of input) (lines_of network) →
+  pub fault-network : (input network : List ℕ) (fault : PlayFault) → AreNetworkLines (lines_of input) (lines_of network) →
       IsFaultOfText setting network fault → IsFaultOfEvents program setting input fault
-  fault-network input network (plan.Col fault) are is = fault-of event_words (lines_of input) (lines_of network) fault are is
-  fault-network input network (plan.NoRoot v) are (graph, reads, is) = (graph, graph-of event_words (lines_of input) (lines_of network) graph are reads, is)
-  fault-network input network (plan.Net fault) are (graph, reads, is) = (graph, graph-of event_words (lines_of input) (lines_of network) graph are reads, is)
-  fault-network input network (plan.Check fault) are is = absurd is
-  fault-network input network (plan.Pool fault) are is = absurd is
-  fault-network input network (plan.Event fault) are is = absurd is
-  fault-network input network (plan.Replay fault) are is = absurd is
-  fault-network input network plan.Stopped are is = absurd is
-  fault-network input network plan.Memory are is = tt
+  fault-network input network (play.Col fault) are is = fault-of event_words (lines_of input) (lines_of network) fault are is
+  fault-network input network (play.NoRoot v) are (graph, reads, is) = (graph, graph-of event_words (lines_of input) (lines_of network) graph are reads, is)
+  fault-network input network (play.Net fault) are (graph, reads, is) = (graph, graph-of event_words (lines_of input) (lines_of network) graph are reads, is)
+  fault-network input network (play.Pool fault) are is = absurd is
+  fault-network input network (play.Event fault) are is = absurd is
+  fault-network input network (play.Replay fault) are is = absurd is
+  fault-network input network play.Stopped are is = absurd is
+  fault-network input network play.Memory are is = tt
 
   -- what is known of the network that was read, and of the lines behind it
   behind : (input network : List ℕ) (net : Net) (Q : Net → Type 0) → AreNetworkLines (lines_of input) (lines_of network) →
@@ -51,13 +51,13 @@ module _ {S M E : Type 0} (program : Program S M E) (setting : Setting) where
   )
 
   pub fault-reading : (input network : List ℕ) (net : Net) (fault : EventFault) → AreNetworkLines (lines_of input) (lines_of network) →
-      Reads setting network net → IsFaultOfReading (lines_of input) fault → IsFaultOfEvents program setting input (plan.Event fault)
+      Reads setting network net → IsFaultOfReading (lines_of input) fault → IsFaultOfEvents program setting input (play.Event fault)
   fault-reading input network net fault are reads is =
       behind input network net (λ read. IsNetwork read × IsFaultOfEventLines program read (lines_of input) fault) are reads (λ ok. (ok, inl is))
 
   pub fault-run : (input network : List ℕ) (net : Net) (script : Script) (fault : EventFault) → AreNetworkLines (lines_of input) (lines_of network) →
       Reads setting network net → script_of (lines_of input) ≡ Ok script → IsFaultOfRun program net script fault →
-      IsFaultOfEvents program setting input (plan.Event fault)
+      IsFaultOfEvents program setting input (play.Event fault)
   fault-run input network net script fault are reads read is =
       behind input network net (λ known. IsNetwork known × IsFaultOfEventLines program known (lines_of input) fault) are reads
       (λ ok. (ok, inr (script, read, is)))

@@ -21,8 +21,8 @@ use Rattle.transcripts.proofs.EntryNumbers.{entries-have-lines}
 use Rattle.program_texts.specs.PayloadTexts.{PayloadTexts}
 use Rattle.play_answers.specs.ReplayAnswers.{HasLineOf, IsFaultOfEntry, IsFaultOfTranscript, IsRefusal, IsRefusalOfEntry, StopsThere}
 use Rattle.play_answers.specs.ReplayAnswers.{fault_at, index_of, transcript_in, words_text}
-use Rattle.run_faults.specs.declared.replays.ReplayFault.{ReplayFault}
-use Rattle.run_faults.specs.declared.replays.ReplayFault.TheVariants as fault
+use Rattle.play_inputs.specs.declared.replays.ReplayFault.{ReplayFault}
+use Rattle.play_inputs.specs.declared.replays.ReplayFault.TheVariants as fault
 
 pub entry-at : {X : Type 0} (f : ℕ → Option X) (numbers : List ℕ) (before : List X) (row : X) (after : List X) →
     map f numbers ≡ map (λ x. Some x) (before ++ row ∷ after) → f (slice_index_or numbers (length before) 0) ≡ Some row

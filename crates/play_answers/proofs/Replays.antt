@@ -13,15 +13,16 @@ use Rattle.transcripts.specs.Behind.{AreNetworkLines, network_lines, transcript_
 use Rattle.transcripts.specs.Editions.{One, Two}
 use Rattle.program_texts.specs.Texts.{ProgramTexts}
 use Rattle.program_texts.specs.PayloadTexts.{PayloadTexts}
-use Rattle.answers.specs.Answers.{IsFaultOfText, LinesReadAs, ReadsAs, network_with}
+use Rattle.answers.specs.Answers.{LinesReadAs, ReadsAs, network_with}
+use Rattle.play_inputs.specs.Inputs.{IsFaultOfText}
 use Rattle.play_answers.specs.EventAnswers.{AreInStep}
-use Rattle.answers.specs.Settings.{OfSet}
+use Rattle.play_inputs.specs.Settings.{OfSet}
 use Rattle.play_answers.specs.ReplayAnswers.{IsFaultOfNamed, IsFaultOfReplay, IsOfProgram, IsReplayAnswer, IsReplayed}
-use Rattle.answers.specs.declared.fault.PlanFault.{PlanFault}
-use Rattle.answers.specs.declared.fault.PlanFault.TheVariants as plan
-use Rattle.run_faults.specs.declared.replays.ReplayFault.{ReplayFault}
-use Rattle.answers.specs.declared.setting.Setting.{Setting}
-use Rattle.answers.proofs.Settings.{set-more}
+use Rattle.play_inputs.specs.declared.fault.PlayFault.{PlayFault}
+use Rattle.play_inputs.specs.declared.fault.PlayFault.TheVariants as play
+use Rattle.play_inputs.specs.declared.replays.ReplayFault.{ReplayFault}
+use Rattle.play_inputs.specs.declared.setting.Setting.{Setting}
+use Rattle.play_inputs.proofs.Settings.{set-more}
 
 abbrev Reads : Setting → List ℕ → Net → Type 0
 Reads setting network net = ReadsAs network (OfSet setting (λ read. IsNetwork read × (net ≡ read)))
@@ -35,19 +36,18 @@ in-step program payloads net state lines (Two read, is, leads) made = made leads
 
 module _ {S M E : Type 0} (program : Program S M E) (payloads : PayloadTexts M)
     (setting : Setting) where
-  pub fault-network : (texts : ProgramTexts S) (input network : List ℕ) (fault : PlanFault) → AreNetworkLines (lines_of input) (lines_of network) →
+  pub fault-network : (texts : ProgramTexts S) (input network : List ℕ) (fault : PlayFault) → AreNetworkLines (lines_of input) (lines_of network) →
       IsFaultOfText setting network fault → IsFaultOfReplay program payloads texts setting input fault
-  fault-network texts input network (plan.Col fault) are is = fault-of transcript_word (lines_of input) (lines_of network) fault are is
-  fault-network texts input network (plan.NoRoot v) are (graph, reads, is) =
+  fault-network texts input network (play.Col fault) are is = fault-of transcript_word (lines_of input) (lines_of network) fault are is
+  fault-network texts input network (play.NoRoot v) are (graph, reads, is) =
       (graph, graph-of transcript_word (lines_of input) (lines_of network) graph are reads, is)
-  fault-network texts input network (plan.Net fault) are (graph, reads, is) =
+  fault-network texts input network (play.Net fault) are (graph, reads, is) =
       (graph, graph-of transcript_word (lines_of input) (lines_of network) graph are reads, is)
-  fault-network texts input network (plan.Check fault) are is = absurd is
-  fault-network texts input network (plan.Pool fault) are is = absurd is
-  fault-network texts input network (plan.Event fault) are is = absurd is
-  fault-network texts input network (plan.Replay fault) are is = absurd is
-  fault-network texts input network plan.Stopped are is = absurd is
-  fault-network texts input network plan.Memory are is = tt
+  fault-network texts input network (play.Pool fault) are is = absurd is
+  fault-network texts input network (play.Event fault) are is = absurd is
+  fault-network texts input network (play.Replay fault) are is = absurd is
+  fault-network texts input network play.Stopped are is = absurd is
+  fault-network texts input network play.Memory are is = tt
 
   -- what is known of the network that was read, and of the lines behind it
   behind : (input network : List ℕ) (net : Net) (Q : Net → Type 0) → AreNetworkLines (lines_of input) (lines_of network) →
@@ -62,7 +62,7 @@ module _ {S M E : Type 0} (program : Program S M E) (payloads : PayloadTexts M)
   pub fault-transcript : (texts : ProgramTexts S) (input network : List ℕ) (net : Net) (fault : ReplayFault) →
       AreNetworkLines (lines_of input) (lines_of network) → Reads setting network net →
       IsFaultOfNamed program payloads texts.name net (lines_of input) fault →
-      IsFaultOfReplay program payloads texts setting input (plan.Replay fault)
+      IsFaultOfReplay program payloads texts setting input (play.Replay fault)
   fault-transcript texts input network net fault are reads is =
       behind input network net
       (λ known. IsNetwork known × IsFaultOfNamed program payloads texts.name known (lines_of input) fault) are reads

@@ -25,8 +25,8 @@ use Rattle.program_texts.specs.PayloadTexts.{PayloadTexts}
 use Rattle.play_answers.specs.ReplayAnswers.{HasLine, IsFaultOfStamped, IsFaultOfTranscript, IsRefusalOfEntry, IsRefusalOfStampedEntry}
 use Rattle.play_answers.specs.ReplayAnswers.{IsStampedLine, IsStampedRefusal, bare_rows}
 use Rattle.play_answers.specs.ReplayAnswers.{SaysWhyNot, StopsThere, fault_at, first_line_in, line_at, transcript_in}
-use Rattle.run_faults.specs.declared.replays.ReplayFault.{ReplayFault}
-use Rattle.run_faults.specs.declared.replays.ReplayFault.TheVariants as fault
+use Rattle.play_inputs.specs.declared.replays.ReplayFault.{ReplayFault}
+use Rattle.play_inputs.specs.declared.replays.ReplayFault.TheVariants as fault
 use Rattle.play_answers.proofs.RefusedLines.{entry-at, not-memory, says-there, entry-refusal}
 
 abbrev bare : {M : Type 0} → StampedRow M → Row M

@@ -13,14 +13,14 @@ use Rattle.event_texts.specs.Played.{IsFaultOfRun, events_in}
 use Rattle.event_texts.specs.Reader.{IsFaultOfReading}
 use Rattle.event_texts.specs.Reading.{Script, script_of}
 use Rattle.event_texts.specs.StateText.{state_text}
-use Rattle.run_faults.specs.declared.events.EventFault.{EventFault}
+use Rattle.event_texts.specs.declared.fault.EventFault.{EventFault}
 use Rattle.program_texts.specs.Texts.{ProgramTexts}
 use Rattle.program_texts.specs.PayloadTexts.{PayloadTexts}
 use Rattle.answers.specs.Answers.{LinesReadAs}
-use Rattle.answers.specs.Settings.{LacksRoot, OfSet}
-use Rattle.answers.specs.declared.fault.PlanFault.{PlanFault}
-use Rattle.answers.specs.declared.fault.PlanFault.TheVariants as plan
-use Rattle.answers.specs.declared.setting.Setting.{Setting}
+use Rattle.play_inputs.specs.Settings.{LacksRoot, OfSet}
+use Rattle.play_inputs.specs.declared.fault.PlayFault.{PlayFault}
+use Rattle.play_inputs.specs.declared.fault.PlayFault.TheVariants as play
+use Rattle.play_inputs.specs.declared.setting.Setting.{Setting}
 
 -- each node is in the state of the synchronous run at its pulse, whatever the order of the events: so a node at the
 -- last pulse is in its last state
@@ -48,15 +48,12 @@ module _ {S M E : Type 0} (program : Program S M E) where
       ⊎ ((script : Script) × (script_of lines ≡ Ok script) × IsFaultOfRun program net script fault)
 
   -- the fault of an input of `events`: of the network text before the events, or of the root, or else of the events
-  abbrev pub IsFaultOfEvents : Setting → List ℕ → PlanFault → Type 0
-  IsFaultOfEvents setting input (plan.Col fault) = IsFault (network_lines (lines_of input)) fault
-  IsFaultOfEvents setting input (plan.NoRoot v) = LinesReadAs (network_lines (lines_of input)) (LacksRoot setting v)
-  IsFaultOfEvents setting input (plan.Net fault) =
+  abbrev pub IsFaultOfEvents : Setting → List ℕ → PlayFault → Type 0
+  IsFaultOfEvents setting input (play.Col fault) = IsFault (network_lines (lines_of input)) fault
+  IsFaultOfEvents setting input (play.NoRoot v) = LinesReadAs (network_lines (lines_of input)) (LacksRoot setting v)
+  IsFaultOfEvents setting input (play.Net fault) =
       LinesReadAs (network_lines (lines_of input)) (OfSet setting (λ net. IsFaultOf net fault))
-  IsFaultOfEvents setting input (plan.Pool fault) = ⊥
-  IsFaultOfEvents setting input (plan.Check fault) = ⊥
-  IsFaultOfEvents setting input (plan.Event fault) = LinesReadAs (network_lines (lines_of input))
+  IsFaultOfEvents setting input (play.Event fault) = LinesReadAs (network_lines (lines_of input))
       (OfSet setting (λ net. IsNetwork net × IsFaultOfEventLines net (lines_of input) fault))
-  IsFaultOfEvents setting input (plan.Replay fault) = ⊥
-  IsFaultOfEvents setting input plan.Stopped = ⊥
-  IsFaultOfEvents setting input plan.Memory = Unit {0}
+  IsFaultOfEvents setting input play.Memory = Unit {0}
+  IsFaultOfEvents setting input _ = ⊥

@@ -32,12 +32,12 @@ use Rattle.program_texts.specs.Texts.{ProgramTexts}
 use Rattle.program_texts.specs.PayloadTexts.{PayloadTexts}
 use Rattle.answers.specs.Answers.{LinesReadAs}
 use Rattle.play_answers.specs.EventAnswers.{AreInStep}
-use Rattle.answers.specs.Settings.{LacksRoot, OfSet}
-use Rattle.answers.specs.declared.fault.PlanFault.{PlanFault}
-use Rattle.answers.specs.declared.fault.PlanFault.TheVariants as plan
-use Rattle.run_faults.specs.declared.replays.ReplayFault.{ReplayFault}
-use Rattle.run_faults.specs.declared.replays.ReplayFault.TheVariants as fault
-use Rattle.answers.specs.declared.setting.Setting.{Setting}
+use Rattle.play_inputs.specs.Settings.{LacksRoot, OfSet}
+use Rattle.play_inputs.specs.declared.fault.PlayFault.{PlayFault}
+use Rattle.play_inputs.specs.declared.fault.PlayFault.TheVariants as play
+use Rattle.play_inputs.specs.declared.replays.ReplayFault.{ReplayFault}
+use Rattle.play_inputs.specs.declared.replays.ReplayFault.TheVariants as fault
+use Rattle.play_inputs.specs.declared.setting.Setting.{Setting}
 
 -- the transcript that follows a network, or the number of its first wrong line
 abbrev pub transcript_in : {M : Type 0} → PayloadTexts M → List Line → Result (AnyTranscript M) ℕ
@@ -243,16 +243,13 @@ module _ {S M E : Type 0} (program : Program S M E) (payloads : PayloadTexts M) 
 
   -- the fault of an input of `replay`, for a program with texts: of the network text before the transcript, or of the
   -- root, or else of the transcript
-  abbrev pub IsFaultOfReplay : ProgramTexts S → Setting → List ℕ → PlanFault → Type 0
-  IsFaultOfReplay texts setting input (plan.Col fault) = IsFault (network_lines (lines_of input)) fault
-  IsFaultOfReplay texts setting input (plan.NoRoot v) =
+  abbrev pub IsFaultOfReplay : ProgramTexts S → Setting → List ℕ → PlayFault → Type 0
+  IsFaultOfReplay texts setting input (play.Col fault) = IsFault (network_lines (lines_of input)) fault
+  IsFaultOfReplay texts setting input (play.NoRoot v) =
       LinesReadAs (network_lines (lines_of input)) (LacksRoot setting v)
-  IsFaultOfReplay texts setting input (plan.Net fault) =
+  IsFaultOfReplay texts setting input (play.Net fault) =
       LinesReadAs (network_lines (lines_of input)) (OfSet setting (λ net. IsFaultOf net fault))
-  IsFaultOfReplay texts setting input (plan.Pool fault) = ⊥
-  IsFaultOfReplay texts setting input (plan.Check fault) = ⊥
-  IsFaultOfReplay texts setting input (plan.Event fault) = ⊥
-  IsFaultOfReplay texts setting input (plan.Replay fault) = LinesReadAs (network_lines (lines_of input))
+  IsFaultOfReplay texts setting input (play.Replay fault) = LinesReadAs (network_lines (lines_of input))
       (OfSet setting (λ net. IsNetwork net × IsFaultOfNamed texts.name net (lines_of input) fault))
-  IsFaultOfReplay texts setting input plan.Stopped = ⊥
-  IsFaultOfReplay texts setting input plan.Memory = Unit {0}
+  IsFaultOfReplay texts setting input play.Memory = Unit {0}
+  IsFaultOfReplay texts setting input _ = ⊥

@@ -4,10 +4,10 @@ ghost use Rattle.std.specs.Prelude.{IfOk, IfErr};
 ghost use Rattle.program_texts.specs.PayloadTexts.{payload_texts};
 ghost use Rattle.play_answers.specs.EventAnswers.{IsEventsAnswer, IsFaultOfEvents};
 
-use answers::{PlanFault, Setting, network_of_text};
 use event_machine::laws::every_run_simulates;
 use event_texts::{network_text, play, read_events, text_of_state};
 use node_api::Refused;
+use play_inputs::{PlayFault, Setting, network_of_text};
 use program_texts::ProgramText;
 use std::alloc::Global;
 
@@ -23,7 +23,7 @@ pub fn events_bytes<P: ProgramText>(
     alloc: Global,
     input: &[u8],
     setting: Setting,
-) -> Result<Vec<u8>, PlanFault>
+) -> Result<Vec<u8>, PlayFault>
     ensures ok { IfOk result (λ text.
         IsEventsAnswer P.program P.texts (payload_texts P.Payload.PayloadText.own) setting input.now text.items) }
     ensures fault { IfErr result (IsFaultOfEvents P.program setting input.now) }

@@ -1,8 +1,8 @@
 //! The answers of commands that only `forestplay` has and that play what its user wrote: of events and of a replay,
 //! from bytes to bytes, for any program that has a `ProgramText`.
 //!
-//! `play_commands` calls `events_bytes` or `replay_bytes`. Their faults are those of `answers`, which reports them. A
-//! first call of `forestplan` doesn't prove this crate, nor `event_texts` below it.
+//! `play_commands` calls `events_bytes` or `replay_bytes`. Their faults are those of `play_inputs`, which reports
+//! them. A first call of `forestplan` doesn't prove this crate, nor `event_texts` below it.
 //!
 //! ```
 //! let text = b"p edge 2 1\ne 1 2\nput 1 0\n";

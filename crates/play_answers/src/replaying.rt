@@ -14,7 +14,6 @@ ghost use Rattle.play_answers.specs.ReplayAnswers.{SaysWhyNot, StopsThere};
 ghost use Rattle.play_answers.specs.ReplayAnswers.{bare_rows, fault_at, first_line_in, index_of, last_of, line_at};
 ghost use Rattle.play_answers.specs.ReplayAnswers.{transcript_in, words_text};
 
-use answers::{PlanFault, Setting, network_of_text};
 use dimacs_col::text_start;
 use entries::{Row, StampedRow};
 use event_machine::NetState;
@@ -24,8 +23,8 @@ use event_texts::{expected_words, missing_words, text_of_state};
 use interference::Network;
 use net_core::{ReplayRefused, WholeRefused, event_of, replay, replay_whole};
 use node_api::{NodeProgram, PayloadText, Refused};
+use play_inputs::{PlayFault, ReplayFault, Setting, network_of_text};
 use program_texts::ProgramText;
-use run_faults::ReplayFault;
 use std::alloc::{AllocError, Global};
 use transcripts::{Transcript, entry_lines, network_text, program_in, read_any_behind_network};
 
@@ -279,7 +278,7 @@ pub fn replay_bytes<P: ProgramText>(
     alloc: Global,
     input: &[u8],
     setting: Setting,
-) -> Result<Vec<u8>, PlanFault>
+) -> Result<Vec<u8>, PlayFault>
     ensures ok { IfOk result (λ text. IsReplayAnswer P.program P.texts (payload_texts P.Payload.PayloadText.own) setting
         input.now text.items) }
     ensures fault { IfErr result

@@ -8,10 +8,10 @@ use Rattle.program_texts.specs.PayloadTexts.{PayloadTexts}
 use Rattle.command_line.specs.declared.programs.Shown.TheVariants as shown
 use Rattle.command_line.specs.declared.play_request.Play.{Play}
 use Rattle.command_line.specs.declared.play_request.Play.TheVariants.{Alone, Ends, Events, Replay, Rounds, Run}
-use Rattle.answers.specs.Roots.{rooted}
-use Rattle.answers.specs.declared.fault.PlanFault.{PlanFault}
-use Rattle.answers.specs.declared.setting.Root.{Root}
-use Rattle.answers.specs.declared.setting.Setting.TheVariants.{Rooted}
+use Rattle.play_inputs.specs.Roots.{rooted}
+use Rattle.play_inputs.specs.declared.fault.PlayFault.{PlayFault}
+use Rattle.play_inputs.specs.declared.setting.Root.{Root}
+use Rattle.play_inputs.specs.declared.setting.Setting.TheVariants.{Rooted}
 use Rattle.play_commands.specs.Plays.{IsGoodPlay, MayPlay}
 
 module _ {S M E : Type 0} (program : Program S M E) (texts : ProgramTexts S) (payloads : PayloadTexts M) (root : Root)
@@ -34,7 +34,7 @@ module _ {S M E : Type 0} (program : Program S M E) (texts : ProgramTexts S) (pa
   good (Alone shown.Transcript) input answer is = is
   good Ends input answer (graph, reads, (vertex, (ok, is, solves))) = (graph, reads, (vertex, (ok, is, solved _ vertex ok)))
 
-  pub plays : (play : Play) (input : List ℕ) (result : Result (List ℕ) PlanFault)
+  pub plays : (play : Play) (input : List ℕ) (result : Result (List ℕ) PlayFault)
       → MayPlay program texts payloads (Rooted root) play input result
       → MayPlay program other payloads (Rooted root) play input result
   plays play input (Ok answer) may = good play input answer may

@@ -6,16 +6,16 @@ use Rattle.run_options.specs.declared.Edition.TheVariants as edition
 use Rattle.run_answers.specs.Ends.{IsEndsAnswer}
 use Rattle.program_texts.specs.PayloadTexts.{PayloadTexts}
 use Rattle.byte_functions.specs.Payloads.{colouring_payloads}
-use Rattle.byte_functions.specs.Workers.{IsFaultOfWorkers}
-use Rattle.answers.specs.Answers.{IsFaultOfText}
+use Rattle.run_answers.specs.Workers.{IsFaultOfWorkers}
+use Rattle.play_inputs.specs.Inputs.{IsFaultOfText}
 use Rattle.play_answers.specs.EventAnswers.{IsEventsAnswer, IsFaultOfEvents}
 use Rattle.play_answers.specs.ReplayAnswers.{IsFaultOfReplay, IsReplayAnswer}
 use Rattle.run_answers.specs.RoundAnswers.{IsRoundsAnswer}
-use Rattle.answers.specs.declared.fault.PlanFault.{PlanFault}
-use Rattle.answers.specs.declared.fault.PlanFault.TheVariants.{Pool}
-use Rattle.answers.specs.declared.setting.Root.{Root}
-use Rattle.answers.specs.declared.setting.Setting.{Setting}
-use Rattle.answers.specs.declared.setting.Setting.TheVariants.{AsRead, Repeating, Rooted}
+use Rattle.play_inputs.specs.declared.fault.PlayFault.{PlayFault}
+use Rattle.play_inputs.specs.declared.fault.PlayFault.TheVariants.{Pool}
+use Rattle.play_inputs.specs.declared.setting.Root.{Root}
+use Rattle.play_inputs.specs.declared.setting.Setting.{Setting}
+use Rattle.play_inputs.specs.declared.setting.Setting.TheVariants.{AsRead, Repeating, Rooted}
 use Rattle.colour_program.specs.ColoursText.{colouring_texts}
 use Rattle.colour_rules.specs.Program.{colouring}
 use Rattle.run_options.specs.declared.fault.PoolFault.TheVariants.{BadOptions}
@@ -56,7 +56,7 @@ module _ {S M E : Type 0} (program : Program S M E) (texts : ProgramTexts S) (pa
   IsGoodPlay Ends input answer = IsEndsAnswer program texts setting input answer
 
   -- the fault of an input, a line for each; the options of a command line are never out of range
-  abbrev pub IsFaultPlay : Play → List ℕ → PlanFault → Type 0
+  abbrev pub IsFaultPlay : Play → List ℕ → PlayFault → Type 0
   IsFaultPlay Events input fault = IsFaultOfEvents program setting input fault
   IsFaultPlay Replay input fault = IsFaultOfReplay program payloads texts setting input fault
   IsFaultPlay Rounds input fault = IsFaultOfText setting input fault
@@ -65,7 +65,7 @@ module _ {S M E : Type 0} (program : Program S M E) (texts : ProgramTexts S) (pa
   IsFaultPlay (Run options show) input fault = IsFaultOfWorkers setting options input fault × (fault ≢ Pool BadOptions)
 
   -- the bytes that nodes may answer, or the fault
-  abbrev pub MayPlay : Play → List ℕ → Result (List ℕ) PlanFault → Type 0
+  abbrev pub MayPlay : Play → List ℕ → Result (List ℕ) PlayFault → Type 0
   MayPlay play input (Ok answer) = IsGoodPlay play input answer
   MayPlay play input (Err fault) = IsFaultPlay play input fault
 
@@ -75,7 +75,7 @@ layers_root v = record { vertex = v; id = ROOT_ID }
 
 -- the same of the program of a name, each a line; layers with a root are the distances from this vertex, and the
 -- recolouring makes a pass and as many more
-abbrev pub MayPlayNamed : NodeProgramName → Play → List ℕ → Result (List ℕ) PlanFault → Type 0
+abbrev pub MayPlayNamed : NodeProgramName → Play → List ℕ → Result (List ℕ) PlayFault → Type 0
 MayPlayNamed Colouring = MayPlay colouring colouring_texts colouring_payloads AsRead
 MayPlayNamed Leader = MayPlay election leader_texts leader_payloads AsRead
 MayPlayNamed (Layers None) = MayPlay layering layers_texts layers_payloads AsRead

@@ -1,8 +1,8 @@
 //! The commands of `forestplay`.
 
 use crate::playing::named_bytes;
-use answers::{PlanFault, fault_report};
 use command_line::{Declined, Executable, PlayRequest, parse_play};
+use play_inputs::{PlayFault, fault_report};
 use reports::FaultReport;
 use serving::Commands;
 use std::alloc::{AllocError, Global};
@@ -18,7 +18,7 @@ impl Commands for ForestplayCommands {
 
     type Request = PlayRequest;
 
-    type Fault = PlanFault;
+    type Fault = PlayFault;
 
     ghost commands = { forestplay_commands };
 
@@ -35,7 +35,7 @@ impl Commands for ForestplayCommands {
     fn fault_report(
         alloc: Global,
         name: &str,
-        fault: PlanFault,
+        fault: PlayFault,
     ) -> Result<FaultReport, AllocError> {
         fault_report(alloc, name, fault)
     }
@@ -45,7 +45,7 @@ impl Commands for ForestplayCommands {
         alloc: Global,
         request: PlayRequest,
         input: &[u8],
-    ) -> Result<Vec<u8>, PlanFault> {
+    ) -> Result<Vec<u8>, PlayFault> {
         named_bytes(rt, alloc, request.program, request.play, input)
     }
 }

@@ -9,7 +9,6 @@ ghost use Rattle.play_commands.specs.Payloads.{layers_payloads};
 ghost use Rattle.play_commands.specs.Plays.{MayPlay, MayPlayNamed, layers_root};
 
 use actor::OpenGate;
-use answers::{PlanFault, Root, Setting};
 use colour_program::Colouring;
 use command_line::{NodeProgramName, Play, Shown};
 use independent_set::IndependentSet;
@@ -18,6 +17,7 @@ use layers::{Layers, ROOT_ID};
 use leader::Leader;
 use matching::Matching;
 use play_answers::{events_bytes, replay_bytes};
+use play_inputs::{PlayFault, Root, Setting};
 use program_texts::ProgramText;
 use recolouring::Recolouring;
 use run_answers::{
@@ -36,7 +36,7 @@ fn play_bytes<P: ProgramText, T: Threads + Wait + Sync>(
     setting: Setting,
     play: Play,
     input: &[u8],
-) -> Result<Vec<u8>, PlanFault>
+) -> Result<Vec<u8>, PlayFault>
     requires in_range { IsPlayInRange play }
     ensures ok { IfOk result (λ bytes. MayPlay P.program P.texts (payload_texts P.Payload.PayloadText.own) setting
         play input.now (Ok bytes.items)) }
@@ -72,7 +72,7 @@ fn layers_bytes<T: Threads + Wait + Sync>(
     vertex: u32,
     play: Play,
     input: &[u8],
-) -> Result<Vec<u8>, PlanFault>
+) -> Result<Vec<u8>, PlayFault>
     requires in_range { IsPlayInRange play }
     ensures ok { IfOk result (λ bytes. MayPlay layering (layers_texts_from vertex) layers_payloads
         (Setting.Rooted (layers_root vertex)) play input.now (Ok bytes.items)) }
@@ -98,7 +98,7 @@ pub fn named_bytes<T: Threads + Wait + Sync>(
     program: NodeProgramName,
     play: Play,
     input: &[u8],
-) -> Result<Vec<u8>, PlanFault>
+) -> Result<Vec<u8>, PlayFault>
     requires in_range { IsPlayInRange play }
     ensures ok { IfOk result (λ bytes. MayPlayNamed program play input.now (Ok bytes.items)) }
     ensures fault { IfErr result (λ fault. MayPlayNamed program play input.now (Err fault)) }

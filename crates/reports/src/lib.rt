@@ -1,8 +1,11 @@
 //! How a fault of any program is reported: the line on standard error, and the status.
 //!
-//! `answers` calls `refusal`, `report_with` or `memory_report` for a fault, and `serving` writes the `FaultReport`.
+//! `answers` and `play_inputs` call `refusal`, `stopped_report` or `memory_report` for a fault, and `serving` writes
+//! the `FaultReport`.
 #![tactic(auto)]
 
 mod report;
 
-pub use report::{FaultReport, Place, memory_report, refusal, refusal_in_words, report_with};
+pub use report::{
+    FaultReport, Place, memory_report, refusal, refusal_in_words, report_with, stopped_report,
+};

@@ -8,6 +8,9 @@ use std::alloc::{AllocError, Global};
 // The status if the input is refused.
 const REFUSED: u8 = 1;
 
+// The status if the workers stopped before every node was done.
+const STOPPED: u8 = 3;
+
 // The status if memory ran out.
 const NOT_DONE: u8 = 4;
 
@@ -119,4 +122,15 @@ pub fn memory_report(alloc: Global, name: &str) -> Result<FaultReport, AllocErro
     ensures status { IfOk result (λ report. report.status ≡ 4) }
 {
     report_with(alloc, name, "memory", NOT_DONE)
+}
+
+/// The report that the workers stopped before every node was done.
+///
+/// # Errors
+/// If there is no memory for the line.
+pub fn stopped_report(alloc: Global, name: &str) -> Result<FaultReport, AllocError>
+    ensures line { IfOk result (λ report. report.line.items ≡ line_with name.now (codes "stopped")) }
+    ensures status { IfOk result (λ report. report.status ≡ 3) }
+{
+    report_with(alloc, name, "stopped", STOPPED)
 }

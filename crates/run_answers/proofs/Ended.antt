@@ -5,9 +5,9 @@ use Rattle.std.proofs.lemmas.List.Folds.{flat_map-map}
 use Rattle.std.proofs.lemmas.List.FromFn.{get_or-map-range_with_len, length-map-range_with_len}
 use Rattle.dimacs_col.specs.Lines.{lines_of}
 use Rattle.answers.specs.Answers.{ReadsAs}
-use Rattle.answers.specs.Settings.{OfSet}
-use Rattle.answers.specs.declared.setting.Setting.{Setting}
-use Rattle.answers.proofs.Settings.{lines-more}
+use Rattle.play_inputs.specs.Settings.{OfSet}
+use Rattle.play_inputs.specs.declared.setting.Setting.{Setting}
+use Rattle.play_inputs.proofs.Settings.{lines-more}
 use Rattle.program_texts.specs.Texts.{ProgramTexts}
 use Rattle.interference.specs.Net.{Net, IsNetwork, IsVertex, count_of, vertices}
 use Rattle.node_api.specs.Program.{Program, last_pulse_on}

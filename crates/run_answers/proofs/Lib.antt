@@ -4,3 +4,4 @@ mod Quiet
 mod Ran
 mod Rows
 mod States
+mod Working

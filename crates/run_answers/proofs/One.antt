@@ -6,9 +6,9 @@ use Rattle.interference.specs.Net.{repeated}
 use Rattle.node_api.specs.Program.{Program}
 use Rattle.program_texts.specs.Texts.{ProgramTexts}
 use Rattle.answers.specs.Answers.{network_with}
-use Rattle.answers.specs.Roots.{rooted}
-use Rattle.answers.specs.declared.setting.Setting.{Setting}
-use Rattle.answers.specs.declared.setting.Setting.TheVariants.{AsRead, Repeating, Rooted}
+use Rattle.play_inputs.specs.Roots.{rooted}
+use Rattle.play_inputs.specs.declared.setting.Setting.{Setting}
+use Rattle.play_inputs.specs.declared.setting.Setting.TheVariants.{AsRead, Repeating, Rooted}
 use Rattle.run_answers.specs.Ends.{IsEndsAnswer, ends_text}
 
 pub one-text : {S M E : Type 0} (program : Program S M E) (texts : ProgramTexts S) (setting : Setting) (input one other : List ℕ)

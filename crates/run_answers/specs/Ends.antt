@@ -1,8 +1,8 @@
 -- The text of the last states of a program's nodes.
 use Rattle.std.specs.Prelude.{◌≡◌, ℕ, List, ◌++◌, codes, flat_map}
 use Rattle.answers.specs.Answers.{ReadsAs}
-use Rattle.answers.specs.Settings.{OfSet}
-use Rattle.answers.specs.declared.setting.Setting.{Setting}
+use Rattle.play_inputs.specs.Settings.{OfSet}
+use Rattle.play_inputs.specs.declared.setting.Setting.{Setting}
 use Rattle.alpha_core.specs.View.{Node}
 use Rattle.outcomes.specs.Outcome.{Gathered}
 use Rattle.program_texts.specs.Texts.{ProgramTexts}

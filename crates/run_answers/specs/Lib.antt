@@ -1,3 +1,4 @@
+pub mod Workers
 pub mod Ends
 pub mod Transcripts
 pub mod PutsText

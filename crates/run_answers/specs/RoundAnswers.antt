@@ -7,8 +7,8 @@ use Rattle.program_texts.specs.Texts.{ProgramTexts}
 use Rattle.run_answers.specs.RoundsText.{rounds_text}
 use Rattle.program_texts.specs.PayloadTexts.{PayloadTexts}
 use Rattle.answers.specs.Answers.{ReadsAs}
-use Rattle.answers.specs.Settings.{OfSet}
-use Rattle.answers.specs.declared.setting.Setting.{Setting}
+use Rattle.play_inputs.specs.Settings.{OfSet}
+use Rattle.play_inputs.specs.declared.setting.Setting.{Setting}
 
 -- the answer is the text of the synchronous run of a program on the network that the input describes, as it is set, and
 -- the last states of this run are what the program is for

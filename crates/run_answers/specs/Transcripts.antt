@@ -9,8 +9,8 @@ use Rattle.program_texts.specs.Texts.{ProgramTexts}
 use Rattle.transcripts.specs.TranscriptText.{stamped_row_text, text_of}
 use Rattle.program_texts.specs.PayloadTexts.{PayloadTexts}
 use Rattle.answers.specs.Answers.{ReadsAs}
-use Rattle.answers.specs.Settings.{OfSet}
-use Rattle.answers.specs.declared.setting.Setting.{Setting}
+use Rattle.play_inputs.specs.Settings.{OfSet}
+use Rattle.play_inputs.specs.declared.setting.Setting.{Setting}
 use Rattle.run_options.specs.declared.Edition.{Edition}
 use Rattle.byte_functions.specs.Transcripts.{IsTranscriptOn, stamped_edition}
 

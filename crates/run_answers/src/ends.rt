@@ -3,14 +3,14 @@
 ghost use Rattle.std.specs.Prelude.{◌≡◌, IfOk, IfErr, flat_map};
 ghost use Rattle.interference.specs.Net.{vertices};
 ghost use Rattle.event_rule.specs.State.{node_of};
-ghost use Rattle.answers.specs.Answers.{IsFaultOfText};
+ghost use Rattle.play_inputs.specs.Inputs.{IsFaultOfText};
 ghost use Rattle.run_answers.specs.Ends.{IsEndsAnswer, node_end};
 
 use crate::lines::push_end;
-use answers::{PlanFault, Setting, network_of_text};
 use event_machine::NetState;
 use interference::Memory;
 use lone_runs::run_alone;
+use play_inputs::{PlayFault, Setting, network_of_text};
 use program_texts::ProgramText;
 use std::alloc::Global;
 
@@ -39,7 +39,7 @@ pub fn alone_bytes<P: ProgramText>(
     alloc: Global,
     input: &[u8],
     setting: Setting,
-) -> Result<Vec<u8>, PlanFault>
+) -> Result<Vec<u8>, PlayFault>
     ensures ok { IfOk result (λ text. IsEndsAnswer P.program P.texts setting input.now text.items) }
     ensures fault { IfErr result (IsFaultOfText setting input.now) }
 {

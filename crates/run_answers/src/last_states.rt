@@ -2,12 +2,12 @@
 
 ghost use Rattle.std.specs.Prelude.{◌≡◌, IfOk, IfErr};
 ghost use Rattle.node_api.specs.Run.{last_states};
-ghost use Rattle.answers.specs.Answers.{IsFaultOfText};
+ghost use Rattle.play_inputs.specs.Inputs.{IsFaultOfText};
 ghost use Rattle.run_answers.specs.Ends.{IsEndsAnswer, ends_text};
 
 use crate::lines::push_end;
-use answers::{PlanFault, Setting, network_of_text};
 use interference::{Memory, Network};
+use play_inputs::{PlayFault, Setting, network_of_text};
 use program_texts::ProgramText;
 use std::alloc::Global;
 use sync_rounds::run_rounds;
@@ -39,7 +39,7 @@ pub fn ends_bytes<P: ProgramText>(
     alloc: Global,
     input: &[u8],
     setting: Setting,
-) -> Result<Vec<u8>, PlanFault>
+) -> Result<Vec<u8>, PlayFault>
     ensures ok { IfOk result (λ text. IsEndsAnswer P.program P.texts setting input.now text.items) }
     ensures fault { IfErr result (IsFaultOfText setting input.now) }
 {

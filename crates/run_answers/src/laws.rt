@@ -1,7 +1,7 @@
 //! What holds of the answers together. The law is the contract of a function that does nothing.
 
 ghost use Rattle.std.specs.Prelude.{◌≡◌, List, ℕ};
-ghost use Rattle.answers.specs.declared.setting.Setting.{Setting};
+ghost use Rattle.play_inputs.specs.declared.setting.Setting.{Setting};
 ghost use Rattle.run_answers.specs.Ends.{IsEndsAnswer};
 
 use program_texts::ProgramText;

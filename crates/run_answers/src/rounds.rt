@@ -2,11 +2,11 @@
 
 ghost use Rattle.std.specs.Prelude.{IfOk, IfErr};
 ghost use Rattle.program_texts.specs.PayloadTexts.{payload_texts};
-ghost use Rattle.answers.specs.Answers.{IsFaultOfText};
+ghost use Rattle.play_inputs.specs.Inputs.{IsFaultOfText};
 ghost use Rattle.run_answers.specs.RoundAnswers.{IsRoundsAnswer};
 
 use crate::round_texts::rounds_text;
-use answers::{PlanFault, Setting, network_of_text};
+use play_inputs::{PlayFault, Setting, network_of_text};
 use program_texts::ProgramText;
 use std::alloc::Global;
 
@@ -19,7 +19,7 @@ pub fn rounds_bytes<P: ProgramText>(
     alloc: Global,
     input: &[u8],
     setting: Setting,
-) -> Result<Vec<u8>, PlanFault>
+) -> Result<Vec<u8>, PlayFault>
     ensures ok { IfOk result (λ text.
         IsRoundsAnswer P.program P.texts (payload_texts P.Payload.PayloadText.own) setting input.now text.items) }
     ensures fault { IfErr result (IsFaultOfText setting input.now) }

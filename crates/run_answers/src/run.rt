@@ -5,16 +5,16 @@ ghost use Rattle.interference.specs.Net.{IsVertex};
 ghost use Rattle.run_options.specs.Ranges.{AreInRange};
 ghost use Rattle.outcomes.specs.Gathers.{gathered_of};
 ghost use Rattle.run_answers.specs.Ends.{IsEndsAnswer, gathered_end};
-ghost use Rattle.byte_functions.specs.Workers.{IsFaultOfWorkers};
+ghost use Rattle.run_answers.specs.Workers.{IsFaultOfWorkers};
 
 use crate::lines::push_end;
 use actor::Gate;
-use answers::{PlanFault, Setting, network_of_text};
 use byte_functions::whole_run;
 use interference::{Memory, Network};
 use node_api::Refused;
 use outcomes::Actor;
 use outcomes::laws::whole_outcomes_have_ended;
+use play_inputs::{PlayFault, Setting, network_of_text};
 use program_texts::ProgramText;
 use run_options::Options;
 use std::alloc::Global;
@@ -61,7 +61,7 @@ pub fn run_bytes<P: ProgramText, G: Gate + Sync, R: Threads + Wait + Sync>(
     setting: Setting,
     options: Options,
     gate: &G,
-) -> Result<Vec<u8>, PlanFault>
+) -> Result<Vec<u8>, PlayFault>
     ensures ok { IfOk result (λ text. IsEndsAnswer P.program P.texts setting input.now text.items) }
     ensures in_range { IfOk result (λ _. AreInRange options) }
     ensures fault { IfErr result (IsFaultOfWorkers setting options input.now) }

@@ -4,17 +4,17 @@ ghost use Rattle.std.specs.Prelude.{◌≡◌, IfOk, IfErr};
 ghost use Rattle.run_options.specs.Ranges.{AreInRange};
 ghost use Rattle.transcripts.specs.TranscriptText.{stamped_row_text, text_of};
 ghost use Rattle.program_texts.specs.PayloadTexts.{payload_texts};
-ghost use Rattle.answers.specs.Answers.{IsFaultOfText};
+ghost use Rattle.play_inputs.specs.Inputs.{IsFaultOfText};
 ghost use Rattle.byte_functions.specs.Transcripts.{stamped_edition};
-ghost use Rattle.byte_functions.specs.Workers.{IsFaultOfWorkers};
 ghost use Rattle.run_answers.specs.Transcripts.{IsLoneTranscript, IsProgramTranscript};
+ghost use Rattle.run_answers.specs.Workers.{IsFaultOfWorkers};
 
 use actor::Gate;
-use answers::{PlanFault, Setting, network_of_text};
 use byte_functions::{push_edition_line, run_transcript};
 use entries::StampedRow;
 use interference::Memory;
 use lone_runs::record_alone;
+use play_inputs::{PlayFault, Setting, network_of_text};
 use program_texts::ProgramText;
 use run_options::{Edition, Options};
 use std::alloc::Global;
@@ -50,7 +50,7 @@ pub fn alone_transcript_bytes<P: ProgramText>(
     alloc: Global,
     input: &[u8],
     setting: Setting,
-) -> Result<Vec<u8>, PlanFault>
+) -> Result<Vec<u8>, PlayFault>
     ensures ok { IfOk result (λ text. IsLoneTranscript P.program P.texts (payload_texts P.Payload.PayloadText.own)
         setting input.now text.items) }
     ensures fault { IfErr result (IsFaultOfText setting input.now) }
@@ -75,7 +75,7 @@ pub fn run_transcript_bytes<P: ProgramText, G: Gate + Sync, R: Threads + Wait + 
     options: Options,
     edition: Edition,
     gate: &G,
-) -> Result<Vec<u8>, PlanFault>
+) -> Result<Vec<u8>, PlayFault>
     ensures ok { IfOk result (λ text. IsProgramTranscript P.program (payload_texts P.Payload.PayloadText.own) P.texts
         edition setting input.now text.items) }
     ensures in_range { IfOk result (λ _. AreInRange options) }

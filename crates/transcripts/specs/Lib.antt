@@ -5,6 +5,5 @@ pub mod EditionRows
 pub mod Behind
 pub mod Editions
 pub mod Reader
-pub mod Faults
 pub mod Merge
 pub mod Lines

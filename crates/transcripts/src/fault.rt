@@ -1,10 +1,8 @@
 //! Why a text isn't read as a transcript.
 
 ghost use Rattle.std.specs.Prelude.{◌≡◌};
-ghost use Rattle.transcripts.specs.Faults.{fault_of_text};
 ghost use Rattle.transcripts.specs.declared.fault.TextFault.TheVariants.{Memory};
 
-use run_faults::ReplayFault;
 use std::alloc::{AllocError, AllocFailed};
 use thiserror::Error;
 
@@ -30,16 +28,5 @@ impl<T: Drop> From<AllocFailed<T>> for TextFault {
 
     fn from(_error: AllocFailed<T>) -> TextFault {
         TextFault::Memory
-    }
-}
-
-impl From<TextFault> for ReplayFault {
-    ghost from_gives = { λ fault result. result ≡ fault_of_text fault };
-
-    fn from(fault: TextFault) -> ReplayFault {
-        match fault {
-            TextFault::Syntax(line) => ReplayFault::Syntax(line),
-            TextFault::Memory => ReplayFault::Memory,
-        }
     }
 }

@@ -3,10 +3,10 @@
 use crate::meeting::Meeting;
 use crate::node_pool_checks::PULSES;
 use crate::runs::BY_TWO;
-use answers::Setting;
 use byte_functions::{plan_bytes, transcript_bytes};
 use colour_program::Colouring;
 use play_answers::replay_bytes;
+use play_inputs::Setting;
 use run_answers::run_bytes;
 use run_options::Edition;
 use std::alloc::Global;

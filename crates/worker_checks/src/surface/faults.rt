@@ -121,6 +121,5 @@ pub fn bytes(fault: &PlanFault) -> bool {
         PlanFault::Pool(fault) => workers(fault) > 0,
         PlanFault::Check(fault) => plan(fault) != Some((0, 0)),
         PlanFault::Stopped | PlanFault::Memory => true,
-        PlanFault::NoRoot(_) | PlanFault::Event(_) | PlanFault::Replay(_) => false,
     }
 }

@@ -1,10 +1,13 @@
+use Rattle.std.proofs.Common.{subst}
 use Rattle.dimacs_col.specs.Reading.{graph_of}
-use Rattle.answers.specs.Answers.{network_with}
-use Rattle.answers.proofs.Settings.{graph-count}
+use Rattle.interference.specs.Net.{IsNetwork}
 use Rattle.answers.proofs.answer.network_of_text.Goals as goal
 
--- the root is no vertex of the network of the graph
-pub returns-in-Some-clause-fault : goal.returns-in-Some-clause-fault
-returns-in-Some-clause-fault c =
-    let graph = graph_of c.in_ok-graph.graph in
-    (graph, c.in_ok-graph.ensures.ok, c.in-Some.ensures (network_with graph) (graph-count graph))
+-- what was read is the network of the graph
+pub returns-clause-ok : goal.returns-clause-ok
+returns-clause-ok c =
+    let made = c.in_ok-network_of_graph.ensures.made in (
+      graph_of c.in_ok-graph.graph,
+      c.in_ok-graph.ensures.ok,
+      (subst (λ n. IsNetwork n) made c.in_ok-network_of_graph.ensures.network, made),
+    )

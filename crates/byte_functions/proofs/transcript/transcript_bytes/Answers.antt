@@ -1,7 +1,6 @@
 use Rattle.std.proofs.Common.{}
 use Rattle.std.specs.Prelude.{codes}
 use Rattle.std.proofs.lemmas.Result.{err_from_is_err_and}
-use Rattle.answers.specs.declared.setting.Setting.TheVariants.{AsRead}
 use Rattle.colour_rules.specs.Program.{colouring}
 use Rattle.byte_functions.specs.Payloads.{colouring_payloads}
 use Rattle.byte_functions.specs.Transcripts.{IsTranscriptOn}
@@ -19,5 +18,5 @@ returns-clause-ok g c =
 pub returns-in_err-run_transcript-clause-fault : goal.returns-in_err-run_transcript-clause-fault
 returns-in_err-run_transcript-clause-fault g c =
     let p = err_from_is_err_and c.from_residual-in_err-run_transcript.result c.from_residual-in_err-run_transcript.ensures.1 in
-    rw (p.1, p.2) (recorders-fault AsRead c.args.input.now c.in_ok-network.network c.args.options c.in_err-run_transcript.field-0.0
+    rw (p.1, p.2) (recorders-fault c.args.input.now c.in_ok-network.network c.args.options c.in_err-run_transcript.field-0.0
     c.in_ok-network.ensures.ok c.in_err-run_transcript.ensures.fault)

@@ -1,6 +1,6 @@
 use Rattle.std.proofs.Common.{◌≡◌, ◌++◌, ◌∙◌, ℕ, List, ap, codes, false, sym, true}
 use Rattle.std.proofs.lemmas.Slice.Eq.{bytes_eq-Decides}
-use Rattle.run_faults.specs.declared.replays.ReplayFault.TheVariants.{WrongProgram}
+use Rattle.play_inputs.specs.declared.replays.ReplayFault.TheVariants.{WrongProgram}
 use Rattle.play_answers.proofs.replaying.check_program.Goals as goal
 
 -- the name isn't the one that was asked for, and the words have it

@@ -2,8 +2,8 @@ use Rattle.std.proofs.Common.{Err, Ok}
 use Rattle.std.proofs.lemmas.Result.{IfErr-weaker, IfOk-weaker}
 use Rattle.interference.specs.Net.{Net, IsNetwork, IsVertex}
 use Rattle.node_api.specs.Run.{last_state}
-use Rattle.answers.specs.Roots.{rooted}
-use Rattle.answers.proofs.Rooted.{root-has-id, rooted-vertex}
+use Rattle.play_inputs.specs.Roots.{rooted}
+use Rattle.play_inputs.proofs.Rooted.{root-has-id, rooted-vertex}
 use Rattle.layers.specs.Layering.{layering}
 use Rattle.layers.specs.Texts.{KnowTheirLayersFrom, layers_texts}
 use Rattle.play_commands.specs.Payloads.{layers_payloads}

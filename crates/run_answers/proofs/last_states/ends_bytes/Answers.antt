@@ -2,7 +2,7 @@ use Rattle.std.proofs.Common.{◌≡◌, ◌∙◌, ap}
 use Rattle.dimacs_col.specs.Lines.{lines_of}
 use Rattle.interference.specs.Net.{IsNetwork}
 use Rattle.node_api.specs.Run.{last_state}
-use Rattle.answers.proofs.Settings.{lines-more}
+use Rattle.play_inputs.proofs.Settings.{lines-more}
 use Rattle.run_answers.specs.Ends.{ends_text}
 use Rattle.run_answers.proofs.last_states.ends_bytes.Goals as goal
 

@@ -4,7 +4,7 @@ use Rattle.interference.specs.Net.{IsNetwork}
 use Rattle.node_api.specs.Run.{last_state}
 use Rattle.run_answers.specs.RoundsText.{rounds_text}
 use Rattle.program_texts.specs.PayloadTexts.{payload_texts}
-use Rattle.answers.proofs.Settings.{lines-more}
+use Rattle.play_inputs.proofs.Settings.{lines-more}
 use Rattle.run_answers.proofs.rounds.rounds_bytes.Goals as goal
 
 -- the last states of the network that was read are what the program is for

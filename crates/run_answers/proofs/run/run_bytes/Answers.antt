@@ -4,7 +4,7 @@ use Rattle.std.specs.Prelude.{All}
 use Rattle.interference.specs.Net.{IsVertex}
 use Rattle.run_answers.specs.Ends.{gathered_end}
 use Rattle.run_answers.proofs.Ran.{are-vertices, ends-answer}
-use Rattle.byte_functions.proofs.Working.{workers-fault}
+use Rattle.run_answers.proofs.Working.{workers-fault}
 use Rattle.run_answers.proofs.run.run_bytes.Goals as goal
 
 -- the nodes of an outcome are the vertices

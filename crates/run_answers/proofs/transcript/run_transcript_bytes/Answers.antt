@@ -3,9 +3,9 @@ use Rattle.std.proofs.lemmas.Result.{err_from_is_err_and}
 use Rattle.dimacs_col.specs.Lines.{lines_of}
 use Rattle.interference.specs.Net.{IsNetwork}
 use Rattle.program_texts.specs.PayloadTexts.{payload_texts}
-use Rattle.answers.proofs.Settings.{lines-more}
+use Rattle.play_inputs.proofs.Settings.{lines-more}
 use Rattle.byte_functions.specs.Transcripts.{IsTranscriptOn, stamped_edition}
-use Rattle.byte_functions.proofs.Working.{recorders-fault}
+use Rattle.run_answers.proofs.Working.{recorders-fault}
 use Rattle.run_answers.proofs.transcript.run_transcript_bytes.Goals as goal
 
 -- the network was read, and the text is its transcript

@@ -6,8 +6,8 @@ use Rattle.std.proofs.lemmas.Bool.Decides.{eqb_tells}
 use Rattle.std.proofs.lemmas.List.{get_or-map, length-map}
 use Rattle.interference.specs.Net.{Net, IsVertex, id_of}
 use Rattle.interference.specs.Making.{network_of}
-use Rattle.answers.specs.Roots.{exchanged_id, rooted, rooted_ids}
-use Rattle.answers.specs.declared.setting.Root.{Root}
+use Rattle.play_inputs.specs.Roots.{exchanged_id, rooted, rooted_ids}
+use Rattle.play_inputs.specs.declared.setting.Root.{Root}
 
 -- that of the identifiers with the root
 pub network-rooted : (root : Root) (ids : List ℕ) (edges bars : List (ℕ × ℕ))

@@ -12,11 +12,11 @@ use Rattle.interference.specs.Making.{IsFaultOf, network_of}
 use Rattle.interference.specs.declared.fault.NetFault.{NetFault}
 use Rattle.interference.specs.declared.fault.NetFault.TheVariants.{Degree, Memory, SameId}
 use Rattle.answers.specs.Answers.{LinesReadAs, identifiers_with, network_with}
-use Rattle.answers.specs.Roots.{exchanged_id, rooted}
-use Rattle.answers.specs.Settings.{IsRootAmong, OfSet, repeated_as, set_ids}
-use Rattle.answers.specs.declared.setting.Setting.{Setting}
-use Rattle.answers.specs.declared.setting.Setting.TheVariants.{AsRead, Repeating, Rooted}
-use Rattle.answers.proofs.Rooted.{network-rooted}
+use Rattle.play_inputs.specs.Roots.{exchanged_id, rooted}
+use Rattle.play_inputs.specs.Settings.{IsRootAmong, OfSet, repeated_as, set_ids}
+use Rattle.play_inputs.specs.declared.setting.Setting.{Setting}
+use Rattle.play_inputs.specs.declared.setting.Setting.TheVariants.{AsRead, Repeating, Rooted}
+use Rattle.play_inputs.proofs.Rooted.{network-rooted}
 
 -- ---- from one fact of the network to another
 pub set-more : (setting : Setting) (P Q : Net → Type 0) → ((net : Net) → P net → Q net) → (net : Net) → OfSet setting P net → OfSet setting Q net

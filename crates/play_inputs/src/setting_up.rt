@@ -2,8 +2,8 @@
 
 ghost use Rattle.std.specs.Prelude.{◌≡◌, ◌≤◌, IfOk, MatchOption, length};
 ghost use Rattle.interference.specs.Net.{Net, count_of};
-ghost use Rattle.answers.specs.Roots.{exchanged_id, rooted_ids};
-ghost use Rattle.answers.specs.Settings.{IsRootAmong, LacksRoot, repeated_as, set_ids};
+ghost use Rattle.play_inputs.specs.Roots.{exchanged_id, rooted_ids};
+ghost use Rattle.play_inputs.specs.Settings.{IsRootAmong, LacksRoot, repeated_as, set_ids};
 
 use crate::setting::{Root, Setting};
 use interference::Network;

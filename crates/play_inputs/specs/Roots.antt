@@ -1,7 +1,7 @@
 -- The network in which a vertex of one's choice is the root.
 use Rattle.std.specs.Prelude.{◌-◌, ℕ, List, if◌then◌else◌, map, nat_eq, slice_index}
 use Rattle.interference.specs.Net.{Net}
-use Rattle.answers.specs.declared.setting.Root.{Root}
+use Rattle.play_inputs.specs.declared.setting.Root.{Root}
 
 -- two identifiers change places, and any other one stays
 abbrev pub exchanged_id : ℕ → ℕ → ℕ → ℕ

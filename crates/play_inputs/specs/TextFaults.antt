@@ -1,6 +1,6 @@
 -- The fault of a transcript's text as one of a replay.
-use Rattle.run_faults.specs.declared.replays.ReplayFault.{ReplayFault}
-use Rattle.run_faults.specs.declared.replays.ReplayFault.TheVariants as fault
+use Rattle.play_inputs.specs.declared.replays.ReplayFault.{ReplayFault}
+use Rattle.play_inputs.specs.declared.replays.ReplayFault.TheVariants as fault
 use Rattle.transcripts.specs.declared.fault.TextFault.{TextFault}
 use Rattle.transcripts.specs.declared.fault.TextFault.TheVariants as text
 

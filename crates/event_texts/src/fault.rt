@@ -1,14 +1,14 @@
 //! Why events aren't played to their end.
 
 ghost use Rattle.std.specs.Prelude.{◌≡◌};
-ghost use Rattle.run_faults.specs.declared.events.EventFault.TheVariants.{Memory};
+ghost use Rattle.event_texts.specs.declared.fault.EventFault.TheVariants.{Memory};
 
 use interference::Memory as OutOfMemory;
 use std::alloc::{AllocError, AllocFailed};
 use thiserror::Error;
 
 /// The first line that is no event, or the first event that isn't possible, with the number of its line.
-/// Behind it are words for what the event lacks, as `missing_words` of `event_texts` has them.
+/// Behind it are words for what the event lacks, as `missing_words` has them.
 #[derive(Debug, PartialEq, Eq, Drop, Error)]
 pub enum EventFault {
     #[error("NoEvent line {0}: neither `pulse V`, `put V PORT` nor `take V PORT`")]

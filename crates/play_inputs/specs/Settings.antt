@@ -1,9 +1,9 @@
 -- The network that nodes see, as a command sets it.
 use Rattle.std.specs.Prelude.{◌≡◌, ◌≤◌, ℕ, List}
 use Rattle.interference.specs.Net.{Net, IsVertex, repeated}
-use Rattle.answers.specs.Roots.{rooted, rooted_ids}
-use Rattle.answers.specs.declared.setting.Setting.{Setting}
-use Rattle.answers.specs.declared.setting.Setting.TheVariants.{AsRead, Repeating, Rooted}
+use Rattle.play_inputs.specs.Roots.{rooted, rooted_ids}
+use Rattle.play_inputs.specs.declared.setting.Setting.{Setting}
+use Rattle.play_inputs.specs.declared.setting.Setting.TheVariants.{AsRead, Repeating, Rooted}
 
 -- something holds of a network as it is set; a root that is set is a vertex of the network
 abbrev pub OfSet : Setting → (Net → Type 0) → Net → Type 0

@@ -1,9 +1,11 @@
 //! Why a transcript isn't replayed.
 
 ghost use Rattle.std.specs.Prelude.{◌≡◌};
-ghost use Rattle.run_faults.specs.declared.replays.ReplayFault.TheVariants.{Memory};
+ghost use Rattle.play_inputs.specs.TextFaults.{fault_of_text};
+ghost use Rattle.play_inputs.specs.declared.replays.ReplayFault.TheVariants.{Memory};
 
 use std::alloc::AllocError;
+use transcripts::TextFault;
 
 /// Why a transcript isn't replayed: it names another program, which the words say; or its first line that isn't a line
 /// of a transcript, or its first entry that isn't possible or has another pulse or wire, with the number of its line.
@@ -38,5 +40,16 @@ impl From<AllocError> for ReplayFault {
 
     fn from(_error: AllocError) -> ReplayFault {
         ReplayFault::Memory
+    }
+}
+
+impl From<TextFault> for ReplayFault {
+    ghost from_gives = { λ fault result. result ≡ fault_of_text fault };
+
+    fn from(fault: TextFault) -> ReplayFault {
+        match fault {
+            TextFault::Syntax(line) => ReplayFault::Syntax(line),
+            TextFault::Memory => ReplayFault::Memory,
+        }
     }
 }

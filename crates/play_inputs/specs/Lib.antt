@@ -1,0 +1,6 @@
+pub mod Roots
+pub mod Settings
+pub mod TextFaults
+pub mod RunFaults
+pub mod Faults
+pub mod Inputs
