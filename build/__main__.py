@@ -6,6 +6,7 @@ import sys
 
 MODULES = {
     "completion": "completion",
+    "crate-tables": "crate_tables",
     "install": "install",
     "new-program": "new_program",
     "program": "program",

@@ -6,6 +6,7 @@ import glob
 import os
 import re
 
+from build import crate_tables
 from build.crate_lists import PROGRAMS, listed, with_below
 from lab.__main__ import COMMANDS as OF_LAB
 from tests import TOP
@@ -108,21 +109,26 @@ class Index(FilesCase):
         kit = text_in("build", "kit_name.txt").split()[0]
         self.same("kits of README", re.findall(r"rattle-kit-\w+", text_in("README.md")), [kit])
 
-    def test_crates_below(self):
-        """LAYERS says how many crates are above each, and LOOKUP which ones a first call of each program
-        leaves unproved: those that aren't below it."""
-        below = {crate: with_below([crate], listed()) for crate in listed()}
-        found = re.findall(r"^\| `(\w+)` \| (\d+) \| ", text_in("docs", "work", "LAYERS.md"), re.M)
-        above = {crate: str(sum(crate in below[other] for other in below) - 1) for crate in below}
+    def test_crate_tables(self):
+        """LAYERS has the tables that `python3 build crate-tables` writes. Each group of crates.txt has a heading and a
+        crate, each crate stands below those that it names, and a head has a first sentence."""
+        page = text_in("docs", "work", "LAYERS.md")
+        self.same("LAYERS as crates.txt and the heads have it", page, crate_tables.written(page))
         self.same(
-            "crates above each",
-            dict(found),
-            {
-                crate: count
-                for crate, count in above.items()
-                if crate not in ("checks", "worker_checks")
-            },
+            "groups without a crate", [head for head, of in crate_tables.groups() if not of], []
         )
+        order = [crate for _, of in crate_tables.groups() for crate in of]
+        self.same("crates in groups", order, list(listed()))
+        late = {
+            crate: [name for name in names if order.index(name) > order.index(crate)]
+            for crate, names in listed().items()
+        }
+        self.same("crates above one that they name", {c: of for c, of in late.items() if of}, {})
+        self.same("heads without a sentence", [c for c in order if not crate_tables.purpose(c)], [])
+
+    def test_crates_below(self):
+        """LOOKUP says which crates a first call of each program leaves unproved: those that aren't below it."""
+        below = {crate: with_below([crate], listed()) for crate in listed()}
         found = re.findall(
             r"`(\w+)` leaves ((?:`\w+`(?:, | and |))+)",
             one_line(text_in("docs", "work", "LOOKUP.md")),

@@ -1,6 +1,6 @@
-//! The simulation, as laws: whatever the order of puts, takes and pulses, a node under synchroniser alpha
-//! (Awerbuch 1985) that has made pulse p is in the state of the synchronous run at p, and each pulse had
-//! exactly that round's inbox.
+//! That asynchronous nodes simulate the synchronous run, as laws: in whatever order they put, take and pulse. A node
+//! under synchroniser alpha (Awerbuch 1985) that has made pulse p is in the state of the synchronous run at p, and each
+//! pulse had exactly that round's inbox.
 //!
 //! `Simulates` of `specs/Simulates.antt` is the claim, one field for each of its words; `NodeFits` of
 //! `specs/Fits.antt` says when one node fits the lists of its links. `PortKept` of `specs/Kept.antt` is what

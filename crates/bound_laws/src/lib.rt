@@ -1,5 +1,4 @@
-//! How many rounds, bit steps and messages the programs take at most, and that the run of a program with a sequel is
-//! one run after the other.
+//! How many rounds, bit steps and messages the programs take at most, and that a program with a sequel runs as both.
 //!
 //! The last pulse of each program is a definition; in `laws` it is bounded in Δ, U, B and n, the words in which
 //! textbooks count rounds. `composition` has what a program that is followed by a sequel is: first the run of the first

@@ -1,5 +1,5 @@
-//! What the commands of `forestplan` that run worker threads compute, from the bytes of a DIMACS text to the bytes of
-//! an answer, and that nodes of the colouring which have all halted have the colours of the network.
+//! What `forestplan` answers by runs of worker threads, from the bytes of a DIMACS text to the bytes of an answer. It
+//! also has that nodes of the colouring which have all halted have the colours of the network.
 //!
 //! It names no stream, no command line and no system, so that a test or another program calls the same functions. The
 //! functions of all other commands are in `answers`, which needs no thread.

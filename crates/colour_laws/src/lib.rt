@@ -1,7 +1,7 @@
-//! The colouring of a network, and what its rounds make of it: `laws` says that the colours of
-//! neighbours differ, are 0 to the span and none is barred, and that the synchronous run of the rounds of
-//! `colour_rules` refuses nothing, is silent at its last pulse and ends with these colours. It also says in other words
-//! which refusal of a node is the first, which step of the merging a pulse is, and the table of what may
+//! The colouring of a network, which is proper and has no barred colour, and that its rounds end with it. `laws` says
+//! that the colours of neighbours differ, are 0 to the span and none is barred, and that the synchronous run of the
+//! rounds of `colour_rules` refuses nothing, is silent at its last pulse and ends with these colours. It also says in
+//! other words which refusal of a node is the first, which step of the merging a pulse is, and the table of what may
 //! come row by row.
 //!
 //! The colours of `specs/Colours.antt` are those of the whole network at once, with no rounds in them:

@@ -1,6 +1,6 @@
-//! First one program of nodes, then a sequel: up to a pulse the nodes run the first program, and then each keeps its
-//! state of it, and goes on with what it has beside it (`Sequel`). What they send is a payload of the first program or
-//! of the sequel (`Said`), each with its own words.
+//! First one program of nodes, and then a sequel, which goes on where the first has ended. Up to a pulse the nodes run
+//! the first program, and then each keeps its state of it, and goes on with what it has beside it (`Sequel`). What they
+//! send is a payload of the first program or of the sequel (`Said`), each with its own words.
 //!
 //! ```text
 //! type Matching = Followed<Colouring, Turns>; // a program of nodes

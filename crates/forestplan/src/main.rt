@@ -1,5 +1,6 @@
-//! The program `forestplan`: a channel plan for an interference graph, the transcript of a run that finds it, its
-//! forests, or the check of a plan, from standard input to standard output.
+//! The program `forestplan`: a channel plan for an interference graph, and what shows how nodes find it. It reads
+//! standard input, and writes a plan, the transcript of a run that finds it, the forests, or the check of a plan to
+//! standard output.
 //!
 //! ```sh
 //! printf 'p edge 3 3\ne 1 2\ne 1 3\ne 2 3\n' | forestplan plain

@@ -1,5 +1,5 @@
-//! The program `forestplay`: what nodes of the colouring and of other programs do, by hand, in rounds or on threads,
-//! from standard input to standard output.
+//! The program `forestplay`, for lessons: what nodes of many programs do, by hand, in rounds or on threads. It reads
+//! standard input, and writes to standard output.
 //!
 //! ```sh
 //! printf 'p edge 2 1\ne 1 2\nput 1 0\ntake 2 0\nput 2 0\n' | forestplay events

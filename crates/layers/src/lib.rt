@@ -1,5 +1,5 @@
-//! Breadth-first layers: every node ends with its distance from the root, the node of identifier 1, and with the port
-//! that leads one link closer. Without a node of identifier 1 nobody is reached.
+//! Breadth-first layers: every node ends with its distance from the root and the port that leads one link closer. The
+//! root is the node of identifier 1. Without a node of identifier 1 nobody is reached.
 //!
 //! The root sends its distance 0 to all neighbours at pulse 0. A node that hears for the first time, at pulse p, is at
 //! distance p: the first port at which it heard leads towards the root, and it sends `hops p` to all neighbours. So a

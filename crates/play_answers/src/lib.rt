@@ -1,5 +1,5 @@
-//! The answers of commands that only `forestplay` has and that play what its user wrote: of events and of a replay,
-//! from bytes to bytes, for any program that has a `ProgramText`.
+//! What `forestplay` answers to a list of events or of entries that its user wrote, for any program of nodes. It has
+//! the answers of events and of a replay, from bytes to bytes, for any program that has a `ProgramText`.
 //!
 //! `play_commands` calls `events_bytes` or `replay_bytes`. Their faults are those of `play_inputs`, which reports
 //! them. A first call of `forestplan` doesn't prove this crate, nor `event_texts` below it.

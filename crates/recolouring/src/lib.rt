@@ -1,7 +1,7 @@
-//! A plan's classes choose anew: after the colouring of `colour_program` its colours take turns, the greatest first,
-//! and a node takes the least colour that isn't barred at it and that no neighbour which has chosen anew has. This is
-//! the iterated greedy of J. C. Culberson, Iterated greedy graph coloring and the difficulty landscape, 1992, with the
-//! classes in reverse order, by messages.
+//! A colouring that no node can lower alone: after a first one its colour classes take turns, and choose again. The
+//! colours of `colour_program` take turns, the greatest first, and a node takes the least colour that isn't barred at
+//! it and that no neighbour which has chosen again has. This is the iterated greedy of J. C. Culberson, Iterated greedy
+//! graph coloring and the difficulty landscape, 1992, with the classes in reverse order, by messages.
 //!
 //! That is a pass. `Recolouring` makes one, and as many more as its network says (`Network::again`), each from the
 //! colours to which the last one led.

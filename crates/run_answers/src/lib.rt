@@ -1,7 +1,7 @@
-//! What the commands `run`, `alone`, `ends` and `rounds` of `forestplay` compute, from the bytes of a DIMACS text to
-//! the bytes of an answer: what the nodes of a program come to that worker threads run, or one thread without a common
-//! clock or in rounds, and what they send in rounds, pulse by pulse. It names no stream, no command line and no system.
-//! `play_commands` calls it.
+//! What `forestplay` answers by runs of nodes of any program: on worker threads, alone, or in rounds. It has the
+//! commands `run`, `alone`, `ends` and `rounds`, from the bytes of a DIMACS text to the bytes of an answer: what the
+//! nodes come to that worker threads run, or one thread without a common clock or in rounds, and what they send in
+//! rounds, pulse by pulse. It names no stream, no command line and no system. `play_commands` calls it.
 //!
 //! ```
 //! let text = b"p edge 2 1\ne 1 2\n";

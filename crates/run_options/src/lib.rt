@@ -1,5 +1,5 @@
-//! How many workers run the nodes of a network, over what links, and how long; in which form their transcript is
-//! written; and why a run has no outcome.
+//! How many workers run the nodes of a network, over what links and how long, and why such a run has no outcome. It
+//! also says in which form their transcript is written.
 //!
 //! `command_line` reads the options from words, and `node_pool` runs nodes by them. `node_pool` returns a `PoolFault`,
 //! and `byte_functions` a `RunFault`.

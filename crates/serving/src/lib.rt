@@ -1,5 +1,5 @@
-//! Serving one command of an executable: from the words of the command line and the input to what is written and the
-//! status, over a source and two sinks of the caller's.
+//! One command of an executable, from its words and its input to what is written and the status. The input is a source,
+//! and two sinks are written, which are the caller's.
 //!
 //! What the commands of an executable are is its `Commands`. Those of `forestplan` are in `plan_commands`, and those of
 //! `forestplay` in `play_commands`. Each program calls `serve_words` with the words and the streams that the system

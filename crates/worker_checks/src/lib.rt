@@ -1,6 +1,6 @@
-//! The tests of nodes on worker threads, of the plan and the transcript that they make, and of stamped entries and
-//! their replay: what no contract says. Each run of workers ends by a count of looks, on every schedule. `surface` has
-//! each call that was asked for, with its types, to be compiled.
+//! The tests of nodes on worker threads, of what they write, and of replays: what no contract says. They test the plan
+//! and the transcript that the nodes make, and stamped entries. Each run of workers ends by a count of looks, on every
+//! schedule. `surface` has each call that was asked for, with its types, to be compiled.
 #![tactic(auto)]
 
 #[cfg(test)]
