@@ -9,7 +9,7 @@
 //! those that begin it.
 //!
 //! `alpha_laws` proves what such nodes keep of their links, `event_machine` plays a network of them event by event, and
-//! `actor` puts their wires on links.
+//! `wired_nodes` puts their wires on links.
 //!
 //! ```text
 //! let mut node: AlphaNode<Colouring> = AlphaNode::start(alloc, &net, v)?;

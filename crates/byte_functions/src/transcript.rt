@@ -13,7 +13,6 @@ ghost use Rattle.byte_functions.specs.Workers.{IsFaultOfTranscript, IsFaultOfWor
 
 use crate::merged::merged_text;
 use crate::workers::whole_run;
-use actor::Gate;
 use answers::{PlanFault, network_of_text};
 use colour_program::Colouring;
 use interference::{Memory, Network};
@@ -26,6 +25,7 @@ use std::alloc::Global;
 use std::sync::Wait;
 use std::thread::Threads;
 use transcripts::{push_entries, push_first_line};
+use wired_nodes::Gate;
 
 // The transcript of nodes, each of which is dropped with its entries once its lines are written.
 fn text_of_actors<P: NodeProgram>(

@@ -8,7 +8,6 @@ ghost use Rattle.byte_functions.specs.Workers.{IsFaultOfRun, IsFaultOfWorkers, M
 
 use crate::coloured_runs::halted_nodes_are_coloured;
 use crate::plan_text::text_of_nodes;
-use actor::Gate;
 use answers::{PlanFault, network_of_text};
 use colour_laws::laws::colours_are_proper;
 use colour_program::Colouring;
@@ -22,6 +21,7 @@ use run_options::{Options, PoolFault, RunFault};
 use std::alloc::Global;
 use std::sync::Wait;
 use std::thread::Threads;
+use wired_nodes::Gate;
 
 // What a run left, if that is whole.
 fn unless_stopped<P: NodeProgram>(

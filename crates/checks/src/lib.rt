@@ -5,8 +5,6 @@
 #![tactic(auto)]
 
 #[cfg(test)]
-mod actor_checks;
-#[cfg(test)]
 mod alpha_core_checks;
 #[cfg(test)]
 mod cole_vishkin_checks;
@@ -60,3 +58,5 @@ mod sync_rounds_checks;
 mod transcripts_checks;
 #[cfg(test)]
 mod whole_streams_checks;
+#[cfg(test)]
+mod wired_nodes_checks;

@@ -3,11 +3,10 @@
 
 ghost use Rattle.std.specs.Prelude.{◌≡◌, ◌<◌, ◌≤◌, [], Some, false, map, slice_get};
 ghost use Rattle.link_queue.specs.Ends.{put_list, put_name, take_name, taken_list};
-ghost use Rattle.actor.specs.Tables.{IsEndAt, table_of};
+ghost use Rattle.wired_nodes.specs.Tables.{IsEndAt, table_of};
 ghost use Rattle.checks.specs.SmallNets.{pair_net};
 
 use crate::linked_counters::node_of;
-use actor::{Links, Node, OpenGate, WiredPut, WiredTake, Wiring};
 use interference::{Memory, Network};
 use link_queue::{Link, PutEnd, TakeEnd};
 use run_options::MAX_CAPACITY;
@@ -17,6 +16,7 @@ use std::sync::Wait;
 use std::thread;
 use std::thread::Threads;
 use sync_rounds::{Best, Greatest};
+use wired_nodes::{Links, Node, OpenGate, WiredPut, WiredTake, Wiring};
 
 const TRIES: u32 = 1_000_000;
 

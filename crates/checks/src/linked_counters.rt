@@ -4,17 +4,17 @@ ghost use Rattle.std.specs.Prelude.{◌≡◌, ◌<◌, [], ◌∷◌, Some, fal
 ghost use Rattle.interference.specs.Net.{IsVertex};
 ghost use Rattle.link_rule.specs.Legal.{name_of};
 ghost use Rattle.link_queue.specs.Ends.{IsNewPutEnd, put_list, put_name, take_name, taken_list};
-ghost use Rattle.actor.specs.Node.{links_in, links_out};
-ghost use Rattle.actor.specs.Tables.{IsEndAt, table_of};
+ghost use Rattle.wired_nodes.specs.Node.{links_in, links_out};
+ghost use Rattle.wired_nodes.specs.Tables.{IsEndAt, table_of};
 ghost use Rattle.checks.specs.SmallNets.{pair_net};
 
-use actor::{Links, Node, OpenGate, TurnRefused, WiredPut, WiredTake, Wiring};
 use interference::{Memory, Network};
 use link_queue::{Link, PutEnd, TakeEnd};
 use std::alloc::Global;
 use std::marker::Brand;
 use std::sync::Wait;
 use sync_rounds::{Best, Greatest};
+use wired_nodes::{Links, Node, OpenGate, TurnRefused, WiredPut, WiredTake, Wiring};
 use wires::{Stamped, Wire};
 
 /// What a turn of the node says, its counter after it, the stamp of the wire that its neighbour takes then, and whether

@@ -1,14 +1,13 @@
 //! A run of workers, from a network to its outcome.
 
 ghost use Rattle.std.specs.Prelude.{◌≡◌, ◌≢◌, ◌↔◌, IfErr, IfOk, IsTrue, Result, Err, map};
-ghost use Rattle.actor.specs.Tables.{table_of};
+ghost use Rattle.wired_nodes.specs.Tables.{table_of};
 ghost use Rattle.outcomes.specs.Outcome.{IsOutcome};
 ghost use Rattle.run_options.specs.declared.fault.PoolFault.TheVariants.{BadOptions, StampFull};
 ghost use Rattle.run_options.specs.Ranges.{AreInRange};
 ghost use Rattle.port_rows.specs.Rows.{rows_of};
 ghost use Rattle.node_runs.specs.Makes.{AreMade, tables_of};
 
-use actor::{Gate, Observer, Unobserved, Wiring};
 use interference::Network;
 use node_api::NodeProgram;
 use node_runs::{Made, Ran, make_links, start_and_run};
@@ -19,6 +18,7 @@ use std::alloc::Global;
 use std::marker::Brand;
 use std::sync::Wait;
 use std::thread::Threads;
+use wired_nodes::{Gate, Observer, Unobserved, Wiring};
 
 // Whether workers and capacity are in range.
 fn are_in_range(options: Options) -> bool

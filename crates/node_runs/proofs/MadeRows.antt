@@ -7,7 +7,7 @@ use Rattle.interference.specs.Net.{Net, IsVertex, degree_of, neighbour_of, back_
 use Rattle.link_queue.specs.declared.link.Link.{Link}
 use Rattle.link_queue.specs.Ends.{link_capacity}
 use Rattle.link_rule.specs.declared.name.LinkName.{LinkName}
-use Rattle.actor.specs.Tables.{IsEndAt, table_of, table_at}
+use Rattle.wired_nodes.specs.Tables.{IsEndAt, table_of, table_at}
 use Rattle.port_rows.specs.Rows.{row_at, thing_at}
 use Rattle.node_runs.specs.Makes.{AreMade, tables_of}
 use Rattle.node_runs.specs.News.{AreNewAt, AreNewEnds}

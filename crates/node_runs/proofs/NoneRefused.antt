@@ -2,8 +2,8 @@
 use Rattle.std.proofs.Common.{◌≡◌, List, [], ◌∷◌, map, Option, Some, None, Ok}
 use Rattle.std.specs.Prelude.{All}
 use Rattle.std.proofs.lemmas.List.Elements.{All-cons, All-nil}
-use Rattle.actor.specs.declared.refused.TurnRefused.{TurnRefused}
-use Rattle.actor.specs.declared.refused.TurnRefused.TheVariants.{Memory, StampFull}
+use Rattle.wired_nodes.specs.declared.refused.TurnRefused.{TurnRefused}
+use Rattle.wired_nodes.specs.declared.refused.TurnRefused.TheVariants.{Memory, StampFull}
 use Rattle.node_runs.specs.Refusals.{fault_of_refusals}
 
 module _ {A : Type 0} (done : A) where

@@ -3,7 +3,7 @@ use Rattle.std.specs.Prelude.{◌≡◌, ℕ, List, [], length, Some, slice_get}
 use Rattle.atomic_table.specs.Seated.{TableId}
 use Rattle.interference.specs.Net.{Net, IsVertex, back_port_of, degree_of, neighbour_of}
 use Rattle.link_queue.specs.Ends.{put_list, put_name, take_name, taken_list}
-use Rattle.actor.specs.Tables.{IsEndAt}
+use Rattle.wired_nodes.specs.Tables.{IsEndAt}
 use Rattle.port_rows.specs.Rows.{HasShape, row_at}
 use Rattle.node_runs.specs.declared.making.PortEnds.{PortEnds}
 

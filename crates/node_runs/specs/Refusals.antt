@@ -1,7 +1,7 @@
 -- Which fault a run has if turns of its nodes ended early.
 use Rattle.std.specs.Prelude.{List, [], ◌∷◌, Option, Some, None, Result, Ok, Err}
-use Rattle.actor.specs.declared.refused.TurnRefused.{TurnRefused}
-use Rattle.actor.specs.declared.refused.TurnRefused.TheVariants as turn
+use Rattle.wired_nodes.specs.declared.refused.TurnRefused.{TurnRefused}
+use Rattle.wired_nodes.specs.declared.refused.TurnRefused.TheVariants as turn
 use Rattle.pool.specs.declared.faults.ThreadsFault.{ThreadsFault}
 use Rattle.pool.specs.declared.faults.ThreadsFault.TheVariants as threads
 

@@ -2,7 +2,7 @@
 //!
 //! `making` makes the links, each with its two ends, `wired` and `starting` the nodes with the ends of theirs. `turns`
 //! is a turn as a worker makes it; `run` lets workers run the nodes, and `refusals` says which fault a run has if turns
-//! of its nodes ended early. What a turn leaves is a fact of the node's type (`actor`). `node_pool` calls both
+//! of its nodes ended early. What a turn leaves is a fact of the node's type (`wired_nodes`). `node_pool` calls both
 //! functions, and lets `outcomes` gather what they leave.
 //!
 //! ```text

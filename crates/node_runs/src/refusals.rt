@@ -1,12 +1,12 @@
 //! Which fault a run has if turns of its nodes ended early.
 
 ghost use Rattle.std.specs.Prelude.{◌≡◌, map};
-ghost use Rattle.actor.specs.Stepped.{refusal_of};
+ghost use Rattle.wired_nodes.specs.Stepped.{refusal_of};
 ghost use Rattle.node_runs.specs.Refusals.{fault_of_refusals};
 
-use actor::{Node, TurnRefused, Wiring};
 use node_api::NodeProgram;
 use pool::ThreadsFault;
+use wired_nodes::{Node, TurnRefused, Wiring};
 
 /// The fault of a run whose nodes remember refusals of their turns: `outcomes` knows that no stamp was refused.
 ///

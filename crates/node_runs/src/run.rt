@@ -3,10 +3,10 @@
 ghost use Rattle.std.specs.Prelude.{◌≡◌, ◌≢◌, ◌≤◌, All, IfOk, Some, map, reverse};
 ghost use Rattle.interference.specs.Net.{vertices};
 ghost use Rattle.run_options.specs.Ranges.{AreInRange};
-ghost use Rattle.actor.specs.declared.refused.TurnRefused.TheVariants.{Memory};
-ghost use Rattle.actor.specs.Links.{HoldAtMost};
-ghost use Rattle.actor.specs.Stepped.{refusal_of};
-ghost use Rattle.actor.specs.Tables.{table_of};
+ghost use Rattle.wired_nodes.specs.declared.refused.TurnRefused.TheVariants.{Memory};
+ghost use Rattle.wired_nodes.specs.Links.{HoldAtMost};
+ghost use Rattle.wired_nodes.specs.Stepped.{refusal_of};
+ghost use Rattle.wired_nodes.specs.Tables.{table_of};
 ghost use Rattle.port_rows.specs.Rows.{rows_of};
 ghost use Rattle.node_runs.specs.Makes.{AreMade, tables_of};
 
@@ -14,7 +14,6 @@ use crate::making::Made;
 use crate::refusals::fault_of_refusals;
 use crate::starting::start_nodes;
 use crate::turns::turn_of;
-use actor::{Gate, Links, Node, Observer, Wiring};
 use interference::Network;
 use node_api::NodeProgram;
 use pool::{ThreadsFault, Turned, run_tasks};
@@ -22,6 +21,7 @@ use run_options::{MAX_WORKERS, Options};
 use std::alloc::Global;
 use std::sync::Wait;
 use std::thread::Threads;
+use wired_nodes::{Gate, Links, Node, Observer, Wiring};
 
 /// What the workers of a run leave: its nodes, ascending, and its links.
 #[derive(Drop)]

@@ -8,10 +8,10 @@ ghost use Rattle.port_rows.specs.Rows.{rows_of};
 
 use crate::making::PortEnds;
 use crate::wired::{WiredEnds, wired_ends};
-use actor::{Node, Wiring};
 use interference::{Memory, Network};
 use node_api::NodeProgram;
 use std::alloc::Global;
+use wired_nodes::{Node, Wiring};
 
 // Takes the last row off.
 fn last_row<T>(rows: &mut Vec<Vec<T>>) -> Vec<T>

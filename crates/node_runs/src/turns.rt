@@ -1,13 +1,13 @@
 //! A turn of a node, as a worker makes it.
 
 ghost use Rattle.std.specs.Prelude.{◌≡◌};
-ghost use Rattle.actor.specs.Stepped.{refusal_after, refusal_of};
+ghost use Rattle.wired_nodes.specs.Stepped.{refusal_after, refusal_of};
 
-use actor::{Gate, Links, Node, Observer, TurnRefused, Wiring};
 use interference::Network;
 use node_api::NodeProgram;
 use pool::Turned;
 use std::sync::Wait;
+use wired_nodes::{Gate, Links, Node, Observer, TurnRefused, Wiring};
 
 // Shows a node to the observer.
 fn show<J: Wiring, P: NodeProgram, O: Observer, R: Wait>(

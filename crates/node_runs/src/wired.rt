@@ -3,14 +3,14 @@
 ghost use Rattle.std.specs.Prelude.{◌≡◌, [], All, IfOk, map};
 ghost use Rattle.interference.specs.Net.{IsVertex};
 ghost use Rattle.link_queue.specs.Ends.{put_list, taken_list};
-ghost use Rattle.actor.specs.Node.{links_in, links_out};
+ghost use Rattle.wired_nodes.specs.Node.{links_in, links_out};
 ghost use Rattle.node_runs.specs.News.{AreNewOf};
 
 use crate::making::PortEnds;
-use actor::{WiredPut, WiredTake, Wiring};
 use interference::Network;
 use node_api::NodeProgram;
 use std::alloc::{AllocError, Global};
+use wired_nodes::{WiredPut, WiredTake, Wiring};
 
 /// The ends of a node, by port.
 #[derive(Drop)]

@@ -17,8 +17,8 @@ use Rattle.alpha_laws.specs.Simulates.{Simulates, taken_over}
 use Rattle.alpha_laws.proofs.Across.{over}
 use Rattle.alpha_laws.proofs.Runs.{runs}
 use Rattle.alpha_laws.proofs.Claims.{simulates}
-use Rattle.actor.specs.declared.aside.Aside.{Aside}
-use Rattle.actor.specs.Node.{by_port, reacted_to, all_but_last}
+use Rattle.wired_nodes.specs.declared.aside.Aside.{Aside}
+use Rattle.wired_nodes.specs.Node.{by_port, reacted_to, all_but_last}
 use Rattle.outcomes.specs.Laws.{EndsHaveMet}
 
 drop_rest : {A : Type 0} (xs ys zs : List A) → xs ++ ys ≡ zs → xs ++ drop (length xs) zs ≡ zs

@@ -16,7 +16,7 @@ use Rattle.alpha_core.specs.Program.{start_node}
 use Rattle.entries.specs.declared.entry.Entry.{Entry}
 use Rattle.entries.specs.declared.entry.Entry.TheVariants.{Pulse, Put, Take}
 use Rattle.entries.specs.Rows.{stamped_entry, stamped_row, bare_of}
-use Rattle.actor.specs.Written.{Leads, takes_in}
+use Rattle.wired_nodes.specs.Written.{Leads, takes_in}
 use Rattle.event_rule.specs.State.{State, node_of}
 use Rattle.wires.specs.declared.stamped.Stamped.{Stamped}
 use Rattle.wires.specs.StampedWires.{stamped, stamps_of, wires_of}
@@ -32,7 +32,7 @@ use Rattle.stamps.proofs.Unique.{entries_append}
 use Rattle.stamps.proofs.Local.{taken_more}
 use Rattle.outcomes.specs.MergedRuns.{HaveMet, IsReplayTo, links_of}
 use Rattle.outcomes.proofs.MetNodes.{met_written}
-use Rattle.actor.proofs.StampedEntries.{wires_taken}
+use Rattle.wired_nodes.proofs.StampedEntries.{wires_taken}
 use Rattle.outcomes.proofs.Runs.{merged}
 
 module _ {M : Type 0} where

@@ -9,10 +9,10 @@ use Rattle.node_api.specs.Program.{Program}
 use Rattle.wires.specs.declared.stamped.Stamped.{Stamped}
 use Rattle.wires.specs.StampedWires.{wires_of}
 use Rattle.alpha_core.specs.View.{Alpha}
-use Rattle.actor.specs.declared.aside.Aside.{Aside}
-use Rattle.actor.specs.declared.aside.WhyAside.TheVariants.{Refused}
-use Rattle.actor.specs.Did.{Did}
-use Rattle.actor.specs.Node.{by_port, reacted_to}
+use Rattle.wired_nodes.specs.declared.aside.Aside.{Aside}
+use Rattle.wired_nodes.specs.declared.aside.WhyAside.TheVariants.{Refused}
+use Rattle.wired_nodes.specs.Did.{Did}
+use Rattle.wired_nodes.specs.Node.{by_port, reacted_to}
 use Rattle.entries.specs.declared.rows.StampedEntry.{StampedEntry}
 use Rattle.outcomes.specs.MergedRuns.{IsRunTo}
 use Rattle.outcomes.specs.Outcome.{Outcome, entries_in, link_in, link_of, node_in, start_of}

@@ -16,11 +16,11 @@ use Rattle.wires.specs.declared.stamped.Stamped.{Stamped}
 use Rattle.wires.specs.StampedWires.{last_from, last_stamp}
 use Rattle.alpha_core.specs.View.{Alpha}
 use Rattle.alpha_laws.specs.Counts.{events_of_run}
-use Rattle.actor.specs.declared.aside.Aside.{Aside}
-use Rattle.actor.specs.declared.aside.WhyAside.{WhyAside}
-use Rattle.actor.specs.declared.aside.WhyAside.TheVariants.{Refused, StampFull}
-use Rattle.actor.specs.HasStamps.{IsFullAside, aside_stamp, stamp_of_why}
-use Rattle.actor.specs.Node.{by_port, reacted_to}
+use Rattle.wired_nodes.specs.declared.aside.Aside.{Aside}
+use Rattle.wired_nodes.specs.declared.aside.WhyAside.{WhyAside}
+use Rattle.wired_nodes.specs.declared.aside.WhyAside.TheVariants.{Refused, StampFull}
+use Rattle.wired_nodes.specs.HasStamps.{IsFullAside, aside_stamp, stamp_of_why}
+use Rattle.wired_nodes.specs.Node.{by_port, reacted_to}
 use Rattle.entries.specs.declared.rows.StampedEntry.{StampedEntry}
 use Rattle.outcomes.specs.Fits.{AreWithin, HaveMetAside}
 use Rattle.outcomes.specs.Outcome.{Outcome, entries_in, link_in, node_in}

@@ -1,13 +1,13 @@
 -- What nodes whose stamps are few have set aside, and what they remember.
 use Rattle.std.proofs.Common.{◌≡◌, ℕ, ◌+◌, ◌^◌, ◌<◌, ◌≤◌, List, Some, refl, ap, ◌∙◌, arith, get_or}
 use Rattle.std.specs.Prelude.{All, Option, max}
-use Rattle.actor.specs.declared.aside.Aside.{Aside}
-use Rattle.actor.specs.declared.aside.WhyAside.{WhyAside}
-use Rattle.actor.specs.declared.aside.WhyAside.TheVariants.{Refused, StampFull}
-use Rattle.actor.specs.declared.refused.TurnRefused.{TurnRefused}
-use Rattle.actor.specs.declared.refused.TurnRefused.TheVariants as refused
-use Rattle.actor.specs.HasStamps.{aside_stamp, stamp_of_why}
-use Rattle.actor.specs.Remembered.{RemembersFull}
+use Rattle.wired_nodes.specs.declared.aside.Aside.{Aside}
+use Rattle.wired_nodes.specs.declared.aside.WhyAside.{WhyAside}
+use Rattle.wired_nodes.specs.declared.aside.WhyAside.TheVariants.{Refused, StampFull}
+use Rattle.wired_nodes.specs.declared.refused.TurnRefused.{TurnRefused}
+use Rattle.wired_nodes.specs.declared.refused.TurnRefused.TheVariants as refused
+use Rattle.wired_nodes.specs.HasStamps.{aside_stamp, stamp_of_why}
+use Rattle.wired_nodes.specs.Remembered.{RemembersFull}
 use Rattle.outcomes.specs.Full.{HasStampLeft}
 
 -- a node that has a stamp left has set no wire aside for its stamp

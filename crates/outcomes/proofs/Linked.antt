@@ -11,10 +11,10 @@ use Rattle.alpha_laws.proofs.Across.{over}
 use Rattle.wires.specs.declared.stamped.Stamped.{Stamped}
 use Rattle.wires.specs.StampedWires.{wires_of}
 use Rattle.alpha_core.specs.View.{Alpha}
-use Rattle.actor.specs.declared.aside.Aside.{Aside}
-use Rattle.actor.specs.HasStamps.{HasStamps}
-use Rattle.actor.specs.Node.{IsAside, by_port, reacted_to}
-use Rattle.actor.specs.Written.{IsTranscript}
+use Rattle.wired_nodes.specs.declared.aside.Aside.{Aside}
+use Rattle.wired_nodes.specs.HasStamps.{HasStamps}
+use Rattle.wired_nodes.specs.Node.{IsAside, by_port, reacted_to}
+use Rattle.wired_nodes.specs.Written.{IsTranscript}
 use Rattle.entries.specs.declared.rows.StampedEntry.{StampedEntry}
 use Rattle.entries.specs.Rows.{bare_of}
 use Rattle.pool.proofs.Views.{as_many}

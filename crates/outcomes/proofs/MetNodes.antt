@@ -7,7 +7,7 @@ use Rattle.node_api.specs.Program.{Program}
 use Rattle.alpha_core.specs.View.{Node}
 use Rattle.alpha_laws.proofs.Across.{over}
 use Rattle.wires.specs.declared.stamped.Stamped.{Stamped}
-use Rattle.actor.specs.Written.{takes_in}
+use Rattle.wired_nodes.specs.Written.{takes_in}
 use Rattle.stamps.specs.Keeps.{came_to}
 use Rattle.wires.specs.StampedWires.{wires_of}
 use Rattle.entries.specs.declared.rows.StampedEntry.{StampedEntry}
@@ -15,7 +15,7 @@ use Rattle.stamps.specs.Stamps.{Carries, Rises, taken_in}
 use Rattle.entries.specs.Rows.{bare_of}
 use Rattle.stamps.proofs.Local.{carried, rises}
 use Rattle.outcomes.specs.MergedRuns.{AreWritten, HaveMet, links_of}
-use Rattle.actor.proofs.StampedEntries.{wires_taken}
+use Rattle.wired_nodes.proofs.StampedEntries.{wires_taken}
 
 module _ {S M E : Type 0} (program : Program S M E) (net : Net) (ok : IsNetwork net) (nodes : ℕ → Node S M) (counters : ℕ → ℕ)
     (puts takens held : ℕ → ℕ → List (Stamped M)) (wrote : ℕ → List (StampedEntry M)) (met : HaveMet program net nodes counters puts takens held wrote) where

@@ -33,8 +33,8 @@ use Rattle.stamps.proofs.Lists.{none_or_one}
 use Rattle.stamps.proofs.Local.{taken_more}
 use Rattle.event_rule.specs.Whole.{IsStampedReplay}
 use Rattle.event_rule.proofs.Counted.{stamps-within-events}
-use Rattle.actor.specs.Written.{Leads, takes_in}
-use Rattle.actor.proofs.StampedEntries.{wires_taken}
+use Rattle.wired_nodes.specs.Written.{Leads, takes_in}
+use Rattle.wired_nodes.proofs.StampedEntries.{wires_taken}
 use Rattle.outcomes.specs.Fits.{AreWithin, HaveMetAside}
 use Rattle.outcomes.specs.MergedRuns.{HaveMet}
 use Rattle.outcomes.proofs.Clocks.{met_replay, take_port}

@@ -2,7 +2,7 @@
 use Rattle.std.proofs.Common.{◌≡◌, ℕ, List, map, sym, ◌∙◌}
 use Rattle.interference.specs.Net.{Net, IsNetwork, neighbour_of, back_port_of, vertices}
 use Rattle.alpha_laws.proofs.Across.{over}
-use Rattle.actor.specs.Node.{links_in, links_out}
+use Rattle.wired_nodes.specs.Node.{links_in, links_out}
 use Rattle.port_rows.specs.Rows.{AreCrossed}
 use Rattle.port_rows.proofs.Rows.{by_entries, by_nodes, entry_of}
 

@@ -10,7 +10,7 @@ use Rattle.node_api.specs.Program.{Program}
 use Rattle.alpha_core.specs.View.{Node}
 use Rattle.alpha_core.specs.Program.{start_node}
 use Rattle.alpha_laws.proofs.Across.{over}
-use Rattle.actor.specs.Written.{Leads, takes_in}
+use Rattle.wired_nodes.specs.Written.{Leads, takes_in}
 use Rattle.event_rule.specs.State.{Link, State, link_at, no_link, start}
 use Rattle.event_rule.specs.Step.{go_on, run_from, step}
 use Rattle.event_rule.specs.Rows.{event_of, if_made, rows_from}
@@ -22,7 +22,7 @@ use Rattle.entries.specs.declared.rows.StampedRow.{StampedRow}
 use Rattle.stamps.specs.Merged.{AreOrdered, IsMerge, entries_at, puts_at, rows_in, takes_at}
 use Rattle.stamps.proofs.Lists.{puts_are, takes_are}
 use Rattle.outcomes.specs.MergedRuns.{AreWritten, IsReplayTo}
-use Rattle.actor.proofs.StampedEntries.{wires_taken}
+use Rattle.wired_nodes.proofs.StampedEntries.{wires_taken}
 use Rattle.outcomes.proofs.Steps.{Comes, IsTable, Left, row_made}
 
 module _ {S M E : Type 0} (program : Program S M E) (net : Net) (ok : IsNetwork net) (nodes : ℕ → Node S M) (links : ℕ → ℕ → Link M) where

@@ -16,13 +16,13 @@ use Rattle.alpha_laws.proofs.Claims.{simulates}
 use Rattle.wires.specs.declared.stamped.Stamped.{Stamped}
 use Rattle.wires.specs.StampedWires.{wires_of}
 use Rattle.alpha_core.specs.View.{Alpha}
-use Rattle.actor.specs.declared.aside.Aside.{Aside}
-use Rattle.actor.specs.declared.aside.WhyAside.TheVariants.{Refused}
+use Rattle.wired_nodes.specs.declared.aside.Aside.{Aside}
+use Rattle.wired_nodes.specs.declared.aside.WhyAside.TheVariants.{Refused}
 use Rattle.entries.specs.declared.rows.StampedEntry.{StampedEntry}
 use Rattle.entries.specs.Rows.{bare_of}
-use Rattle.actor.specs.Node.{by_port, reacted_to}
-use Rattle.actor.specs.Written.{IsTranscript}
-use Rattle.actor.proofs.Kept.{node_same}
+use Rattle.wired_nodes.specs.Node.{by_port, reacted_to}
+use Rattle.wired_nodes.specs.Written.{IsTranscript}
+use Rattle.wired_nodes.proofs.Kept.{node_same}
 use Rattle.outcomes.specs.Laws.{EndsHaveMet}
 use Rattle.outcomes.specs.MergedRuns.{IsRunTo}
 use Rattle.outcomes.specs.Outcome.{IsOutcome, Outcome, entries_in, held_on, link_in, link_of, no_history, node_in, put_by, taken_by}

@@ -8,12 +8,12 @@ use Rattle.node_api.specs.Program.{Program}
 use Rattle.wires.specs.declared.stamped.Stamped.{Stamped}
 use Rattle.wires.specs.StampedWires.{wires_of}
 use Rattle.alpha_core.specs.View.{Alpha}
-use Rattle.actor.specs.declared.aside.Aside.{Aside}
+use Rattle.wired_nodes.specs.declared.aside.Aside.{Aside}
 use Rattle.stamps.specs.Keeps.{KeepsStamps}
 use Rattle.entries.specs.declared.rows.StampedEntry.{StampedEntry}
 use Rattle.entries.specs.Rows.{bare_of}
-use Rattle.actor.specs.Node.{by_port}
-use Rattle.actor.specs.Written.{IsTranscript}
+use Rattle.wired_nodes.specs.Node.{by_port}
+use Rattle.wired_nodes.specs.Written.{IsTranscript}
 use Rattle.outcomes.specs.MergedRuns.{HaveMet}
 use Rattle.outcomes.specs.Outcome.{Outcome, entries_in, link_in, node_in, put_by, taken_by}
 use Rattle.port_rows.proofs.Rows.{get_map}

@@ -16,7 +16,7 @@ use Rattle.alpha_core.specs.Program.{start_node}
 use Rattle.entries.specs.declared.entry.Entry.{Entry}
 use Rattle.entries.specs.declared.entry.Entry.TheVariants.{Pulse, Put, Take}
 use Rattle.entries.specs.Rows.{stamped_row, vertex_row, without_stamp, bare_of}
-use Rattle.actor.specs.Written.{Leads}
+use Rattle.wired_nodes.specs.Written.{Leads}
 use Rattle.event_rule.specs.State.{Link, State, link_at, node_of, set_link, set_link_to, set_node}
 use Rattle.event_rule.specs.Step.{after_put, after_take, else_old, step}
 use Rattle.event_rule.proofs.LinkTable.{link_same, link_other, rows_kept, row_kept}

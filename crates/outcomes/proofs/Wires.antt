@@ -10,9 +10,9 @@ use Rattle.wires.specs.declared.stamped.Stamped.{Stamped}
 use Rattle.wires.specs.StampedWires.{wires_of}
 use Rattle.alpha_core.specs.View.{Alpha}
 use Rattle.wires.specs.declared.wire.Wire.{Wire}
-use Rattle.actor.specs.declared.aside.Aside.{Aside}
-use Rattle.actor.specs.Node.{IsAside, by_port, reacted_to}
-use Rattle.actor.specs.Written.{IsTranscript}
+use Rattle.wired_nodes.specs.declared.aside.Aside.{Aside}
+use Rattle.wired_nodes.specs.Node.{IsAside, by_port, reacted_to}
+use Rattle.wired_nodes.specs.Written.{IsTranscript}
 use Rattle.entries.specs.declared.rows.StampedEntry.{StampedEntry}
 use Rattle.entries.specs.Rows.{bare_of}
 use Rattle.outcomes.specs.Outcome.{Outcome, entries_in, held_on, link_in, node_in, put_by}

@@ -8,7 +8,7 @@ use Rattle.wires.specs.StampedWires.{wires_of}
 use Rattle.wires.specs.declared.stamped.Stamped.{Stamped}
 use Rattle.wires.specs.declared.wire.Wire.{Wire}
 use Rattle.alpha_laws.specs.Counts.{events_of_run}
-use Rattle.actor.specs.Written.{IsWritten}
+use Rattle.wired_nodes.specs.Written.{IsWritten}
 use Rattle.entries.specs.declared.rows.StampedEntry.{StampedEntry}
 use Rattle.entries.specs.Rows.{bare_of}
 use Rattle.stamps.specs.Keeps.{KeepsStamps}

@@ -6,9 +6,9 @@ use Rattle.wires.specs.declared.wire.Wire.{Wire}
 use Rattle.alpha_core.specs.View.{Node}
 use Rattle.alpha_laws.specs.Kept.{NodeKept}
 use Rattle.alpha_laws.specs.Simulates.{Simulates, taken_over}
-use Rattle.actor.specs.declared.aside.Aside.{Aside}
-use Rattle.actor.specs.declared.aside.WhyAside.TheVariants.{Refused}
-use Rattle.actor.specs.Node.{by_port, reacted_to, IsAside}
+use Rattle.wired_nodes.specs.declared.aside.Aside.{Aside}
+use Rattle.wired_nodes.specs.declared.aside.WhyAside.TheVariants.{Refused}
+use Rattle.wired_nodes.specs.Node.{by_port, reacted_to, IsAside}
 
 -- Each node keeps its links with the lists that its ends put and took, but for a wire that it refused and set aside, if
 -- it did; and what was put on each link is what was taken from it, followed by what it holds.

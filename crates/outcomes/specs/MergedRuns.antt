@@ -4,7 +4,7 @@ use Rattle.interference.specs.Net.{Net, IsVertex, count_of, degree_of, neighbour
 use Rattle.node_api.specs.Program.{Program, last_pulse_on}
 use Rattle.alpha_core.specs.View.{Node, is_drained}
 use Rattle.wires.specs.declared.stamped.Stamped.{Stamped}
-use Rattle.actor.specs.Written.{IsWritten}
+use Rattle.wired_nodes.specs.Written.{IsWritten}
 use Rattle.event_rule.specs.declared.event.Event.{Event}
 use Rattle.event_rule.specs.State.{Link, State, link_at, node_of, sent_of}
 use Rattle.event_rule.specs.Step.{run}

@@ -9,7 +9,7 @@ use Rattle.wires.specs.StampedWires.{wires_of}
 use Rattle.alpha_core.specs.View.{Alpha, Node, is_drained}
 use Rattle.alpha_core.specs.Program.{start_node}
 use Rattle.alpha_laws.specs.Simulates.{Simulates}
-use Rattle.actor.specs.Written.{IsTranscript}
+use Rattle.wired_nodes.specs.Written.{IsTranscript}
 use Rattle.entries.specs.declared.rows.StampedRow.{StampedRow}
 use Rattle.stamps.specs.Merged.{IsMerge}
 use Rattle.stamps.specs.Stamps.{Carries, Rises, put_in, taken_in}

@@ -3,21 +3,21 @@
 ghost use Rattle.std.specs.Prelude.{◌≡◌, ◌≢◌, ◌<◌, ◌^◌, ℕ, All, IfOk, Some, map};
 ghost use Rattle.interference.specs.Net.{vertices};
 ghost use Rattle.node_api.specs.Program.{last_pulse_on};
-ghost use Rattle.actor.specs.declared.refused.TurnRefused.TheVariants.{StampFull};
-ghost use Rattle.actor.specs.Links.{HoldAtMost};
-ghost use Rattle.actor.specs.Stepped.{refusal_of};
+ghost use Rattle.wired_nodes.specs.declared.refused.TurnRefused.TheVariants.{StampFull};
+ghost use Rattle.wired_nodes.specs.Links.{HoldAtMost};
+ghost use Rattle.wired_nodes.specs.Stepped.{refusal_of};
 ghost use Rattle.outcomes.specs.Outcome.{IsOutcome};
 ghost use Rattle.outcomes.specs.Full.{HasStampLeft};
 
 use crate::meeting::meet_rows;
 use crate::outcome::Outcome;
 use crate::taking_apart::{NodesAndEnds, split_ends};
-use actor::{Links, Node, Wiring};
 use interference::{Memory, Network};
 use node_api::NodeProgram;
 use port_rows::crossed;
 use std::alloc::Global;
 use std::sync::Wait;
+use wired_nodes::{Links, Node, Wiring};
 
 // The last pulse of a program, which has 32 binary digits by its type.
 fn last_pulse_of<P: NodeProgram>(net: &Network) -> u32

@@ -7,12 +7,12 @@
 //! Nothing here starts or needs a thread: `node_runs` runs the nodes.
 //!
 //! `laws` says what such nodes are. Each node keeps as a fact of its type that it fits the lists of its own ends
-//! (`actor`). A wire that was refused in the middle of a run is set aside, since no node can know by itself that none
-//! is. When all ends have met, the lists of both ends of each link show that none was, and that the nodes simulate the
-//! synchronous run, in the very record that lists of events have: `Simulates` of `alpha_laws`. If an outcome is whole,
-//! `IsCompleteRun` of `specs/Whole.antt` holds of it too, and its wires are counted (`specs/Counts.antt`). If it isn't,
-//! one of its nodes can go on (`specs/Progress.antt`). With a transcript the entries of all nodes, in the order of
-//! their stamps, are one run (`merged` of `IsOutcome`, `specs/Merged.antt`).
+//! (`wired_nodes`). A wire that was refused in the middle of a run is set aside, since no node can know by itself that
+//! none is. When all ends have met, the lists of both ends of each link show that none was, and that the nodes
+//! simulate the synchronous run, in the very record that lists of events have: `Simulates` of `alpha_laws`. If an
+//! outcome is whole, `IsCompleteRun` of `specs/Whole.antt` holds of it too, and its wires are counted
+//! (`specs/Counts.antt`). If it isn't, one of its nodes can go on (`specs/Progress.antt`). With a transcript the
+//! entries of all nodes, in the order of their stamps, are one run (`merged` of `IsOutcome`, `specs/Merged.antt`).
 //!
 //! That is the theorem of the one merged run. A node keeps its stamps by each event (`events_keep_stamps` of `stamps`).
 //! Once all ends have met, each take of a link has a greater stamp than its put (`met_nodes_are_written`), so the

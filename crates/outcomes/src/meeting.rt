@@ -2,16 +2,16 @@
 
 ghost use Rattle.std.specs.Prelude.{◌≡◌, ◌≤◌, ℕ, All, IfOk, length, map};
 ghost use Rattle.link_queue.specs.Ends.{held_stamped, put_stamped, taken_stamped};
-ghost use Rattle.actor.specs.Links.{HoldAtMost};
+ghost use Rattle.wired_nodes.specs.Links.{HoldAtMost};
 ghost use Rattle.outcomes.specs.Meets.{AreMet, RowsAreMet};
 
-use actor::{Links, WiredPut, WiredTake, Wiring};
 use interference::Memory;
 use link_queue::Met;
 use node_api::NodeProgram;
 use port_rows::pairs;
 use std::alloc::Global;
 use std::sync::Wait;
+use wired_nodes::{Links, WiredPut, WiredTake, Wiring};
 
 // The ends of the links out of a vertex, by port.
 type Row<J: Wiring, P: NodeProgram> = (Vec<WiredPut<J, P::Payload>>, Vec<WiredTake<J, P::Payload>>);

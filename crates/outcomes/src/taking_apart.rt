@@ -4,11 +4,11 @@ ghost use Rattle.std.specs.Prelude.{◌≡◌, ◌≤◌, [], IfOk, map, vec_cap
 ghost use Rattle.entries.specs.Recorded.{entries_by};
 ghost use Rattle.port_rows.specs.Rows.{rows_of};
 
-use actor::{Node, NodeParts, WiredPut, WiredTake, Wiring};
 use alpha_core::AlphaNode;
 use entries::Entries;
 use node_api::NodeProgram;
 use std::alloc::{AllocError, Global};
+use wired_nodes::{Node, NodeParts, WiredPut, WiredTake, Wiring};
 
 /// A node after the run, with its vertex and its entries.
 pub struct Actor<P: NodeProgram> {

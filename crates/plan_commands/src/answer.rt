@@ -1,6 +1,5 @@
 //! The commands of `forestplan`, and the answer of each to the bytes of its input.
 
-use actor::OpenGate;
 use answers::{PlanFault, check_bytes, fault_report, forest_bytes, plain_bytes};
 use byte_functions::{plan_bytes, transcript_bytes};
 use command_line::{Declined, Executable, Request, parse};
@@ -9,6 +8,7 @@ use serving::Commands;
 use std::alloc::{AllocError, Global};
 use std::sync::Wait;
 use std::thread::Threads;
+use wired_nodes::OpenGate;
 
 /// The commands of `forestplan`; each is a line of `answer_bytes`. `Plan` and `Transcript` start threads.
 pub struct ForestplanCommands;

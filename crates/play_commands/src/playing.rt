@@ -8,7 +8,6 @@ ghost use Rattle.program_texts.specs.PayloadTexts.{payload_texts};
 ghost use Rattle.play_commands.specs.Payloads.{layers_payloads};
 ghost use Rattle.play_commands.specs.Plays.{MayPlay, MayPlayNamed, layers_root};
 
-use actor::OpenGate;
 use colour_program::Colouring;
 use command_line::{NodeProgramName, Play, Shown};
 use independent_set::IndependentSet;
@@ -27,6 +26,7 @@ use run_options::Edition;
 use std::alloc::Global;
 use std::sync::Wait;
 use std::thread::Threads;
+use wired_nodes::OpenGate;
 
 // What nodes of a program answer to an input, whose network is as `setting` says; each that they may be asked for is a
 // line. `Run` starts threads.

@@ -5,7 +5,7 @@
 //! task is lost and none is there twice, and `run_tasks` returns each task once: what was pushed to a deque is what was
 //! taken from it and what it holds (the rule of `deque_rule`), and the sum over all deques has each task once. What a
 //! turn leaves is a fact of the task's type, of which nothing is known here but its number; `node_runs` runs the nodes
-//! of `actor`.
+//! of `wired_nodes`.
 //!
 //! In reading order: `worker_state` is what a worker has, `looks` what it does, `signals` what workers see of one
 //! another. `deques` makes and fills the deques, `worker_states` makes what workers begin with, `threads` starts and

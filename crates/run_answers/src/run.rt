@@ -8,7 +8,6 @@ ghost use Rattle.run_answers.specs.Ends.{IsEndsAnswer, gathered_end};
 ghost use Rattle.run_answers.specs.Workers.{IsFaultOfWorkers};
 
 use crate::lines::push_end;
-use actor::Gate;
 use byte_functions::whole_run;
 use interference::{Memory, Network};
 use node_api::Refused;
@@ -20,6 +19,7 @@ use run_options::Options;
 use std::alloc::Global;
 use std::sync::Wait;
 use std::thread::Threads;
+use wired_nodes::Gate;
 
 // A line for each node.
 fn text_of_ends<P: ProgramText>(

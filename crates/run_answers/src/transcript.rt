@@ -9,7 +9,6 @@ ghost use Rattle.byte_functions.specs.Transcripts.{stamped_edition};
 ghost use Rattle.run_answers.specs.Transcripts.{IsLoneTranscript, IsProgramTranscript};
 ghost use Rattle.run_answers.specs.Workers.{IsFaultOfWorkers};
 
-use actor::Gate;
 use byte_functions::{push_edition_line, run_transcript};
 use entries::StampedRow;
 use interference::Memory;
@@ -21,6 +20,7 @@ use std::alloc::Global;
 use std::sync::Wait;
 use std::thread::Threads;
 use transcripts::push_stamped_row;
+use wired_nodes::Gate;
 
 // The transcript of so many nodes with these rows.
 fn text_of_rows<P: ProgramText>(

@@ -1,9 +1,9 @@
 //! A gate at which two workers meet.
 
-use actor::Gate;
 use std::sync::Wait;
 use std::sync::atomic::{AtomicBool, AtomicU64, Ordering};
 use std::thread;
+use wired_nodes::Gate;
 
 // How often a worker that is held looks for the other.
 const TRIES: u32 = 1_000_000;

@@ -3,7 +3,6 @@
 use crate::meeting::Meeting;
 use crate::runs::{BY_TWO, apart, ends_with, path, small, triangle};
 use crate::stealing::Stealing;
-use actor::{Gate, OpenGate};
 use colour_program::Colouring;
 use interference::Network;
 use node_pool::run_workers;
@@ -12,6 +11,7 @@ use std::alloc::Global;
 use std::sync::Wait;
 use std::thread::Threads;
 use sync_rounds::{Greatest, run_rounds};
+use wired_nodes::{Gate, OpenGate};
 
 // How many pulses a node of the triangle makes at least; a turn makes one at most.
 pub const PULSES: u64 = 30;

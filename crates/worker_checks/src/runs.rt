@@ -4,7 +4,6 @@ ghost use Rattle.std.specs.Prelude.{◌≡◌, ◌<◌, ◌≤◌, length};
 ghost use Rattle.interference.specs.Net.{IsVertex, degree_of, vertices};
 ghost use Rattle.outcomes.specs.Outcome.{row_in};
 
-use actor::OpenGate;
 use colour_program::Colouring;
 use colour_rules::{Long, Payload};
 use interference::Network;
@@ -15,6 +14,7 @@ use std::alloc::Global;
 use std::sync::Wait;
 use std::thread::Threads;
 use sync_rounds::Greatest;
+use wired_nodes::OpenGate;
 use wires::{Stamped, Wire};
 
 /// More looks than a run of two workers needs that gets on at all.

@@ -3,7 +3,6 @@
 
 use crate::replay_checks::MERGED;
 use crate::runs::{pair, small};
-use actor::OpenGate;
 use alpha_core::{Counter, StampFull};
 use entries::{Entries, Entry, StampedEntry, StampedRow};
 use event_rule::RunRefused;
@@ -18,6 +17,7 @@ use std::sync::Wait;
 use std::thread::Threads;
 use sync_rounds::{Best, Greatest};
 use transcripts::stamped_text;
+use wired_nodes::OpenGate;
 use wires::Wire;
 
 type Row = StampedRow<Best>;

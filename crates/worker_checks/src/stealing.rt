@@ -1,9 +1,9 @@
 //! A gate through which two workers come only if one steals.
 
-use actor::Gate;
 use std::sync::Wait;
 use std::sync::atomic::{AtomicBool, Ordering};
 use std::thread;
+use wired_nodes::Gate;
 
 // How often a worker that is held looks for the other.
 const TRIES: u32 = 1_000_000;

@@ -6,7 +6,6 @@ ghost use Rattle.interference.specs.Net.{IsVertex, count_of, degree_of, vertices
 ghost use Rattle.outcomes.specs.Outcome.{row_in};
 
 use crate::runs::{greeted, holds, of_one, run_of_one, triangle};
-use actor::OpenGate;
 use colour_program::Colouring;
 use colour_rules::Payload;
 use entries::{Entries, Entry, StampedEntry};
@@ -17,6 +16,7 @@ use run_options::Options;
 use std::alloc::Global;
 use std::sync::Wait;
 use std::thread::Threads;
+use wired_nodes::OpenGate;
 use wires::{Stamped, Wire};
 
 // A constant has the identifier of a greeting in place of the payload, whose number has a model.

@@ -6,7 +6,6 @@ ghost use Rattle.outcomes.specs.Outcome.{row_in};
 ghost use Rattle.link_rule.specs.Legal.{IsLegalOn, LegalFor};
 ghost use Rattle.link_queue.specs.Ends.{IsPutEndOf, IsTakeEndOf, put_list, put_name, put_stamped, take_name};
 
-use actor::{Gate, OpenGate};
 use alpha_core::AlphaNode;
 use answers::PlanFault;
 use byte_functions::{plan_bytes, transcript_bytes};
@@ -21,6 +20,7 @@ use run_options::{Edition, MAX_CAPACITY, Options, PoolFault};
 use std::alloc::Global;
 use std::sync::Wait;
 use std::thread::Threads;
+use wired_nodes::{Gate, OpenGate};
 use wires::Stamped;
 
 pub fn making<P: NodeProgram>(

@@ -1,5 +1,5 @@
 use Rattle.std.proofs.Common.{map}
-use Rattle.actor.specs.Tables.{table_of}
+use Rattle.wired_nodes.specs.Tables.{table_of}
 use Rattle.port_rows.specs.Rows.{rows_of}
 use Rattle.node_runs.specs.Makes.{tables_of}
 use Rattle.node_pool.proofs.run.run_observed.Given as goal

@@ -2,12 +2,12 @@ use Rattle.std.proofs.Common.{◌≡◌, ◌≤◌, ◌<◌, ◌^◌, ◌++◌, 
 use Rattle.std.specs.Prelude.{All}
 use Rattle.std.proofs.lemmas.Simd.{map-map}
 use Rattle.interference.specs.Net.{IsNetwork}
-use Rattle.actor.proofs.Lists.{as_long}
-use Rattle.actor.specs.Node.{by_port, reacted_to}
-use Rattle.actor.specs.Written.{IsTranscript}
+use Rattle.wired_nodes.proofs.Lists.{as_long}
+use Rattle.wired_nodes.specs.Node.{by_port, reacted_to}
+use Rattle.wired_nodes.specs.Written.{IsTranscript}
 use Rattle.entries.specs.Rows.{bare_of}
 use Rattle.port_rows.specs.Rows.{AreCrossed, HasShape, rows_of}
-use Rattle.actor.specs.HasStamps.{HasStamps}
+use Rattle.wired_nodes.specs.HasStamps.{HasStamps}
 use Rattle.entries.specs.Recorded.{entries_by}
 use Rattle.link_queue.specs.Ends.{held_stamped, put_list, put_stamped, taken_list, taken_stamped}
 use Rattle.node_api.specs.Program.{last_pulse_on}

@@ -1,7 +1,7 @@
 use Rattle.std.proofs.Common.{◌≤◌, ℕ, length, map, vec_len, vec_capacity}
 use Rattle.std.specs.Prelude.{All}
 use Rattle.link_queue.specs.Ends.{held_stamped, put_stamped, taken_stamped}
-use Rattle.actor.specs.Links.{HoldAtMost}
+use Rattle.wired_nodes.specs.Links.{HoldAtMost}
 use Rattle.outcomes.specs.Meets.{AreMet}
 use Rattle.outcomes.proofs.meeting.meet_row.Given as goal
 

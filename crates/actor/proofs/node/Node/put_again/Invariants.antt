@@ -1,6 +1,0 @@
-use Rattle.std.proofs.Common.{◌≡◌, None}
-use Rattle.actor.proofs.Attempts.{Begun}
-use Rattle.actor.proofs.node.Node.put_again.Given as goal
-
-abbrev pub invariant-loop : goal.invariant-loop
-invariant-loop g l = record { begun : Begun l.fn.self l.self 0; going : l.self.aside ≡ None }
