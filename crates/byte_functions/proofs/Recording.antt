@@ -12,7 +12,7 @@ use Rattle.run_options.specs.declared.Edition.TheVariants as edition
 use Rattle.stamps.specs.Merged.{IsMerge}
 use Rattle.stamps.specs.Stamps.{Rises}
 use Rattle.program_texts.specs.PayloadTexts.{PayloadTexts}
-use Rattle.answers.specs.Answers.{ReadsAs}
+use Rattle.plan_answers.specs.Answers.{ReadsAs}
 use Rattle.byte_functions.specs.Transcripts.{IsMergedText, IsMergedTranscriptOf, IsTextIn, IsTranscriptOf, IsTranscriptOn, entries_text}
 
 -- what holds of the network that was read is said of the input

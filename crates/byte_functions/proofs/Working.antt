@@ -20,9 +20,9 @@ use Rattle.colour_rules.specs.declared.payload.Payload.{Payload}
 use Rattle.colour_rules.specs.Node as colour
 use Rattle.colour_rules.specs.Program.{colouring}
 use Rattle.colour_laws.specs.Colours.{colours}
-use Rattle.answers.specs.Answers.{IsPlainAnswer, ReadsAs}
-use Rattle.answers.specs.RunFaults.{fault_of_run}
-use Rattle.answers.proofs.Plain.{plain}
+use Rattle.plan_answers.specs.Answers.{IsPlainAnswer, ReadsAs}
+use Rattle.plan_answers.specs.RunFaults.{fault_of_run}
+use Rattle.plan_answers.proofs.Plain.{plain}
 use Rattle.byte_functions.specs.Colours.{merged_of}
 use Rattle.byte_functions.specs.Workers.{IsFaultOfPool, IsFaultOfRun, IsFaultOfTranscript, IsFaultOfWorkers}
 

@@ -8,7 +8,7 @@ use Rattle.entries.specs.declared.rows.Row.{Row}
 use Rattle.program_texts.specs.Texts.{ProgramTexts}
 use Rattle.transcripts.specs.TranscriptText.{named_edition, stamped_row_text, text_of, transcript_of}
 use Rattle.program_texts.specs.PayloadTexts.{PayloadTexts}
-use Rattle.answers.specs.Answers.{ReadsAs}
+use Rattle.plan_answers.specs.Answers.{ReadsAs}
 use Rattle.event_rule.specs.Whole.{IsWholeReplay}
 use Rattle.run_options.specs.declared.Edition.{Edition}
 use Rattle.run_options.specs.declared.Edition.TheVariants as edition

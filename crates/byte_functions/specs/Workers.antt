@@ -9,9 +9,9 @@ use Rattle.run_options.specs.declared.fault.PoolFault.TheVariants as pool
 use Rattle.run_options.specs.declared.fault.RunFault.{RunFault}
 use Rattle.run_options.specs.declared.fault.RunFault.TheVariants as run
 use Rattle.node_api.specs.Program.{Program}
-use Rattle.answers.specs.Answers.{IsFaultOfText, ReadsAs}
-use Rattle.answers.specs.declared.fault.PlanFault.{PlanFault}
-use Rattle.answers.specs.declared.fault.PlanFault.TheVariants as plan
+use Rattle.plan_answers.specs.Answers.{IsFaultOfText, ReadsAs}
+use Rattle.plan_answers.specs.declared.fault.PlanFault.{PlanFault}
+use Rattle.plan_answers.specs.declared.fault.PlanFault.TheVariants as plan
 
 -- The fault of a run of workers: if the options are out of range, that they are. When memory or a thread is refused
 -- isn't promised. No stamp is ever too great.

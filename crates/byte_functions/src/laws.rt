@@ -1,10 +1,10 @@
 //! What holds of the answers together. Each law is a function that does nothing: its contract is the law.
 
 ghost use Rattle.std.specs.Prelude.{◌≡◌, ◌++◌, ◌∷◌, [], List, ℕ};
-ghost use Rattle.answers.specs.Answers.{IsPlainAnswer};
-ghost use Rattle.answers.specs.Faults.{fault_status};
-ghost use Rattle.answers.specs.Verdicts.{IsCheckAnswer, IsFaultOfCheck, verdict_text};
-ghost use Rattle.answers.specs.declared.fault.PlanFault.{PlanFault};
+ghost use Rattle.plan_answers.specs.Answers.{IsPlainAnswer};
+ghost use Rattle.plan_answers.specs.Faults.{fault_status};
+ghost use Rattle.plan_answers.specs.Verdicts.{IsCheckAnswer, IsFaultOfCheck, verdict_text};
+ghost use Rattle.plan_answers.specs.declared.fault.PlanFault.{PlanFault};
 
 /// A network text that ends in a line feed, followed by the plan that `plain_bytes` gives for it, is an
 /// input that `check_bytes` calls proper; no fault but out of memory is possible.

@@ -2,7 +2,7 @@
 //! also has that nodes of the colouring which have all halted have the colours of the network.
 //!
 //! It names no stream, no command line and no system, so that a test or another program calls the same functions. The
-//! functions of all other commands are in `answers`, which needs no thread.
+//! functions of all other commands are in `plan_answers`, which needs no thread.
 //!
 //! `plan_commands` calls `plan_bytes` or `transcript_bytes` for a command. For any program of nodes, `run_answers`
 //! calls `whole_run` and `run_transcript`, of which it makes what `forestplay run` prints.

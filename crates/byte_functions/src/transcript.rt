@@ -13,12 +13,12 @@ ghost use Rattle.byte_functions.specs.Workers.{IsFaultOfTranscript, IsFaultOfWor
 
 use crate::merged::merged_text;
 use crate::workers::whole_run;
-use answers::{PlanFault, network_of_text};
 use colour_program::Colouring;
 use interference::{Memory, Network};
 use node_api::{NodeProgram, Refused};
 use outcomes::Actor;
 use outcomes::laws::whole_outcomes_replay;
+use plan_answers::{PlanFault, network_of_text};
 use program_texts::ProgramText;
 use run_options::{Edition, Options, RunFault};
 use std::alloc::Global;

@@ -3,12 +3,11 @@
 ghost use Rattle.std.specs.Prelude.{◌≡◌, true, IfOk, IfErr};
 ghost use Rattle.run_options.specs.Ranges.{AreInRange};
 ghost use Rattle.outcomes.specs.Outcome.{IsOutcome, is_whole};
-ghost use Rattle.answers.specs.Answers.{IsPlainAnswer};
+ghost use Rattle.plan_answers.specs.Answers.{IsPlainAnswer};
 ghost use Rattle.byte_functions.specs.Workers.{IsFaultOfRun, IsFaultOfWorkers, MayRun, Ran, whole_after};
 
 use crate::coloured_runs::halted_nodes_are_coloured;
 use crate::plan_text::text_of_nodes;
-use answers::{PlanFault, network_of_text};
 use colour_laws::laws::colours_are_proper;
 use colour_program::Colouring;
 use colour_rules::Payload;
@@ -17,6 +16,7 @@ use node_api::{NodeProgram, Refused};
 use node_pool::run_workers;
 use outcomes::Outcome;
 use outcomes::laws::whole_outcomes_are_complete;
+use plan_answers::{PlanFault, network_of_text};
 use run_options::{Options, PoolFault, RunFault};
 use std::alloc::Global;
 use std::sync::Wait;

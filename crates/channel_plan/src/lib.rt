@@ -1,7 +1,7 @@
 //! Channel plans as text: written, read, and checked for a network.
 //!
-//! A plan text is `plan`, and then a line for each vertex with its channel. `answers` and `byte_functions`
-//! write plans by `plan_text`, and `answers` checks the plans of anybody by `split_plan`, `read_plan` and `check`.
+//! A plan text is `plan`, and then a line for each vertex with its channel. `plan_answers` and `byte_functions`
+//! write plans by `plan_text`, and `plan_answers` checks the plans of anybody by `split_plan`, `read_plan` and `check`.
 //!
 //! ```
 //! let text = plan_text(alloc, &[1, 2, 0])?;          // "plan", "1 2", "2 3", "3 1", a line each

@@ -6,7 +6,7 @@
 //! Forests count from 0 to one less than U, the greatest number of higher neighbours of any vertex.
 //!
 //! `colour_rules` numbers the ports of one node by `number_up`, and colours its forests all at once;
-//! `answers` prints what `decompose` gives of the whole network. A contract says
+//! `plan_answers` prints what `decompose` gives of the whole network. A contract says
 //! `parent net f v` for the parent of v in forest f, and `number net v w` for the forest of an edge.
 //! `laws` has what holds of the forests of every network.
 //!

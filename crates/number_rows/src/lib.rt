@@ -1,4 +1,4 @@
-//! Numbers as decimal text, appended to bytes. `channel_plan` and `answers` write their texts of many rows with
+//! Numbers as decimal text, appended to bytes. `channel_plan` and `plan_answers` write their texts of many rows with
 //! `push_row`, and `program_texts`, `transcripts` and the programs of nodes a number after words with `push_numbered`.
 //!
 //! ```

@@ -1,15 +1,15 @@
 -- What a command of `forestplan` may answer to the bytes of its input.
 use Rattle.std.specs.Prelude.{◌≢◌, ℕ, List, Result, Ok, Err}
 use Rattle.run_options.specs.declared.fault.PoolFault.TheVariants.{BadOptions}
-use Rattle.answers.specs.Faults.{fault_text}
-use Rattle.answers.specs.Answers.{IsFaultOfText, IsForestsAnswer, IsPlainAnswer}
+use Rattle.plan_answers.specs.Faults.{fault_text}
+use Rattle.plan_answers.specs.Answers.{IsFaultOfText, IsForestsAnswer, IsPlainAnswer}
 use Rattle.colour_rules.specs.Program.{colouring}
 use Rattle.byte_functions.specs.Payloads.{colouring_payloads}
 use Rattle.byte_functions.specs.Transcripts.{IsTranscriptAnswer}
-use Rattle.answers.specs.Verdicts.{IsCheckAnswer, IsFaultOfCheck}
+use Rattle.plan_answers.specs.Verdicts.{IsCheckAnswer, IsFaultOfCheck}
 use Rattle.byte_functions.specs.Workers.{IsFaultOfWorkers}
-use Rattle.answers.specs.declared.fault.PlanFault.{PlanFault}
-use Rattle.answers.specs.declared.fault.PlanFault.TheVariants.{Pool}
+use Rattle.plan_answers.specs.declared.fault.PlanFault.{PlanFault}
+use Rattle.plan_answers.specs.declared.fault.PlanFault.TheVariants.{Pool}
 use Rattle.command_line.specs.Asked.{request_of}
 use Rattle.command_line.specs.declared.executable.Executable.TheVariants.{Forestplan}
 use Rattle.command_line.specs.declared.request.Request.{Request}

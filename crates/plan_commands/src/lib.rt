@@ -3,7 +3,7 @@
 //! `forestplan` calls `serve_words` of `serving` with `ForestplanCommands`. The example at the head of `serving` has
 //! them as well, over an input and outputs of the caller's.
 //!
-//! Limits: those of `answers` and `byte_functions`.
+//! Limits: those of `plan_answers` and `byte_functions`.
 #![tactic(auto)]
 
 mod answer;

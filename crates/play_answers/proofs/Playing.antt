@@ -15,7 +15,7 @@ use Rattle.event_texts.specs.StateText.{state_text}
 use Rattle.event_texts.specs.declared.fault.EventFault.{EventFault}
 use Rattle.program_texts.specs.Texts.{ProgramTexts}
 use Rattle.program_texts.specs.PayloadTexts.{PayloadTexts}
-use Rattle.answers.specs.Answers.{LinesReadAs, ReadsAs, network_with}
+use Rattle.plan_answers.specs.Answers.{LinesReadAs, ReadsAs, network_with}
 use Rattle.play_inputs.specs.Inputs.{IsFaultOfText}
 use Rattle.play_answers.specs.EventAnswers.{AreInStep, IsEventsAnswer, IsFaultOfEventLines, IsFaultOfEvents, IsStateReached}
 use Rattle.play_inputs.specs.declared.fault.PlayFault.{PlayFault}

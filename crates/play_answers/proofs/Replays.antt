@@ -13,7 +13,7 @@ use Rattle.transcripts.specs.Behind.{AreNetworkLines, network_lines, transcript_
 use Rattle.transcripts.specs.Editions.{One, Two}
 use Rattle.program_texts.specs.Texts.{ProgramTexts}
 use Rattle.program_texts.specs.PayloadTexts.{PayloadTexts}
-use Rattle.answers.specs.Answers.{LinesReadAs, ReadsAs, network_with}
+use Rattle.plan_answers.specs.Answers.{LinesReadAs, ReadsAs, network_with}
 use Rattle.play_inputs.specs.Inputs.{IsFaultOfText}
 use Rattle.play_answers.specs.EventAnswers.{AreInStep}
 use Rattle.play_inputs.specs.Settings.{OfSet}

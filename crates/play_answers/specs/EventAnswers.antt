@@ -16,7 +16,7 @@ use Rattle.event_texts.specs.StateText.{state_text}
 use Rattle.event_texts.specs.declared.fault.EventFault.{EventFault}
 use Rattle.program_texts.specs.Texts.{ProgramTexts}
 use Rattle.program_texts.specs.PayloadTexts.{PayloadTexts}
-use Rattle.answers.specs.Answers.{LinesReadAs}
+use Rattle.plan_answers.specs.Answers.{LinesReadAs}
 use Rattle.play_inputs.specs.Settings.{LacksRoot, OfSet}
 use Rattle.play_inputs.specs.declared.fault.PlayFault.{PlayFault}
 use Rattle.play_inputs.specs.declared.fault.PlayFault.TheVariants as play

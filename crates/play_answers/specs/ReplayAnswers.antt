@@ -30,7 +30,7 @@ use Rattle.entries.specs.declared.rows.Row.{Row}
 use Rattle.entries.specs.declared.rows.StampedRow.{StampedRow}
 use Rattle.program_texts.specs.Texts.{ProgramTexts}
 use Rattle.program_texts.specs.PayloadTexts.{PayloadTexts}
-use Rattle.answers.specs.Answers.{LinesReadAs}
+use Rattle.plan_answers.specs.Answers.{LinesReadAs}
 use Rattle.play_answers.specs.EventAnswers.{AreInStep}
 use Rattle.play_inputs.specs.Settings.{LacksRoot, OfSet}
 use Rattle.play_inputs.specs.declared.fault.PlayFault.{PlayFault}

@@ -9,7 +9,7 @@
 //! let state = events_bytes::<Colouring>(alloc, text, Setting::AsRead)?;      // "node 1 pulse 0", ..
 //! ```
 //!
-//! Limits are those of `answers`.
+//! Limits are those of `plan_answers`.
 #![tactic(auto)]
 
 mod events;

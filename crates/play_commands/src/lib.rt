@@ -11,7 +11,7 @@
 //! // status 0, output "node 1 pulse 2 leader 2", "node 2 pulse 2 leader 2 elected", a line each
 //! ```
 //!
-//! Limits: those of `answers`, and 256 passes of the recolouring, of which `command_line` takes 64.
+//! Limits: those of `plan_answers`, and 256 passes of the recolouring, of which `command_line` takes 64.
 #![tactic(auto)]
 
 mod answer;

@@ -11,7 +11,7 @@ use Rattle.interference.specs.Net.{IsNetwork, Net, count_of}
 use Rattle.interference.specs.Making.{IsFaultOf, network_of}
 use Rattle.interference.specs.declared.fault.NetFault.{NetFault}
 use Rattle.interference.specs.declared.fault.NetFault.TheVariants.{Degree, Memory, SameId}
-use Rattle.answers.specs.Answers.{LinesReadAs, identifiers_with, network_with}
+use Rattle.plan_answers.specs.Answers.{LinesReadAs, identifiers_with, network_with}
 use Rattle.play_inputs.specs.Roots.{exchanged_id, rooted}
 use Rattle.play_inputs.specs.Settings.{IsRootAmong, OfSet, repeated_as, set_ids}
 use Rattle.play_inputs.specs.declared.setting.Setting.{Setting}

@@ -1,7 +1,7 @@
 -- The line and the status that report each fault of `forestplay`.
 use Rattle.std.specs.Prelude.{ℕ, List, ◌++◌, codes}
 use Rattle.reports.specs.Lines.{at_line, at_vertex, line_with}
-use Rattle.answers.specs.Faults.{col_text, net_text, pool_text}
+use Rattle.plan_answers.specs.Faults.{col_text, net_text, pool_text}
 use Rattle.event_texts.specs.declared.fault.EventFault.{EventFault}
 use Rattle.event_texts.specs.declared.fault.EventFault.TheVariants as event
 use Rattle.play_inputs.specs.declared.replays.ReplayFault.{ReplayFault}

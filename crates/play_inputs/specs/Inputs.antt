@@ -3,7 +3,7 @@ use Rattle.std.specs.Prelude.{ℕ, List}
 use Rattle.dimacs_col.specs.Lines.{lines_of}
 use Rattle.dimacs_col.specs.Reading.{IsFault}
 use Rattle.interference.specs.Making.{IsFaultOf}
-use Rattle.answers.specs.Answers.{ReadsAs}
+use Rattle.plan_answers.specs.Answers.{ReadsAs}
 use Rattle.play_inputs.specs.Settings.{LacksRoot, OfSet}
 use Rattle.play_inputs.specs.declared.fault.PlayFault.{PlayFault}
 use Rattle.play_inputs.specs.declared.fault.PlayFault.TheVariants as play

@@ -3,7 +3,7 @@
 //! `network_of_text` reads the network that a DIMACS text describes, as a `Setting` says: with a vertex of one's choice
 //! as the root, or with more passes of a program that repeats itself. `play_answers` and `run_answers` call it, and
 //! have the answers. A `PlayFault` says why an input has none; `play_commands` calls `fault_report` for its line and
-//! status. The faults of the other program are in `answers`, with the tables of those that both programs report.
+//! status. The faults of the other program are in `plan_answers`, with the tables of those that both programs report.
 //!
 //! ```
 //! let text = b"p edge 2 1\ne 1 2\n";
@@ -11,7 +11,7 @@
 //! let network = network_of_text(alloc, text, Setting::Rooted(root))?;    // vertex 2 has identifier 1, vertex 1 has 2
 //! ```
 //!
-//! Limits are those of `answers`.
+//! Limits are those of `plan_answers`.
 #![tactic(auto)]
 
 mod fault;

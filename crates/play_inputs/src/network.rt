@@ -5,16 +5,16 @@ ghost use Rattle.graph_limits.specs.Pairs.{AreVertices};
 ghost use Rattle.dimacs_col.specs.Reading.{graph_of};
 ghost use Rattle.interference.specs.Making.{BarsFit, EdgesFit, IsFaultOf};
 ghost use Rattle.interference.specs.Net.{IsNetwork};
-ghost use Rattle.answers.specs.Answers.{ReadsAs, network_with};
+ghost use Rattle.plan_answers.specs.Answers.{ReadsAs, network_with};
 ghost use Rattle.play_inputs.specs.Inputs.{IsFaultOfText};
 ghost use Rattle.play_inputs.specs.Settings.{IsRootAmong, OfSet};
 
 use crate::fault::PlayFault;
 use crate::setting::Setting;
 use crate::setting_up::{missing_root, repeated_as, set_ids};
-use answers::identifiers;
 use dimacs_col::{ColFile, read};
 use interference::{NetFault, Network};
+use plan_answers::identifiers;
 use std::alloc::Global;
 
 // The network of a graph, as `setting` says.

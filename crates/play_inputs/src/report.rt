@@ -6,8 +6,8 @@ ghost use Rattle.play_inputs.specs.Faults.{event_text, fault_line, fault_status,
 
 use crate::fault::PlayFault;
 use crate::replays::ReplayFault;
-use answers::{report_of_network, report_of_pool, report_of_reading};
 use event_texts::EventFault;
+use plan_answers::{report_of_network, report_of_pool, report_of_reading};
 use reports::{FaultReport, Place, memory_report, refusal, refusal_in_words, stopped_report};
 use std::alloc::{AllocError, Global};
 

@@ -1,7 +1,7 @@
 //! How a fault of any program is reported: the line on standard error, and the status.
 //!
-//! `answers` and `play_inputs` call `refusal`, `stopped_report` or `memory_report` for a fault, and `serving` writes
-//! the `FaultReport`.
+//! `plan_answers` and `play_inputs` call `refusal`, `stopped_report` or `memory_report` for a fault, and `serving`
+//! writes the `FaultReport`.
 #![tactic(auto)]
 
 mod report;

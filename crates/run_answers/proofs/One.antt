@@ -5,7 +5,7 @@ use Rattle.dimacs_col.specs.Lines.{lines_of}
 use Rattle.interference.specs.Net.{repeated}
 use Rattle.node_api.specs.Program.{Program}
 use Rattle.program_texts.specs.Texts.{ProgramTexts}
-use Rattle.answers.specs.Answers.{network_with}
+use Rattle.plan_answers.specs.Answers.{network_with}
 use Rattle.play_inputs.specs.Roots.{rooted}
 use Rattle.play_inputs.specs.declared.setting.Setting.{Setting}
 use Rattle.play_inputs.specs.declared.setting.Setting.TheVariants.{AsRead, Repeating, Rooted}

@@ -5,7 +5,7 @@ use Rattle.std.proofs.lemmas.List.{get_or-map, length-map, same_lists}
 use Rattle.std.proofs.lemmas.List.Folds.{flat_map-map}
 use Rattle.std.proofs.lemmas.List.FromFn.{get_or-map-range_with_len, get_or-range_with_len, length-map-range_with_len}
 use Rattle.dimacs_col.specs.Lines.{lines_of}
-use Rattle.answers.specs.Answers.{ReadsAs}
+use Rattle.plan_answers.specs.Answers.{ReadsAs}
 use Rattle.play_inputs.specs.Settings.{OfSet}
 use Rattle.play_inputs.specs.declared.setting.Setting.{Setting}
 use Rattle.play_inputs.proofs.Settings.{lines-more}

@@ -5,7 +5,7 @@ use Rattle.interference.specs.Net.{IsNetwork, Net}
 use Rattle.run_options.specs.declared.Options.{Options}
 use Rattle.run_options.specs.declared.fault.RunFault.{RunFault}
 use Rattle.run_options.specs.declared.fault.RunFault.TheVariants as run
-use Rattle.answers.specs.Answers.{ReadsAs}
+use Rattle.plan_answers.specs.Answers.{ReadsAs}
 use Rattle.byte_functions.specs.Workers.{IsFaultOfRun, IsFaultOfTranscript}
 use Rattle.byte_functions.proofs.Working.{transcript-fault}
 use Rattle.play_inputs.specs.RunFaults.{fault_of_run}

@@ -1,6 +1,6 @@
 -- The text of the last states of a program's nodes.
 use Rattle.std.specs.Prelude.{◌≡◌, ℕ, List, ◌++◌, codes, flat_map}
-use Rattle.answers.specs.Answers.{ReadsAs}
+use Rattle.plan_answers.specs.Answers.{ReadsAs}
 use Rattle.play_inputs.specs.Settings.{OfSet}
 use Rattle.play_inputs.specs.declared.setting.Setting.{Setting}
 use Rattle.alpha_core.specs.View.{Node}

@@ -8,7 +8,7 @@ use Rattle.event_rule.specs.Whole.{IsWholeReplay}
 use Rattle.program_texts.specs.Texts.{ProgramTexts}
 use Rattle.transcripts.specs.TranscriptText.{stamped_row_text, text_of}
 use Rattle.program_texts.specs.PayloadTexts.{PayloadTexts}
-use Rattle.answers.specs.Answers.{ReadsAs}
+use Rattle.plan_answers.specs.Answers.{ReadsAs}
 use Rattle.play_inputs.specs.Settings.{OfSet}
 use Rattle.play_inputs.specs.declared.setting.Setting.{Setting}
 use Rattle.run_options.specs.declared.Edition.{Edition}

@@ -3,7 +3,7 @@ use Rattle.std.specs.Prelude.{ℕ, List}
 use Rattle.interference.specs.Net.{IsNetwork}
 use Rattle.run_options.specs.Ranges.{AreInRange}
 use Rattle.run_options.specs.declared.Options.{Options}
-use Rattle.answers.specs.Answers.{ReadsAs}
+use Rattle.plan_answers.specs.Answers.{ReadsAs}
 use Rattle.byte_functions.specs.Workers.{IsFaultOfPool}
 use Rattle.play_inputs.specs.Inputs.{IsFaultOfText}
 use Rattle.play_inputs.specs.Settings.{OfSet}

@@ -9,7 +9,7 @@
 //! // "node 1 pulse 2 leader 2", "node 2 pulse 2 leader 2 elected", a line each; the same of `alone_bytes`, `run_bytes`
 //! ```
 //!
-//! Limits: those of `answers`.
+//! Limits: those of `plan_answers`.
 #![tactic(auto)]
 
 mod ends;

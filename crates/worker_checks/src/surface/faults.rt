@@ -1,13 +1,13 @@
 //! Faults and refusals: all variants, with what each carries.
 
 use alpha_core::AlphaRefused;
-use answers::PlanFault;
 use channel_plan::CheckFault;
 use dimacs_col::ColFault;
 use event_rule::{RunRefused, StepRefused};
 use interference::NetFault;
 use net_core::{ReplayRefused, WholeRefused};
 use node_api::Refused;
+use plan_answers::PlanFault;
 use run_options::PoolFault;
 use transcripts::TextFault;
 

@@ -1,10 +1,10 @@
 //! Texts of transcripts and of plans, and the functions from bytes to bytes that have no threads.
 
-use answers::{PlanFault, check_bytes, forest_bytes, plain_bytes};
 use channel_plan::{CheckFault, Plan, check, plan_text, read_plan};
 use colour_rules::Payload;
 use entries::{Row, StampedRow};
 use interference::{Memory, Network};
+use plan_answers::{PlanFault, check_bytes, forest_bytes, plain_bytes};
 use std::alloc::Global;
 use transcripts::{
     TextFault, Transcript, read_any, read_transcript, stamped_text, transcript_text,

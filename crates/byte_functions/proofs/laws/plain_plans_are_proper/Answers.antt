@@ -1,4 +1,4 @@
-use Rattle.answers.proofs.Agreed.{agreed-memory, agreed-proper}
+use Rattle.plan_answers.proofs.Agreed.{agreed-memory, agreed-proper}
 use Rattle.byte_functions.proofs.laws.plain_plans_are_proper.Goals as goal
 
 pub returns-clause-proper : goal.returns-clause-proper

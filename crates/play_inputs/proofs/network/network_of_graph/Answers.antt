@@ -9,7 +9,7 @@ use Rattle.dimacs_col.specs.Reading.{graph_of, id_in}
 use Rattle.interference.specs.Making.{IsFaultOf, network_of}
 use Rattle.interference.specs.Net.{IsNetwork}
 use Rattle.interference.specs.declared.fault.NetFault.TheVariants.{Memory}
-use Rattle.answers.specs.Answers.{identifiers_with}
+use Rattle.plan_answers.specs.Answers.{identifiers_with}
 use Rattle.play_inputs.specs.Settings.{IsRootAmong, repeated_as, set_ids}
 use Rattle.play_inputs.proofs.Settings.{length-set, of-graph, still-fault, still-network}
 use Rattle.play_inputs.proofs.network.network_of_graph.Goals as goal

@@ -1,5 +1,5 @@
 use Rattle.dimacs_col.specs.Reading.{graph_of}
-use Rattle.answers.specs.Answers.{network_with}
+use Rattle.plan_answers.specs.Answers.{network_with}
 use Rattle.play_inputs.proofs.Settings.{graph-count}
 use Rattle.play_inputs.proofs.network.network_of_text.Goals as goal
 
