@@ -1,6 +1,6 @@
 //! Channel plans as text: written, read, and checked for a network.
 //!
-//! A plan text is `plan`, and then a line for each vertex with its channel. `plan_answers` and `byte_functions`
+//! A plan text is `plan`, and then a line for each vertex with its channel. `plan_answers` and `plan_runs`
 //! write plans by `plan_text`, and `plan_answers` checks the plans of anybody by `split_plan`, `read_plan` and `check`.
 //!
 //! ```

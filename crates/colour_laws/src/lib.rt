@@ -5,7 +5,7 @@
 //! come row by row.
 //!
 //! The colours of `specs/Colours.antt` are those of the whole network at once, with no rounds in them:
-//! the three colours of each forest, merged forest by forest. `byte_functions`, which writes the colours
+//! the three colours of each forest, merged forest by forest. `plan_runs`, which writes the colours
 //! as channels, cites the laws. The `impl` of `colour_program` names `rounds_are_program` of
 //! `proofs/Rounds.antt`, which is why the laws are a crate of their own.
 //!

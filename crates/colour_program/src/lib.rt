@@ -1,5 +1,5 @@
 //! The colouring of a network as a program of nodes: the rounds of `colour_rules`, behind
-//! the trait of `node_api`. `plan_answers` and `byte_functions` print its last colours as channels.
+//! the trait of `node_api`. `plan_answers` and `plan_runs` print its last colours as channels.
 //!
 //! Any engine of node programs runs it, as `run_rounds` of `sync_rounds` does. That its nodes end with
 //! the colours of the network, which differ on every edge, are 0 to the span, and none barred at its node, is

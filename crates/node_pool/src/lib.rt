@@ -1,7 +1,7 @@
 //! Asynchronous nodes of a network on worker threads: `run_workers` makes links and nodes, runs them, and gathers them.
 //!
 //! Whatever the threads did, what it returns is `IsOutcome` of `outcomes`: each node once, at a state of the
-//! synchronous run, with each link's lists. `byte_functions` makes channel plans of it.
+//! synchronous run, with each link's lists. `plan_runs` makes channel plans of it.
 //!
 //! ```text
 //! let options = Options { workers: 4, capacity: 4, turns: 1_000_000, transcript: false };

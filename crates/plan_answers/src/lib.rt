@@ -1,7 +1,7 @@
 //! What `forestplan` answers without worker threads, from the bytes of a DIMACS text to the bytes of an answer. It has
 //! the commands that start no thread, and the report of each fault of `forestplan`.
 //!
-//! `byte_functions` has the commands that run worker threads. `plan_commands` calls `forest_bytes`, `plain_bytes` or
+//! `plan_runs` has the commands that run worker threads. `plan_commands` calls `forest_bytes`, `plain_bytes` or
 //! `check_bytes` for a command, and `fault_report` if one fails. The faults of `forestplay` are in `play_inputs`, which
 //! calls `report_of_reading`, `report_of_network` and `report_of_pool` for those that both programs have.
 //!

@@ -4,10 +4,10 @@ use Rattle.run_options.specs.declared.fault.PoolFault.TheVariants.{BadOptions}
 use Rattle.plan_answers.specs.Faults.{fault_text}
 use Rattle.plan_answers.specs.Answers.{IsFaultOfText, IsForestsAnswer, IsPlainAnswer}
 use Rattle.colour_rules.specs.Program.{colouring}
-use Rattle.byte_functions.specs.Payloads.{colouring_payloads}
-use Rattle.byte_functions.specs.Transcripts.{IsTranscriptAnswer}
+use Rattle.plan_runs.specs.Payloads.{colouring_payloads}
+use Rattle.plan_runs.specs.Transcripts.{IsTranscriptAnswer}
 use Rattle.plan_answers.specs.Verdicts.{IsCheckAnswer, IsFaultOfCheck}
-use Rattle.byte_functions.specs.Workers.{IsFaultOfWorkers}
+use Rattle.plan_runs.specs.Workers.{IsFaultOfWorkers}
 use Rattle.plan_answers.specs.declared.fault.PlanFault.{PlanFault}
 use Rattle.plan_answers.specs.declared.fault.PlanFault.TheVariants.{Pool}
 use Rattle.command_line.specs.Asked.{request_of}

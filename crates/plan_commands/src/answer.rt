@@ -1,8 +1,8 @@
 //! The commands of `forestplan`, and the answer of each to the bytes of its input.
 
-use byte_functions::{plan_bytes, transcript_bytes};
 use command_line::{Declined, Executable, Request, parse};
 use plan_answers::{PlanFault, check_bytes, fault_report, forest_bytes, plain_bytes};
+use plan_runs::{plan_bytes, transcript_bytes};
 use reports::FaultReport;
 use serving::Commands;
 use std::alloc::{AllocError, Global};

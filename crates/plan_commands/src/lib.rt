@@ -3,7 +3,7 @@
 //! `forestplan` calls `serve_words` of `serving` with `ForestplanCommands`. The example at the head of `serving` has
 //! them as well, over an input and outputs of the caller's.
 //!
-//! Limits: those of `plan_answers` and `byte_functions`.
+//! Limits: those of `plan_answers` and `plan_runs`.
 #![tactic(auto)]
 
 mod answer;

@@ -1,7 +1,7 @@
 -- The texts of the payloads of each program beside the colouring.
 use Rattle.std.specs.Prelude.{codes}
 use Rattle.program_texts.specs.PayloadTexts.{PayloadTexts}
-use Rattle.byte_functions.specs.Payloads.{colouring_payloads}
+use Rattle.plan_runs.specs.Payloads.{colouring_payloads}
 use Rattle.followed.specs.Said.{of_either, read_first}
 use Rattle.followed.specs.declared.said.Said.{Said}
 use Rattle.colour_rules.specs.declared.payload.Payload.{Payload}

@@ -5,7 +5,7 @@ use Rattle.node_api.specs.Program.{Program}
 use Rattle.run_options.specs.declared.Edition.TheVariants as edition
 use Rattle.run_answers.specs.Ends.{IsEndsAnswer}
 use Rattle.program_texts.specs.PayloadTexts.{PayloadTexts}
-use Rattle.byte_functions.specs.Payloads.{colouring_payloads}
+use Rattle.plan_runs.specs.Payloads.{colouring_payloads}
 use Rattle.run_answers.specs.Workers.{IsFaultOfWorkers}
 use Rattle.play_inputs.specs.Inputs.{IsFaultOfText}
 use Rattle.play_answers.specs.EventAnswers.{IsEventsAnswer, IsFaultOfEvents}

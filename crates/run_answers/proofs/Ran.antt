@@ -16,7 +16,7 @@ use Rattle.node_api.specs.Run.{last_state}
 use Rattle.alpha_laws.specs.Progress.{end_node}
 use Rattle.outcomes.specs.Outcome.{Gathered, IsOutcome, Outcome, node_in, start_of}
 use Rattle.run_answers.specs.Ends.{IsEndsAnswer, end_line, ends_text, gathered_end, node_end}
-use Rattle.byte_functions.proofs.Recording.{nodes-count}
+use Rattle.plan_runs.proofs.Recording.{nodes-count}
 
 -- what holds of all results of a function holds of each
 pub all-at : {A B : Type 0} (P : B → Type 0) (f : A → B) (xs : List A) (k : ℕ) (d : A) → k < length xs → All P (map f xs) → P (f (get_or xs k d))

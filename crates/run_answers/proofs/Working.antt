@@ -6,8 +6,8 @@ use Rattle.run_options.specs.declared.Options.{Options}
 use Rattle.run_options.specs.declared.fault.RunFault.{RunFault}
 use Rattle.run_options.specs.declared.fault.RunFault.TheVariants as run
 use Rattle.plan_answers.specs.Answers.{ReadsAs}
-use Rattle.byte_functions.specs.Workers.{IsFaultOfRun, IsFaultOfTranscript}
-use Rattle.byte_functions.proofs.Working.{transcript-fault}
+use Rattle.plan_runs.specs.Workers.{IsFaultOfRun, IsFaultOfTranscript}
+use Rattle.plan_runs.proofs.Working.{transcript-fault}
 use Rattle.play_inputs.specs.RunFaults.{fault_of_run}
 use Rattle.play_inputs.specs.Settings.{OfSet}
 use Rattle.play_inputs.specs.declared.setting.Setting.{Setting}

@@ -12,7 +12,7 @@ use Rattle.plan_answers.specs.Answers.{ReadsAs}
 use Rattle.play_inputs.specs.Settings.{OfSet}
 use Rattle.play_inputs.specs.declared.setting.Setting.{Setting}
 use Rattle.run_options.specs.declared.Edition.{Edition}
-use Rattle.byte_functions.specs.Transcripts.{IsTranscriptOn, stamped_edition}
+use Rattle.plan_runs.specs.Transcripts.{IsTranscriptOn, stamped_edition}
 
 -- the answer is the transcript of a whole run of workers on the network that the input describes, as it is set: without
 -- stamps, or with them and with the program's name if it is named

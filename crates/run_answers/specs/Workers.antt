@@ -4,7 +4,7 @@ use Rattle.interference.specs.Net.{IsNetwork}
 use Rattle.run_options.specs.Ranges.{AreInRange}
 use Rattle.run_options.specs.declared.Options.{Options}
 use Rattle.plan_answers.specs.Answers.{ReadsAs}
-use Rattle.byte_functions.specs.Workers.{IsFaultOfPool}
+use Rattle.plan_runs.specs.Workers.{IsFaultOfPool}
 use Rattle.play_inputs.specs.Inputs.{IsFaultOfText}
 use Rattle.play_inputs.specs.Settings.{OfSet}
 use Rattle.play_inputs.specs.declared.setting.Setting.{Setting}

@@ -8,11 +8,11 @@ ghost use Rattle.run_answers.specs.Ends.{IsEndsAnswer, gathered_end};
 ghost use Rattle.run_answers.specs.Workers.{IsFaultOfWorkers};
 
 use crate::lines::push_end;
-use byte_functions::whole_run;
 use interference::{Memory, Network};
 use node_api::Refused;
 use outcomes::Actor;
 use outcomes::laws::whole_outcomes_have_ended;
+use plan_runs::whole_run;
 use play_inputs::{PlayFault, Setting, network_of_text};
 use program_texts::ProgramText;
 use run_options::Options;

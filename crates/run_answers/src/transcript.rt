@@ -5,14 +5,14 @@ ghost use Rattle.run_options.specs.Ranges.{AreInRange};
 ghost use Rattle.transcripts.specs.TranscriptText.{stamped_row_text, text_of};
 ghost use Rattle.program_texts.specs.PayloadTexts.{payload_texts};
 ghost use Rattle.play_inputs.specs.Inputs.{IsFaultOfText};
-ghost use Rattle.byte_functions.specs.Transcripts.{stamped_edition};
+ghost use Rattle.plan_runs.specs.Transcripts.{stamped_edition};
 ghost use Rattle.run_answers.specs.Transcripts.{IsLoneTranscript, IsProgramTranscript};
 ghost use Rattle.run_answers.specs.Workers.{IsFaultOfWorkers};
 
-use byte_functions::{push_edition_line, run_transcript};
 use entries::StampedRow;
 use interference::Memory;
 use lone_runs::record_alone;
+use plan_runs::{push_edition_line, run_transcript};
 use play_inputs::{PlayFault, Setting, network_of_text};
 use program_texts::ProgramText;
 use run_options::{Edition, Options};

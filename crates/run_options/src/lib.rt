@@ -2,7 +2,7 @@
 //! also says in which form their transcript is written.
 //!
 //! `command_line` reads the options from words, and `node_pool` runs nodes by them. `node_pool` returns a `PoolFault`,
-//! and `byte_functions` a `RunFault`.
+//! and `plan_runs` a `RunFault`.
 //!
 //! ```text
 //! let options = Options { workers: 4, capacity: 4, turns: 1_000_000_000, transcript: false };

@@ -3,8 +3,8 @@
 use crate::meeting::Meeting;
 use crate::node_pool_checks::PULSES;
 use crate::runs::BY_TWO;
-use byte_functions::{plan_bytes, transcript_bytes};
 use colour_program::Colouring;
+use plan_runs::{plan_bytes, transcript_bytes};
 use play_answers::replay_bytes;
 use play_inputs::Setting;
 use run_answers::run_bytes;

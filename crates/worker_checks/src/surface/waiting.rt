@@ -7,7 +7,6 @@ ghost use Rattle.link_rule.specs.Legal.{IsLegalOn, LegalFor};
 ghost use Rattle.link_queue.specs.Ends.{IsPutEndOf, IsTakeEndOf, put_list, put_name, put_stamped, take_name};
 
 use alpha_core::AlphaNode;
-use byte_functions::{plan_bytes, transcript_bytes};
 use colour_rules::Payload;
 use entries::Entries;
 use interference::{Memory, Network};
@@ -16,6 +15,7 @@ use node_api::NodeProgram;
 use node_pool::run_workers;
 use outcomes::{Actor, Outcome};
 use plan_answers::PlanFault;
+use plan_runs::{plan_bytes, transcript_bytes};
 use run_options::{Edition, MAX_CAPACITY, Options, PoolFault};
 use std::alloc::Global;
 use std::sync::Wait;

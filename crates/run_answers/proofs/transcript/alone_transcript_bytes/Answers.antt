@@ -4,7 +4,7 @@ use Rattle.interference.specs.Net.{IsNetwork, count_of}
 use Rattle.program_texts.specs.PayloadTexts.{payload_texts}
 use Rattle.transcripts.specs.TranscriptText.{stamped_row_text, text_of}
 use Rattle.play_inputs.proofs.Settings.{lines-more}
-use Rattle.byte_functions.specs.Transcripts.{stamped_edition}
+use Rattle.plan_runs.specs.Transcripts.{stamped_edition}
 use Rattle.run_answers.specs.Transcripts.{IsRecordText}
 use Rattle.run_answers.proofs.transcript.alone_transcript_bytes.Goals as goal
 

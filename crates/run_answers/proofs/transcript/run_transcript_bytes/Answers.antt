@@ -4,7 +4,7 @@ use Rattle.dimacs_col.specs.Lines.{lines_of}
 use Rattle.interference.specs.Net.{IsNetwork}
 use Rattle.program_texts.specs.PayloadTexts.{payload_texts}
 use Rattle.play_inputs.proofs.Settings.{lines-more}
-use Rattle.byte_functions.specs.Transcripts.{IsTranscriptOn, stamped_edition}
+use Rattle.plan_runs.specs.Transcripts.{IsTranscriptOn, stamped_edition}
 use Rattle.run_answers.proofs.Working.{recorders-fault}
 use Rattle.run_answers.proofs.transcript.run_transcript_bytes.Goals as goal
 

@@ -3,7 +3,7 @@ use Rattle.entries.specs.declared.rows.StampedRow.{StampedRow}
 use Rattle.program_texts.specs.PayloadTexts.{payload_texts}
 use Rattle.transcripts.specs.TranscriptText.{first_line_of, stamped_row_text}
 use Rattle.run_answers.proofs.Rows.{rows_more}
-use Rattle.byte_functions.specs.Transcripts.{stamped_edition}
+use Rattle.plan_runs.specs.Transcripts.{stamped_edition}
 use Rattle.run_answers.proofs.transcript.text_of_rows.Goals as goal
 
 pub loop-row-init : goal.loop-row-init

@@ -1,7 +1,7 @@
 use Rattle.std.proofs.Common.{◌≡◌, ◌++◌, flat_map, take}
 use Rattle.program_texts.specs.PayloadTexts.{payload_texts}
 use Rattle.transcripts.specs.TranscriptText.{first_line_of, stamped_row_text}
-use Rattle.byte_functions.specs.Transcripts.{stamped_edition}
+use Rattle.plan_runs.specs.Transcripts.{stamped_edition}
 use Rattle.run_answers.proofs.transcript.text_of_rows.Given as goal
 
 -- the lines of the rows so far

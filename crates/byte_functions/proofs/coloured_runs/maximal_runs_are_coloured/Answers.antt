@@ -1,5 +1,0 @@
-use Rattle.byte_functions.proofs.Colours.{maximal_coloured}
-use Rattle.byte_functions.proofs.coloured_runs.maximal_runs_are_coloured.Goals as goal
-
-pub returns : goal.returns
-returns c = record { law = λ net ok. maximal_coloured net ok }

@@ -1,5 +1,0 @@
-use Rattle.byte_functions.proofs.Stamped.{stamps-bounded}
-use Rattle.byte_functions.proofs.coloured_runs.stamps_are_bounded.Goals as goal
-
-pub returns : goal.returns
-returns g c = record { law = λ program laws net ok. stamps-bounded program laws net ok }

@@ -1,7 +1,0 @@
-use Rattle.std.proofs.Common.{◌≡◌, map, take}
-use Rattle.outcomes.specs.Gathers.{gathered_of}
-use Rattle.byte_functions.specs.Colours.{merged_of}
-use Rattle.byte_functions.proofs.plan_text.colours_of.Given as goal
-
-abbrev pub invariant-loop-actor : goal.invariant-loop-actor
-invariant-loop-actor l = l.all.items ≡ map (λ actor. merged_of (gathered_of actor)) (take l.actor-index l.actors)
