@@ -2,7 +2,7 @@
 //!
 //! The nodes are those of a run of worker threads, and each knows its neighbours' wires alone. `run_alone` returns in
 //! every case, and its nodes are then those of the one end of `event_rule`. Its order is one of many: `laws` has
-//! that every order in which each node's turn comes again and again ends there. `run_answers` calls it.
+//! that every order in which each node's turn comes again and again ends there. `play_runs` calls it.
 //!
 //! ```text
 //! let state = run_alone::<Colouring>(alloc, &network)?;

@@ -4,7 +4,7 @@
 //! It names no stream, no command line and no system, so that a test or another program calls the same functions. The
 //! functions of all other commands are in `plan_answers`, which needs no thread.
 //!
-//! `plan_commands` calls `plan_bytes` or `transcript_bytes` for a command. For any program of nodes, `run_answers`
+//! `plan_commands` calls `plan_bytes` or `transcript_bytes` for a command. For any program of nodes, `play_runs`
 //! calls `whole_run` and `run_transcript`, of which it makes what `forestplay run` prints.
 //!
 //! `coloured_runs` has what the simulation says of two programs, the colouring and `Greatest`: every list of events

@@ -3,14 +3,14 @@ use Rattle.std.specs.Prelude.{◌≢◌, ℕ, List, None, Some, Result, Ok, Err}
 use Rattle.program_texts.specs.Texts.{ProgramTexts}
 use Rattle.node_api.specs.Program.{Program}
 use Rattle.run_options.specs.declared.Edition.TheVariants as edition
-use Rattle.run_answers.specs.Ends.{IsEndsAnswer}
+use Rattle.play_runs.specs.Ends.{IsEndsAnswer}
 use Rattle.program_texts.specs.PayloadTexts.{PayloadTexts}
 use Rattle.plan_runs.specs.Payloads.{colouring_payloads}
-use Rattle.run_answers.specs.Workers.{IsFaultOfWorkers}
+use Rattle.play_runs.specs.Workers.{IsFaultOfWorkers}
 use Rattle.play_inputs.specs.Inputs.{IsFaultOfText}
 use Rattle.play_answers.specs.EventAnswers.{IsEventsAnswer, IsFaultOfEvents}
 use Rattle.play_answers.specs.ReplayAnswers.{IsFaultOfReplay, IsReplayAnswer}
-use Rattle.run_answers.specs.RoundAnswers.{IsRoundsAnswer}
+use Rattle.play_runs.specs.RoundAnswers.{IsRoundsAnswer}
 use Rattle.play_inputs.specs.declared.fault.PlayFault.{PlayFault}
 use Rattle.play_inputs.specs.declared.fault.PlayFault.TheVariants.{Pool}
 use Rattle.play_inputs.specs.declared.setting.Root.{Root}
@@ -32,7 +32,7 @@ use Rattle.layers.specs.Texts.{layers_texts, layers_texts_from}
 use Rattle.layers.specs.declared.layer.TheConstants.{ROOT_ID}
 use Rattle.leader.specs.Election.{election}
 use Rattle.leader.specs.Texts.{leader_texts}
-use Rattle.run_answers.specs.Transcripts.{IsLoneTranscript, IsProgramTranscript}
+use Rattle.play_runs.specs.Transcripts.{IsLoneTranscript, IsProgramTranscript}
 use Rattle.matching.specs.Knowing.{matching}
 use Rattle.matching.specs.Texts.{matching_texts}
 use Rattle.recolouring.specs.Knowing.{recolouring}

@@ -17,11 +17,11 @@ use leader::Leader;
 use matching::Matching;
 use play_answers::{events_bytes, replay_bytes};
 use play_inputs::{PlayFault, Root, Setting};
-use program_texts::ProgramText;
-use recolouring::Recolouring;
-use run_answers::{
+use play_runs::{
     alone_bytes, alone_transcript_bytes, ends_bytes, rounds_bytes, run_bytes, run_transcript_bytes,
 };
+use program_texts::ProgramText;
+use recolouring::Recolouring;
 use run_options::Edition;
 use std::alloc::Global;
 use std::sync::Wait;

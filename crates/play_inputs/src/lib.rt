@@ -1,7 +1,7 @@
 //! What the commands of `forestplay` set about a network before nodes see it, and why an input has no answer.
 //!
 //! `network_of_text` reads the network that a DIMACS text describes, as a `Setting` says: with a vertex of one's choice
-//! as the root, or with more passes of a program that repeats itself. `play_answers` and `run_answers` call it, and
+//! as the root, or with more passes of a program that repeats itself. `play_answers` and `play_runs` call it, and
 //! have the answers. A `PlayFault` says why an input has none; `play_commands` calls `fault_report` for its line and
 //! status. The faults of the other program are in `plan_answers`, with the tables of those that both programs report.
 //!

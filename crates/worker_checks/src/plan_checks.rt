@@ -7,7 +7,7 @@ use colour_program::Colouring;
 use plan_runs::{plan_bytes, transcript_bytes};
 use play_answers::replay_bytes;
 use play_inputs::Setting;
-use run_answers::run_bytes;
+use play_runs::run_bytes;
 use run_options::Edition;
 use std::alloc::Global;
 use std::sync::Wait;
