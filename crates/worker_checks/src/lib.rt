@@ -8,11 +8,15 @@ mod meeting;
 #[cfg(test)]
 mod node_pool_checks;
 #[cfg(test)]
+mod observer_checks;
+#[cfg(test)]
 mod plan_checks;
 #[cfg(test)]
 mod replay_checks;
 #[cfg(test)]
 mod runs;
+#[cfg(test)]
+mod sightings;
 #[cfg(test)]
 mod stamp_checks;
 #[cfg(test)]
