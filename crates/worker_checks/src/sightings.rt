@@ -86,8 +86,8 @@ impl Counting {
         }
     }
 
-    /// Whether the node was seen before and after each of its turns, and on its way: it had moved as often, at least, as
-    /// a node of the triangle makes pulses.
+    /// Whether the node was seen before and after each of its turns, and on its way: it had moved at least as often
+    /// as a node of the triangle makes pulses.
     pub fn has_seen_all(&self, node: usize) -> bool {
         match self.0.as_slice().get(node) {
             Some(sightings) => {
