@@ -59,16 +59,19 @@ def is_installed(tool: str) -> bool:
         if importlib.util.find_spec(tool) is None and os.path.exists(OWN):
             sys.path.append(OF_SYSTEM)
         return importlib.util.find_spec(tool) is not None
-    if tool == "libseccomp":
-        return is_library("libseccomp.so.2")
-    if tool == "a browser":
-        return browser.command() is not None
-    return shutil.which(tool) is not None
+    find = {"cc": has_compiler, "libseccomp": has_seccomp, "a browser": browser.command}
+    return bool(find[tool]() if tool in find else shutil.which(tool))
 
 
-def is_library(name: str) -> bool:
+def has_compiler() -> bool:
+    """Whether there is a C compiler with the headers of the C library."""
+    words = ["cc", "-E", "-include", "stdio.h", "-x", "c", os.devnull]
+    return bool(shutil.which("cc")) and not subprocess.run(words, capture_output=True).returncode
+
+
+def has_seccomp() -> bool:
     try:
-        return bool(ctypes.CDLL(name))
+        return bool(ctypes.CDLL("libseccomp.so.2"))
     except OSError:
         return False
 

@@ -1,6 +1,6 @@
 """Runs the tests in roots that have Debian's base packages, Python and git alone, and then one tool less than all.
 
-  python3 -m tests.by_hand.bare_root FOLDER [RUN ..] [--built TREE | --gate] [--jobs N]
+  python3 -m tests.by_hand.bare_root FOLDER [RUN ..] [--built TREE | --gate] [--jobs N] [--only NAMES]
 
 A RUN is `nothing`, where nothing else is installed; `all`, where .ci/run installs what it can; or a package of its
 list, where all but this one is installed. Without a RUN each of them runs, in this order. A run is good if it ends with
@@ -9,7 +9,8 @@ list, where all but this one is installed. Without a RUN each of them runs, in t
 It needs root, mmdebstrap or debootstrap (Debian's packages of these names), Debian's mirror, and about 4 GB in FOLDER,
 which keeps the roots for the next call, and of each run RUN.log. The tests run in a clean clone of this tree's HEAD.
 With --built the programs that TREE has built are copied into it, and the gate is left out; with --gate the gate runs,
-too, with this machine's kit, which keeps its proofs beside itself. With neither, the tests run without programs."""
+too, with this machine's kit, which keeps its proofs beside itself. With neither, the tests run without programs. With
+--only, which has names of tests in one word, only these run."""
 
 import argparse
 import os
@@ -162,6 +163,9 @@ def options() -> argparse.Namespace:
     words.add_argument("--built", metavar="TREE")
     words.add_argument("--gate", action="store_true")
     words.add_argument("--jobs", metavar="N", type=int, default=len(os.sched_getaffinity(0)))
+    words.add_argument(
+        "--only", metavar="NAMES", default="", help="the names of tests, in one word"
+    )
     return words.parse_args()
 
 
@@ -171,7 +175,7 @@ def main() -> int:
     os.makedirs(roots.folder, exist_ok=True)
     roots.make_base()
     runs = given.runs or ["nothing", "all", *roots.packages()]
-    words = "" if given.gate else f"--jobs {given.jobs}"
+    words = "" if given.gate else f"--jobs {given.jobs} {given.only}"
     wrong = [name for name in runs if not roots.try_out(name, words)]
     print(
         f"bare_root: {len(runs) - len(wrong)} runs are good, and {len(wrong)} aren't: {' '.join(wrong)}"

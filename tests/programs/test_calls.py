@@ -10,7 +10,7 @@ from lab.studio.asked import OPENED
 from lab.studio.calls import CALLS
 from lab.studio.fields import object_of
 from lab.wrong import Wrong
-from tests.cases import Case
+from tests.cases import FilesCase
 
 EDGE = "p edge 2 1\ne 1 2\n"
 RUN = {"network": EDGE, "name": "two", "program": "layers root 2"}
@@ -84,7 +84,9 @@ def text_of(asked):
     return json.dumps(asked).encode()
 
 
-class Calls(Case):
+class Calls(FilesCase):
+    """A test over many bodies is one row, unless one is wrong."""
+
     def setUp(self):
         # No button is pressed, and nothing is built.
         self.enterContext(mock.patch.object(building.shutil, "which", lambda name: None))

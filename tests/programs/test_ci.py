@@ -12,9 +12,9 @@ TEST = "#!/bin/sh\necho said by the test\necho 3 passed, 1 failed\nexit 1\n"
 # Packages whose command is called as they are, and all others.
 BY_NAME = "black flake8 mypy zsh groff chromium"
 ALL = (
-    "black flake8 mypy bubblewrap zsh graphviz groff binutils default-jdk-headless nodejs chromium "
-    "libseccomp2 python3-networkx python3-scipy python3-igraph python3-pandas python3-matplotlib "
-    "python3-hypothesis"
+    "black flake8 mypy bubblewrap zsh graphviz groff binutils default-jdk-headless nodejs gcc "
+    "libc6-dev python3-pip chromium libseccomp2 python3-networkx python3-scipy python3-igraph "
+    "python3-pandas python3-matplotlib python3-hypothesis"
 )
 
 # Its `apt-get` ends like this; $LOG has its words, and $HERE is the folder of all programs.

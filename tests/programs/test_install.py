@@ -207,10 +207,14 @@ class Install(Case):
             [os.path.join(TOP, "docs", "new")],
         ):
             self.refusal(f"install {words}", run([*self.script, *words]), 2, b"install: error: ")
+        self.same("what was there", os.listdir(clash), ["lib"])
+
+    @needs("bin/forestplan", "bin/forestplay")
+    def test_below_a_file(self):
+        file = self.file(os.path.join(self.folder, "a file"), b"")
         got = run([*self.script, os.path.join(file, "below")])
         is_said = re.fullmatch(rb"install: [^\n]+\n", got[2])
         self.note("install below a file", got[:2] == (1, b"") and is_said, got)
-        self.same("what was there", os.listdir(clash), ["lib"])
 
     @needs("bin/forestplan", "bin/forestplay")
     def test_nothing_half(self):

@@ -12,7 +12,7 @@ from xml.sax.saxutils import escape, quoteattr
 
 from tests.programs import test_written
 from tests.programs.test_written import Meant, Writer, through_file
-from tests.tools import need
+from tests.tools import need, needs
 
 NUMBERED = {"has_names": False, "has_lone": False}
 LINES = {"words": ("--as", "edges"), "lacks": " ", "has_lone": False}
@@ -157,5 +157,6 @@ class WrittenElsewhere(test_written.Files):
                 need(self, program)
                 self.read_files(writers())
 
+    @needs("networkx")
     def test_by_hand(self):
         self.read_files(writers_by_hand())

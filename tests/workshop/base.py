@@ -2,10 +2,10 @@
 import functools
 import os
 import runpy
-import shutil
 import subprocess
 import sys
 import tempfile
+import unittest
 from random import Random
 from types import SimpleNamespace
 
@@ -14,6 +14,7 @@ from lab.workshop.options import parsed
 from lab.workshop.playing import Player
 from tests import FORESTLAB, TOP
 from tests.cases import Case as Rows
+from tests.tools import lack_of
 
 DOOR = [FORESTLAB, "workshop"]
 EXAMPLES = os.path.join(TOP, "examples", "workshop")
@@ -97,18 +98,18 @@ def call(*words, **more):
 
 
 @functools.cache
-def compiled(source):
-    """The command of a program in C or Java; None on a machine without Java."""
+def compiled(source: str) -> list[str]:
+    """The command of a program in C or Java. The test, or its row, is skipped where there is no compiler of it."""
     to = tempfile.TemporaryDirectory()
     made.append(to)  # until the tests end
     name, ending = os.path.splitext(os.path.basename(source))
+    lack = lack_of(("cc",) if ending == ".c" else ("javac",))
+    if lack:
+        raise unittest.SkipTest(lack)
     if ending == ".c":
-        subprocess.run(
-            ["cc", "-O2", "-Wall", "-Werror", "-o", os.path.join(to.name, name), source], check=True
-        )
-        return [os.path.join(to.name, name)]
-    if not shutil.which("javac"):
-        return None
+        path = os.path.join(to.name, name)
+        subprocess.run(["cc", "-O2", "-Wall", "-Werror", "-o", path, source], check=True)
+        return [path]
     subprocess.run(["javac", "-J-XX:+UseSerialGC", "-d", to.name, source], check=True)
     return ["java", "-Xmx64m", "-XX:+UseSerialGC", "-XX:TieredStopAtLevel=1", "-cp", to.name, name]
 

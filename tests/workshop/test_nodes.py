@@ -192,8 +192,9 @@ OTHERS: dict[str, dict[str, tuple]] = {
 class RightNodes(Played):
     def test_with_a_clock(self):
         for name in ("path1", "two", "most4", "rest3", "alone4", "random6", "drops", "barred"):
-            for command in (ROUNDS, compiled(C)):
-                self.right("rounds", name, command)
+            self.right("rounds", name, ROUNDS)
+            with self.subTest(f"{name} in C"):
+                self.right("rounds", name, compiled(C))
 
     def test_without_a_clock(self):
         for name in ("alone4", "triangle"):
@@ -230,23 +231,24 @@ class RightNodes(Played):
         self.right("rounds", "alone4", ending_with("layer none"), program="layers")
 
     def test_nodes_of_several_programs(self):
-        self.right("rounds", "star4", ROUNDS, compiled(C))
         self.right("rounds", "ring5", ROUNDS, ROUNDS, one_process=True)
-        if compiled(JAVA):
+        with self.subTest("Python and C"):
+            self.right("rounds", "star4", ROUNDS, compiled(C))
+        with self.subTest("Python and Java"):
             self.right("alpha", "path3", ALPHA, compiled(JAVA))
 
     def test_the_same_seed_gives_the_same_run(self):
         """Whatever the language, and in one process or several."""
-        first, *others = (
-            played(
-                "alpha", "path3", command, policy="bursts", seed="5", one_process=is_shared
-            ).run.in_order()
-            for command, is_shared in ((ALPHA, False), (ALPHA, True), (compiled(JAVA), False))
-            if command
-        )
-        self.same("the same run", others, [first] * len(others))
-        other = played("alpha", "path3", ALPHA, policy="bursts", seed="6", one_process=True)
-        self.assertNotEqual(other.run.in_order(), first)
+
+        def run(command, seed, is_shared):
+            more = {"policy": "bursts", "seed": seed, "one_process": is_shared}
+            return played("alpha", "path3", command, **more).run.in_order()
+
+        first = run(ALPHA, "5", False)
+        self.same("in one process", run(ALPHA, "5", True), first)
+        self.note("another seed", run(ALPHA, "6", True) != first)
+        with self.subTest("in Java"):
+            self.same("in Java", run(compiled(JAVA), "5", False), first)
 
     def test_an_own_algorithm(self):
         """In a row whose identifiers ascend the last node chooses in pulse 1, and each other one a pulse after its

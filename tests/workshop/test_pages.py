@@ -56,7 +56,7 @@ class Pages(Case):
             (talking, defaults.timeout, r"no answer within ([\d,]+) seconds"),
             (workshop, defaults.memory, r"([\d,]+)\s+megabytes of\s+memory"),
             (workshop, guard.PROCESSOR_SECONDS, r"([\d,]+) seconds of processor time"),
-            (workshop, guard.Limits(1, 1, 16).written >> 20, r"may have ([\d,]+) megabytes"),
+            (workshop, guard.Limits(1, 1, 16).written >> 20, r"may\s+have ([\d,]+) megabytes"),
             (workshop, guard.OPEN_FILES, r"It may open ([\d,]+) files"),
             (talking, protocol.MOST_LETTERS, r"up to ([\d,]+) letters"),
             (talking, processes.LAST_LINES, r"shows the last (\w+) lines"),

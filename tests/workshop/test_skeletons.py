@@ -5,7 +5,7 @@ import sys
 
 from lab.workshop.playing import APART
 from tests.cases import Case, text_in
-from tests.tools import need, needs
+from tests.tools import needs
 from tests.workshop.base import EXAMPLES, call, compiled
 
 FOLDER = os.path.join(EXAMPLES, "skeletons")
@@ -58,8 +58,6 @@ WRONG = {
 
 class Skeletons(Case):
     def command(self, path):
-        if path.endswith(".java"):
-            need(self, "javac")
         return [sys.executable, path] if path.endswith(".py") else compiled(path)
 
     @needs("bin/forestplan", "bin/forestplay")
