@@ -1,13 +1,15 @@
 """The studio's server. It answers 127.0.0.1 alone, and what isn't a file of the page only with the token, which no page
 of another origin knows.
 
-Each request is answered by a process of its own, forked from one that has loaded everything and has no thread. So a
-call has its own limits of time and memory, none disturbs another one, and nothing is kept between two calls. The
-process ends, with all that it has started, when the browser hangs up: that is how a page cancels a call. An answer is
-lines of JSON: how far it is, then what came out."""
+Each request is answered by a process of its own, forked from one that has loaded everything and has no thread, once the
+head of the request is there (connections.py). So a call has its own limits of time and memory, none disturbs another
+one, and nothing is kept between two calls. Who has no token can't take the processes of calls. A process ends, with all
+that it has started, when the browser hangs up: that is how a page cancels a call. An answer is lines of JSON: how far
+it is, then what came out."""
 import contextlib
 import hmac
 import http.server
+import io
 import json
 import os
 import re
@@ -25,6 +27,7 @@ from lab.programs import TOP
 from lab.studio import limits
 from lab.studio.building import Building
 from lab.studio.calls import CALLS
+from lab.studio.connections import SECONDS_TO_ASK, Connection, Connections, Said
 from lab.studio.fields import object_of
 from lab.wrong import Wrong
 
@@ -40,10 +43,12 @@ KINDS = {
     ".js": "text/javascript",
     ".svg": "image/svg+xml",
 }
-# Bytes of a call.
-MOST_ASKED = 8 << 20
-# A browser opens connections on which it says nothing yet.
-SECONDS_TO_ASK, MOST_AT_ONCE = 10, 32
+# Bytes of a call; and of a file, which leaves at once, however slowly it is read.
+MOST_ASKED, MOST_SENT = 8 << 20, 1 << 20
+# Seconds in which the rest of a refused request has to come.
+MOMENT = 1
+# Processes that answer at once: calls with the token, and all others.
+MOST_CALLS, MOST_OTHERS = 32, 32
 NO_TOKEN = (
     "The token is missing or another: open the address that `studio` has printed; if it is open, "
     "reload this page."
@@ -56,17 +61,59 @@ OF_PAGE = (
 
 
 class Server(socketserver.ForkingMixIn, http.server.HTTPServer):
-    """Listens at a port of this machine; `active_children` are the processes that answer."""
+    """Listens at a port of this machine. `active_children` are the processes that answer, `calls` those that answer a
+    call with the token."""
 
-    max_children, request_queue_size, block_on_close = MOST_AT_ONCE, 32, False
+    # The server itself never waits for one of them.
+    max_children, request_queue_size, block_on_close = sys.maxsize, 128, False
 
     def __init__(self, port, token, folder):
         self.token, self.building, self.process = token, Building(folder), os.getpid()
+        self.active_children: set[int] = set()
+        self.calls: set[int] = set()
         super().__init__((HOST, port), Handler)
+        self.connections, self.said = Connections(self.socket), b""
+
+    def serve_forever(self, poll_interval: float = 0.3) -> None:
+        while True:
+            self.connections.hear(poll_interval)
+            self.service_actions()
+            for one in list(self.connections.asked):
+                self.begin_answer(one)
 
     def service_actions(self):
         super().service_actions()
+        self.calls &= self.active_children
         self.building.look()
+
+    def begin_answer(self, one: Connection) -> None:
+        """Has a process answer it, if there is one for it. A call waits for one; who has no token only for a while."""
+        is_call = self.has_token(one.said)
+        others = len(self.active_children) - len(self.calls)
+        if len(self.calls) >= MOST_CALLS if is_call else others >= MOST_OTHERS:
+            if not is_call and one.until < time.monotonic():
+                self.connections.asked.remove(one)
+                one.socket.close()
+            return
+        before, self.said = set(self.active_children), one.said
+        self.connections.asked.remove(one)
+        try:
+            self.process_request(one.socket, one.address)
+        except OSError:
+            # No process could be begun.
+            self.shutdown_request(one.socket)
+        if is_call:
+            self.calls |= self.active_children - before
+
+    def has_token(self, head: bytes) -> bool:
+        found = re.search(
+            rb"(?im)^X-Token:[ \t]*([^\r\n]*?)[ \t]*\r?$", head.partition(b"\r\n\r\n")[0]
+        )
+        return found is not None and hmac.compare_digest(found[1], self.token.encode())
+
+    def finish_request(self, request, client_address):
+        self.connections.close_in_child(request)
+        super().finish_request(request, client_address)
 
     def server_bind(self):
         # The name of the machine isn't looked up.
@@ -120,6 +167,7 @@ class Handler(http.server.BaseHTTPRequestHandler):
         # One limit for the whole request, however slowly its bytes come: this process ends.
         signal.alarm(SECONDS_TO_ASK)
         super().setup()
+        self.rfile = io.BufferedReader(Said(self.server.said, self.connection))
 
     def log_message(self, *_):
         pass
@@ -161,12 +209,18 @@ class Handler(http.server.BaseHTTPRequestHandler):
         body = (why + "\n").encode()
         self.headed(status, "text/plain", len(body))
         self.wfile.write(body)
+        # What is under way is taken, for a moment: an end that has it left over loses the refusal.
+        with contextlib.suppress(OSError):
+            self.connection.shutdown(socket.SHUT_WR)
+            self.connection.settimeout(MOMENT)
+            while self.connection.recv(1 << 16):
+                pass
 
     def do_GET(self):
         """A file of the page: they are no secret, and have none in them. A link from elsewhere may open the page."""
         if self.headers.get("Host") not in self.own_names():
             return self.refuse(403, "This server answers to its own address alone.")
-        signal.alarm(0)
+        self.connection.setsockopt(socket.SOL_SOCKET, socket.SO_SNDBUF, MOST_SENT)
         path = self.path.split("?")[0]
         name = "page.html" if path == "/" else path[1:]
         kind = KINDS.get(os.path.splitext(name)[1])

@@ -120,6 +120,12 @@ READS = {
         "Handler.do_POST: self.rfile.read",
     ): "8 MiB: `MOST_ASKED`, looked at before",
     ("lab/studio/serving.py", "has_hung_up: connection.recv"): "one byte, which is left there",
+    ("lab/studio/serving.py", "Handler.refuse: self.connection.recv"): "64 KiB, which aren't kept",
+    ("lab/studio/connections.py", "Connections.take: one.socket.recv"): "64 KiB: `MOST_HEAD`",
+    (
+        "lab/studio/connections.py",
+        "Said.readinto: self.connection.recv_into",
+    ): "what its caller has room for, which is 8 MiB at most (Handler.do_POST)",
     ("lab/studio/limits.py", "all_of: os.read"): "1 MiB (MOST_SAID), and 64 KiB of the next part",
     # What the system says.
     ("lab/progress.py", "fields_of: open"): "a line of /proc",

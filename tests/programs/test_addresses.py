@@ -49,13 +49,19 @@ WON_BY_ROOT = {
     2: "2-1_1_3_3_1_2-3_1-2_1-2_2-1_3-2_2-1_2-1_2_2-3_3-2_2_1-2_1-2_3-2_3-2_2-3_2-3",
     3: "3-2_1-2_3_1_2-1_3_1_2_2_2-1_2-1_3-2_2-3_2-3_1-2_2-3_3-2_2-3_3-2_1-2",
 }
-SLEEPS = "import time\n\n\ndef greet(me):\n    time.sleep(15)\n\n\ndef step(me, pulse, inbox):\n    return []\n\n\n"
 
 
 def stored():
     """(links, [(address, state)]) of the file."""
     found = json.loads(text_in("tests", "programs", "studio_addresses.json"))
     return found["links"], [(one["address"], one["state"]) for one in found["written"]]
+
+
+def complete(nodes):
+    """The link of a complete network, each round of which is kept."""
+    every = range(1, nodes + 1)
+    edges = "_".join(f"{v}-{w}" for v in every for w in every if v < w)
+    return f"#net={'_'.join(['0.0'] * nodes)}~{edges}&dare=wrong&without=safes"
 
 
 def some(source, among, most):
@@ -336,23 +342,35 @@ class Links(Case):
 
     def test_at_once(self):
         """A verdict is there as soon as its link is judged, while the next one is still played."""
-        sleeps = self.file("sleeps.py", SLEEPS + "def result(me):\n    return ''\n")
-        links = f"#{TWO}&dare=apart\n#{TWO}&program=sleeps&dare=apart\n"
-        words = [FORESTLAB, "studio", "--own", sleeps, "--links", self.file("links", links)]
+        links = self.file("links", f"#{TWO}&dare=apart\n{complete(50)}\n")
         begun = time.monotonic()
+        words = [FORESTLAB, "studio", "--links", links]
         with subprocess.Popen(words, stdout=subprocess.PIPE, text=True) as process:
             said = process.stdout.readline()
-            took = time.monotonic() - begun
-            process.terminate()
-        self.note("the first one", said.startswith("1: not won") and took < 14, (said, took))
+            first = time.monotonic() - begun
+            process.stdout.read()
+        took = time.monotonic() - begun
+        self.note(
+            "the first one", said.startswith("1: not won") and first < took / 2, (said, first, took)
+        )
+
+    def test_own(self):
+        """A program of one's own is known if the command line names its file."""
+        own = os.path.join(TOP, "examples", "algorithms", "independent_set.py")
+        link = f"#{TWO}&program=independent_set&dare=apart"
+        done = said_by("studio", "--own", own, "--links", self.file("link", link))
+        self.same(
+            "with its file", done[:2], (0, "1: not won: apart: 0 of 2 pulses apart, in 0 steps\n")
+        )
+        status, said = self.verdicts(link)
+        self.note(
+            "without it", status == 1 and "program=independent_set (there are" in said[0], said
+        )
 
     def test_limits(self):
         """Each link has a process with the limits of a call; what takes too much is said, and the others go on."""
-        nodes = range(1, 61)
-        edges = "_".join(f"{v}-{w}" for v in nodes for w in nodes if v < w)
-        complete = f"#net={'_'.join(['0.0'] * 60)}~{edges}&dare=wrong&without=safes"
         with mock.patch.object(limits, "MEMORY", 300 << 20):
-            found = list(judge([complete, f"#{TWO}&dare=apart"]))
+            found = list(judge([complete(60), f"#{TWO}&dare=apart"]))
         said = ["1: can't be judged: it took too much memory, so it was ended", False]
         self.same("too much memory", list(found[0]), said)
         self.note("the next one", found[1][0].startswith("2: not won"), found[1])

@@ -11,6 +11,7 @@ import socket
 import subprocess
 import sys
 import threading
+import time
 from unittest import mock
 
 from lab.schedules.policies import POLICIES
@@ -29,6 +30,14 @@ OWN = (
     "import time\n\n\ndef greet(node):\n    {}\n\n\ndef next(node, pulse, inbox):\n    return []\n\n\n"
     "def result(node):\n    return ''\n"
 )
+
+
+def ended(connection):
+    """Whether the other end has ended a connection, of which nothing is read."""
+    try:
+        return not connection.recv(1, socket.MSG_PEEK | socket.MSG_DONTWAIT)
+    except BlockingIOError:
+        return False
 
 
 def is_running(process):
@@ -219,6 +228,55 @@ class Refusals(Server):
         dripping.join()
         for end in slow:
             end.close()
+
+    def held(self, many, said=b"", room=None):
+        """So many connections that say this and no more, each of which is renewed when it ends, until the test does."""
+        is_over = threading.Event()
+
+        def hold():
+            while not is_over.is_set():
+                with contextlib.suppress(OSError), socket.socket() as end:
+                    if room:
+                        end.setsockopt(socket.SOL_SOCKET, socket.SO_RCVBUF, room)
+                    end.connect(("127.0.0.1", self.port))
+                    end.sendall(said)
+                    while not is_over.wait(0.2) and not ended(end):
+                        pass
+
+        threads = [threading.Thread(target=hold, daemon=True) for _ in range(many)]
+        for thread in threads:
+            thread.start()
+
+        def end_all():
+            is_over.set()
+            for thread in threads:
+                thread.join()
+
+        self.addCleanup(end_all)
+        time.sleep(1)
+
+    def soon(self, name):
+        """The row of a call and of a file that are answered soon: a connection may be silent for ten seconds."""
+        begun = time.monotonic()
+        answer, (status, _) = self.answer("hello"), self.get("/api.js")
+        took = time.monotonic() - begun
+        self.note(name, answer.get("answer") and status == 200 and took < 7, (took, status))
+
+    def test_held(self):
+        """Who has no token keeps nobody waiting, however many connections it holds, and whatever it says on them."""
+        head = f"Host: 127.0.0.1:{self.port}\r\n"
+        for name, many, said, room in (
+            ("nothing", 100, "", None),
+            ("half a head", 100, f"POST /call/hello HTTP/1.1\r\n{head}X-Token: x", None),
+            ("no body", 100, f"POST /call/hello HTTP/1.1\r\n{head}Content-Length: 9\r\n\r\n", None),
+            ("a long head", 100, "GET / HTTP/1.1\r\n" + "a: b\r\n" * 20_000, None),
+            ("files that are never read", 40, f"GET /page.html HTTP/1.1\r\n{head}\r\n", 2048),
+        ):
+            with self.subTest(name):
+                self.held(many, said.encode(), room)
+                self.soon(f"{many} connections: {name}")
+                self.doCleanups()
+        self.note("still there", self.answer("hello").get("answer"))
 
     def test_port(self):
         done = said_by("studio", "--port", self.port, "--no-browser", limit=60)
