@@ -17,7 +17,7 @@ MEGABYTE = 1 << 20
 WRITTEN_IN_ALL = 256 * MEGABYTE  # by all programs of a run
 CHILDREN, CHILDREN_EACH = 256, 64  # processes and threads of a run, and more for each program
 LOOK = 0.5  # seconds between two looks at what programs take
-LOOK_SHARE = 10  # and at least so many times the seconds of a look
+LOOK_SHARE, MOST_LOOK = 10, 2.0  # and at least so many times the seconds of a look, up to so many
 NAMES = ("HOME", "LANG", "PATH", "TMPDIR")
 
 
@@ -117,7 +117,7 @@ class Guard:
                 self.faults[program] = fault
                 end(family)
         seconds = time.monotonic() - begun
-        self.next_look = begun + seconds + max(LOOK, LOOK_SHARE * seconds)
+        self.next_look = begun + seconds + max(LOOK, min(MOST_LOOK, LOOK_SHARE * seconds))
 
     def leave(self, program: int) -> None:
         """A program has ended, and its number is free."""

@@ -7,6 +7,7 @@ import re
 import stat
 from typing import Iterable, Iterator
 
+from lab.workshop.findings import Fault
 from lab.workshop.leftovers import Running
 
 SHARED = re.compile(rb"(?m)^RssShmem:\s+([0-9]+) kB$")
@@ -20,6 +21,9 @@ UNNAMED = (b"/dev/zero (deleted)", b"/memfd:", b"/SYSV", b"/dev/shm/")
 
 # The most that one side of a connection or a pipe holds in memory, however much is in it now.
 MOST_IN_SOCKET, MOST_IN_PIPE = 425_984, 1 << 16
+
+# Of a file of /proc on a process: about 10,000 mappings, of which Java has some hundred.
+MOST_BYTES = 1 << 20
 
 File = tuple[int, int]
 
@@ -36,12 +40,19 @@ def memory_of(running: Iterable[Running]) -> int:
 
 
 def text_of(number: int, name: str) -> bytes:
-    """A file of a process in /proc; nothing if it has ended meanwhile."""
+    """A file of a process in /proc; nothing if it has ended meanwhile. A long list of mappings takes the system's
+    memory, and hides what comes after it."""
     try:
         with open(f"/proc/{number}/{name}", "rb") as file:
-            return file.read()
+            found = file.read(MOST_BYTES + 1)
     except OSError:
         return b""
+    if len(found) > MOST_BYTES:
+        raise Fault(
+            "flood",
+            f"a process of it has more than {MOST_BYTES >> 20} megabyte of /proc/PID/{name}",
+        )
+    return found
 
 
 def shared(number: int) -> int:

@@ -132,10 +132,7 @@ READS = {
     ("lab/progress.py", "fields_of: file.read"): "a line of /proc",
     ("lab/workshop/leftovers.py", "processes: open"): "a line of /proc",
     ("lab/workshop/leftovers.py", "processes: file.read"): "a line of /proc",
-    (
-        "lab/workshop/memory.py",
-        "text_of: open",
-    ): "about 6 MiB: the kernel allows 65,530 lines of `maps` (vm.max_map_count)",
+    ("lab/workshop/memory.py", "text_of: open"): "1 MiB of a file of /proc; more is refused",
     ("lab/workshop/memory.py", "text_of: file.read"): "the same",
     ("lab/workshop/calls.py", "Filter.program: os.pread"): "the filter that this process has made",
     ("lab/workshop/sandbox.py", "Sandbox.enter: os.open"): "nothing is read of it here",

@@ -13,6 +13,7 @@ from tests.workshop.contained import Contained, program
 MEGABYTES = 100
 FLOOD = f"flood: it takes more than {MEGABYTES} megabytes of memory"
 UNKNOWN_CALL = "Errno 38"
+MAPPINGS = "flood: a process of it has more than 1 megabyte of /proc/PID/maps"
 PULSES = 4
 # A node that takes something at its start or after its first answer, and answers each message after some seconds.
 ANSWERS = """\
@@ -83,6 +84,13 @@ AT_START = {
         "                except BlockingIOError:\n                    pass\n"
         "            globals().setdefault('all', []).append(pair)\n        time.sleep(60)\n        os._exit(0)\n",
         FLOOD,
+    ),
+    "many mappings, and memory behind them": (
+        "area = mmap.mmap(-1, 20_000 * 4096)\n"
+        "at = ctypes.addressof(ctypes.c_char.from_buffer(area))\n"
+        "for page in range(0, 20_000, 2):\n"
+        "    SYSTEM.mprotect(ctypes.c_void_p(at + page * 4096), ctypes.c_size_t(4096), 1)\n",
+        MAPPINGS,
     ),
     "children": (f"for _ in range(3):\n{TAKE}", FLOOD),
 }
