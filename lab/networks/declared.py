@@ -19,6 +19,9 @@ from lab.wrong import Wrong, wrong_line
 MOST_DIGITS = 4000
 
 
+# What begins as a tag does; expat looks at a long one again with each part of the text that comes.
+TAG = re.compile(rb"<[^>]*")
+LONGEST_TAG = 1 << 20
 # Letters of a namespace: each element gets its name with the whole namespace before it.
 LONGEST_SPACE = 1000
 # No graph within the limits has more letters of six bits in sparse6: each edge, and each node once, takes a bit and the
@@ -65,6 +68,10 @@ class Declared:
 def in_xml(data: bytes, path: str) -> Declared:
     """The elements of GraphML or GEXF that are in the namespace of the first one."""
     declared = Declared(path)
+    for found in TAG.finditer(data):
+        if found.end() - found.start() > LONGEST_TAG:
+            line = data.count(b"\n", 0, found.start()) + 1
+            raise declared.wrong(line, f"a tag or a comment of more than {LONGEST_TAG >> 20} MiB")
     spaces: list[str] = []
     parser = expat.ParserCreate(namespace_separator=" ")
 

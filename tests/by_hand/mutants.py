@@ -19,6 +19,7 @@ import json
 import os
 import random
 import shutil
+import signal
 import subprocess
 import sys
 import tempfile
@@ -161,7 +162,7 @@ def name_of_setting(program: str) -> str:
 def end_all(process: subprocess.Popen) -> None:
     """Ends a process with what it has started."""
     try:
-        os.killpg(process.pid, 9)
+        os.killpg(process.pid, signal.SIGKILL)
     except ProcessLookupError:
         pass
     process.wait()
@@ -312,6 +313,8 @@ def main() -> None:
     words.add_argument("--list", action="store_true")
     words.add_argument("--stops", action="store_true", help=argparse.SUPPRESS)
     given = words.parse_args()
+    # What is ended ends what it has started.
+    signal.signal(signal.SIGTERM, lambda *_: sys.exit(143))
     if given.what == "run":
         run_tests(sys.stdin.read().split(), given.stops)
     elif given.what == "lab":

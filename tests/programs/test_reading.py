@@ -130,6 +130,11 @@ REFUSED = (
         "line 1: a namespace of more than 1,000 letters",
     ),
     (
+        "graphml",
+        "<graphml>\n<" + "a" * (1 << 20) + "/></graphml>",
+        "line 2: a tag or a comment of more than 1 MiB",
+    ),
+    (
         "gexf",
         "<!DOCTYPE gexf [\n<!ENTITY e 'x'>]><gexf>&e;</gexf>",
         "line 2: the text defines `e`: write what it stands for in its place",
