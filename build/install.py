@@ -65,7 +65,7 @@ SECTION = """\
 ## In this folder
 
     PATH=$PWD/bin:$PATH
-    forestplan plan < examples/triangle.col     prints the plan
+    forestplan plan < examples/triangle.col     # prints the plan
 
 The programs need no toolchain; `forestlab` needs bash and Python 3.10 or later. With `bin/` on the PATH the commands
 work anywhere, and `man` finds their pages. `source share/bash-completion/completions/forestlab` lets bash and zsh
@@ -77,7 +77,7 @@ page says of `crates/`, `bench/`, `tests/`, the toolchain and `python3 build` is
 SECTION_OF_SYSTEM = """\
 ## On this system
 
-    forestplan plan < examples/triangle.col     prints the plan
+    forestplan plan < examples/triangle.col     # prints the plan
 
 The programs need no toolchain; `forestlab` needs bash and Python 3.10 or later. `man` has pages of the three
 commands, bash and zsh complete their words, and `forestplan --version` says from which commit they were made. What a
@@ -97,7 +97,7 @@ def readme(section):
     """The text of README as it is in a folder: with the commands that the folder has, as they are called."""
     with open(os.path.join(TOP, "README.md"), encoding="utf-8") as file:
         text = file.read()
-    text = re.sub(r"^## Two commands\n.*?(?=^Command \| )", section, text, flags=re.M | re.S)
+    text = re.sub(r"^## Commands\n.*?(?=^Command \| )", section, text, flags=re.M | re.S)
     text = NEEDS_THE_KIT.sub(lambda row: row[1].rstrip(), OF_THE_KIT.sub("", text))
     return re.sub(OF_THE_REPOSITORY, r"\1", text)
 
