@@ -119,11 +119,13 @@ fn answer_input<C: Commands, T: Threads + Wait + Sync, R: Source>(
 /// status of the program.
 ///
 /// If the words ask for a command, `input` is read to its end, the answer goes to `output`, and the
-/// status is 0; a fault of the input goes to `errors` as one line, with status 1. If they don't, nothing
-/// is read: help goes to `output` with status 0, any other text of clap to `errors` with 2. If the workers of
-/// `plan`, `transcript` or `run` stop before every node is done, a line on `errors` says so, with status 3; if a
-/// thread is refused, a read or a write fails, or memory runs out, with status 4. After a failed write
-/// `output` holds a beginning of the answer. A failed write to `errors` changes nothing.
+/// status is 0; a fault of the command goes to `errors` as the line, and with the status, that the command set gives
+/// it (`fault_text`). If they don't, nothing is read: help goes to `output` with status 0, any other text of clap to
+/// `errors` with 2. If a read or a write fails, or memory runs out, a line on `errors` says so, with status 4. After
+/// a failed write `output` holds a prefix of the answer. A failed write to `errors` changes nothing.
+///
+/// The two programs give their faults these statuses: 1 if the input is refused, 3 if workers stop before every node
+/// is done, and 4 if a thread is refused or memory runs out.
 ///
 /// `plan`, `transcript` and `run` may wait for threads, so it is not promised that the call returns: the contract
 /// holds if it does.
