@@ -30,7 +30,8 @@ class Browser:
             "about:blank",
         ]
         self.process = subprocess.Popen(
-            ["sh", "-c", f'exec "$@" 3<&{given} 4>&{back}', "sh", *words],
+            # Not sh, since Debian's takes no number of two digits for a file that is open.
+            ["bash", "-c", f'exec "$@" 3<&{given} 4>&{back}', "bash", *words],
             pass_fds=(given, back),
             stderr=subprocess.DEVNULL,
             stdout=subprocess.DEVNULL,
