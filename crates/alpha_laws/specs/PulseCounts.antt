@@ -37,8 +37,9 @@ abbrev pub payloads_sent_at : {S M E : Type 0} → Program S M E → Net → ℕ
 payloads_sent_at program net q =
     sum_over_ports net (λ v i. bit (is_some (sends program net v (neighbour_of net v i) q)))
 
--- The messages of a pulse: a safe for each direction of each edge, the payloads that the synchronous run sends at that
--- pulse, and an acknowledgement for each payload. They are at most six for each edge, whatever the program sends.
+-- How many messages of a pulse the lists of all links have together: as many safes as there are directions of edges, as
+-- many payloads as the synchronous run sends at that pulse, and as many acknowledgements as payloads. They are at most
+-- six times the edges, whatever the program sends. These are totals: which link has which message isn't said here.
 pub record PulseIsCounted {S M E : Type 0} (program : Program S M E) (net : Net) (sent : ℕ → ℕ → List (Wire M)) (q : ℕ)
     : Type 0 where
   pub safes : safes_at_pulse net sent q ≡ 2 * edge_count_of net

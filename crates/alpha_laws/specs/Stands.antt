@@ -1,5 +1,6 @@
--- What a node by itself is whenever it keeps its links: in a run that goes on, that ended early, or that never ends. No
--- other node is named here, and nothing has met.
+-- What one node is whenever it keeps its links and took legal lists: in a run that goes on, that ended early, or that
+-- never ends. What the other nodes have put, taken or set aside isn't asked, and the lists of the two ends of a link
+-- needn't have met. The last words of this file are of two neighbours that both stand.
 use Rattle.std.specs.Prelude.{◌≡◌, ◌⊎◌, ℕ, suc, ◌<◌, ◌≤◌, IsTrue, IsOk, IsSome, List, [], ◌∷◌, ◌++◌, Contains}
 use Rattle.interference.specs.Net.{Net, IsVertex, degree_of, neighbour_of, back_port_of}
 use Rattle.node_api.specs.Program.{Program, last_pulse_on}
@@ -24,8 +25,9 @@ TakesAreLegal program net v taken =
 -- its links and taken from them, by port. These are the words of `Simulates`, of one node.
 pub record Stands {S M E : Type 0} (program : Program S M E) (net : Net) (v : ℕ) (node : Node S M)
     (sent taken : ℕ → List (Wire M)) : Type 0 where
-  -- It fits its links; so at pulse p it is in the state of the synchronous run at p. Of each link it took every message
-  -- at most once, first in first out, and none that the synchronous run doesn't send there.
+  -- It fits its links; so at pulse p it is in the state of the synchronous run at p. What it took of a link is legal
+  -- there: without acknowledgements it begins the one stream that the synchronous run fixes for this link, so it has
+  -- each message of the stream at most once and in the stream's order. That the neighbour has put it isn't said.
   pub fits : NodeFits program net v node sent taken
   -- It isn't past the last pulse.
   pub within_last : node.view.pulse ≤ last_pulse_on program net
@@ -67,8 +69,8 @@ pub record MomentsAgree {M : Type 0} (put taken : List (Wire M)) : Type 0 where
   pub wires : OneBegins (data_of put) (data_of taken)
   pub acks : OneBegins (acks_of put) (acks_of taken)
 
--- First in, first out, without a common moment: if v stands at one moment and its neighbour w at any other, what v put
--- on the link to w agrees with what w took from it.
+-- If v stands at one moment and its neighbour w at any other, what v put on the link to w agrees with what w took from
+-- it. The two needn't be of one run: both lists begin the one stream that the synchronous run fixes.
 abbrev pub StandingNodesAgree : {S M E : Type 0} → Program S M E → Net → Type 0
 StandingNodesAgree {S} {M} program net =
     (v i : ℕ) (node other : Node S M) (sent taken sent' taken' : ℕ → List (Wire M))

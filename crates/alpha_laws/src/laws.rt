@@ -28,15 +28,16 @@ pub fn kept_links_simulate<S, M, E>()
     ensures law { (program : Program S M E) → OnEveryNetwork program (KeptSimulate program) }
 {}
 
-/// A node that keeps its links, and took legal lists, stands where the synchronous run has it, whatever the other nodes
-/// do and whether or not the run ends: see `Stands`.
+/// A node that keeps its links, and took legal lists, stands where the synchronous run has it, whatever state the other
+/// nodes are in, and whether or not the run ends: see `Stands`.
 pub fn kept_nodes_stand<S, M, E>()
     ensures law { (program : Program S M E) → OnEveryNetwork program (KeptStand program) }
 {}
 
-/// First in, first out, without a common moment: of what a node that stands has put on a link and what its neighbour
-/// has taken from it, one begins the other without acknowledgements, and one begins the other in acknowledgements, at
-/// whichever two moments they are seen.
+/// If a node and its neighbour stand, what the node has put on their link and what the neighbour has taken from it
+/// agree: without acknowledgements one of the two lists begins the other, and so it is of the acknowledgements. The
+/// reason is that both begin the one stream that the synchronous run fixes for this link. So the two may be seen at two
+/// moments, and needn't be nodes of one run: the law doesn't say that what was taken had been put.
 pub fn standing_nodes_agree<S, M, E>()
     ensures law { (program : Program S M E) (net : Net) → IsNetwork net → StandingNodesAgree program net }
 {}
@@ -48,7 +49,7 @@ pub fn complete_lists_are_counted<S, M, E>()
 {}
 
 /// If the list of each link is complete, all lists together have 2·edges safes of each pulse below the last, as many
-/// payloads of it as the synchronous run sends, and an acknowledgement for each payload: at most 6·edges messages.
+/// payloads of it as the synchronous run sends, and as many acknowledgements as payloads: at most 6·edges messages.
 pub fn pulses_are_counted<S, M, E>()
     ensures law { (program : Program S M E) (net : Net) → IsNetwork net → PulsesAreCounted program net }
 {}
