@@ -139,6 +139,21 @@ def clauses_of_crate(crate):
     return found | {"ghost": set(re.findall(r"^\s*(?:pub )?ghost (\w+)\s*[:=]", text, re.M))}
 
 
+def named_clauses(page: str) -> list[tuple[str, set[str]]]:
+    """Each function that a page names as `crate::function`: `clause`, `clause`, with these clauses. It may go on in the
+    next line."""
+    text = " ".join(line.strip() for line in page.split("\n"))
+    found = re.findall(r"`((?!crate::)[a-z_]+(?:::\w+)+)`(?:: ((?:`\w+`(?:, |))+))?", text)
+    return [(path, set(re.findall(r"`(\w+)`", clauses))) for path, clauses in found]
+
+
+def unknown_clauses(path: str, said: set[str], crates: dict[str, dict[str, set[str]]]) -> list[str]:
+    """Those of the clauses that aren't in the code, or the function if it isn't there; `crates` keeps what was read."""
+    crate, *_, name = path.split("::")
+    clauses = crates.setdefault(crate, clauses_of_crate(crate))
+    return sorted(said - clauses[name] - clauses["ghost"]) if name in clauses else [name]
+
+
 def laws_of_crates():
     """Each public law, by its path: `crate::function`, or `crate::laws::function`. Its body is empty or calls laws."""
     found = set()
@@ -238,18 +253,12 @@ class Pages(FilesCase):
                 )
 
     def test_promises(self):
-        """A promise is written as `crate::function`: `clause`, `clause`; it may go on in the next line."""
-        text = " ".join(line.strip() for line in lines_of("docs/claim/PROMISES.md"))
+        """A promise is written as `named_clauses` reads it."""
+        promises = named_clauses(text_in("docs/claim/PROMISES.md"))
         crates, named = {}, {}
-        promises = re.findall(r"`((?!crate::)[a-z_]+(?:::\w+)+)`(?:: ((?:`\w+`(?:, |))+))?", text)
-        for path, clauses in promises:
-            parts = path.split("::")
-            crate = crates.setdefault(parts[0], clauses_of_crate(parts[0]))
-            name = parts[-1]
-            said = set(re.findall(r"`(\w+)`", clauses))
+        for path, said in promises:
             named.setdefault(path, set()).update(said)
-            known = crate.get(name, set()) | crate["ghost"]
-            missing = sorted(said - known) if name in crate else [name]
+            missing = unknown_clauses(path, said, crates)
             self.note(f"docs/claim/PROMISES.md {path}", not missing, f"not in the code: {missing}")
         laws = laws_of_crates()
         for law in sorted(laws & named.keys()):

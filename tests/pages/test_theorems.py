@@ -1,0 +1,103 @@
+"""Checks docs/claim/THEOREMS.md and CITATION.cff against the code. Nothing is compiled.
+
+- Each function and clause that the page names is in the code, and so is each field that it names with its record.
+- For each theorem, the page says how many files and lines of definitions its statement reaches; and how many lines of
+  code, definitions and proofs there are. A number of lines may be 5 percent off, so that a small change needs no other.
+- It says how many planted bugs the gate tries.
+- CITATION.cff has the version of this tree.
+"""
+import os
+import re
+
+from lab.version import NUMBER
+from tests import TOP
+from tests.cases import FilesCase, text_in
+from tests.pages.test_pages import crate_files, named_clauses, tables_of, unknown_clauses
+
+PAGE = os.path.join("docs", "claim", "THEOREMS.md")
+TESTS = ("checks", "worker_checks")
+MOST_OFF = 0.05
+
+
+def crate_of(path):
+    return os.path.relpath(path, TOP).split(os.sep)[1]
+
+
+def imported(path):
+    """The files of specs/ of these crates that a file of specs/ imports. The kit's have no file here."""
+    for crate, module in re.findall(r"^ *use Rattle\.(\w+)\.specs\.([\w.]+)", text_in(path), re.M):
+        file = os.path.join("crates", crate, "specs", *module.strip(".").split(".")) + ".antt"
+        if os.path.exists(os.path.join(TOP, file)):
+            yield file
+
+
+def reached(paths):
+    """The files that some files reach, themselves among them."""
+    found, left = set(), list(paths)
+    while left:
+        path = left.pop()
+        if path not in found:
+            found.add(path)
+            left += imported(path)
+    return found
+
+
+def lines_to_read(paths):
+    """How many lines files have without blank ones, comments and imports."""
+    lines = [line.strip() for path in paths for line in text_in(path).split("\n")]
+    return sum(1 for line in lines if line and not re.match(r"--|use ", line))
+
+
+def lines_of_part(part):
+    """How many lines a folder of all crates but those of tests has."""
+    suffix = "*.rt" if part == "src" else "*.antt"
+    files = crate_files(f"*/{part}/**/{suffix}")
+    return sum(text_in(path).count("\n") for path in files if crate_of(path) not in TESTS)
+
+
+class Theorems(FilesCase):
+    def near(self, name, said, real):
+        """A row: a number of the page is near the real one."""
+        number = int(said.replace(",", ""))
+        self.note(name, abs(number - real) <= MOST_OFF * real, f"{number}, and it is {real}")
+
+    def test_clauses(self):
+        named, crates = named_clauses(text_in(PAGE)), {}
+        for path, said in named:
+            missing = unknown_clauses(path, said, crates)
+            self.note(f"{PAGE} {path}", not missing, f"not in the code: {missing}")
+        self.note("clauses of the theorems", len(named) > 30, f"{len(named)} are found")
+
+    def test_fields(self):
+        """Fields that are named with their record, in the files of the table of words."""
+        page, count = text_in(PAGE), 0
+        files = dict(re.findall(r"\| \[`(\w+)`\][^|]*, `(crates/\S+)` \|", page))
+        for names, record in re.findall(r"the fields? ([^.;()]*?) of\s+`(\w+)`", page):
+            for name in re.findall(r"`(\w+)`", names):
+                count += 1
+                field = re.search(rf"^  pub {name} :", text_in(files[record]), re.M)
+                self.note(f"field {name} of {record}", field, files[record])
+        self.note("fields that are named", count > 5, count)
+        simulates = text_in(files["Simulates"]).partition("pub record Simulates")[2]
+        fields = re.findall(r"^  pub (\w+) :", simulates, re.M)
+        self.same("fields of Simulates", (len(fields), "thirteen fields" in page), (13, True))
+
+    def test_how_much(self):
+        for _, _, rows in tables_of(text_in(PAGE).split("\n")):
+            if rows[0] == ["To judge", "Begin with", "Files", "Lines"]:
+                self.note("rows of what there is to read", len(rows) == 8, rows)
+                for name, roots, files, lines in rows[2:]:
+                    paths = reached(re.findall(r"`(crates/\S+)`", roots))
+                    self.same(f"files to judge {name}", int(files), len(paths))
+                    self.near(f"lines to judge {name}", lines, lines_to_read(paths))
+            if rows[0] == ["What", "Lines"]:
+                for name, lines in rows[2:]:
+                    part = re.search(r"crates/\*/(\w+)", name)[1]
+                    self.near(f"lines of {part}", lines, lines_of_part(part))
+        bugs = len(crate_files("*/must-fail/*.edit"))
+        self.note("planted bugs", f"It also tries {bugs} planted" in text_in(PAGE), bugs)
+
+    def test_citation(self):
+        version = re.search(r"^version: (\S+)$", text_in("CITATION.cff"), re.M)
+        self.same("version of CITATION.cff", version[1], NUMBER)
+        self.note("it is in CHANGELOG", f"\n## {NUMBER}" in text_in("CHANGELOG.md"), NUMBER)
