@@ -241,6 +241,20 @@ class Index(FilesCase):
                     row.format_map(limits),
                 )
 
+    def test_changes(self):
+        """CHANGELOG has for each version some of these kinds of changes, in this order, and at most three lines for each."""
+        kinds = ["Breaking", "Added", "Changed", "Fixed", "Removed"]
+        _, *versions = re.split(r"^## ", text_in("CHANGELOG.md"), flags=re.M)
+        self.note("versions", len(versions) > 5, len(versions))
+        for text in versions:
+            version = text.split()[0]
+            before, *parts = re.split(r"^### ", text, flags=re.M)
+            found = [part.split("\n")[0] for part in parts]
+            self.same(f"kinds of {version}", found, [kind for kind in kinds if kind in found])
+            self.note(f"{version}: changes of no kind", "\n- " not in before, before)
+            long = re.findall(r"^- .*\n(?:  [^|\n].*\n){3,}", text, re.M)
+            self.same(f"{version}: changes of more than three lines", long, [])
+
     def test_stored_transcript(self):
         """FORMATS says how many bytes a line of the stored transcript takes."""
         transcript = text_in("docs", "pictures", "petersen.transcript")
