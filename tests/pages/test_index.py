@@ -12,7 +12,7 @@ from lab.__main__ import COMMANDS as OF_LAB
 from tests import TOP
 from tests.cases import FilesCase, text_in
 from tests.commands import COMMANDS
-from tests.pages.test_pages import PAGES, lines_of
+from tests.pages.test_pages import PAGES, lines_of, tables_of
 
 README_COLUMNS = 120
 
@@ -240,6 +240,18 @@ class Index(FilesCase):
                     row.format_map(limits) in one_line(text_in(path)),
                     row.format_map(limits),
                 )
+
+    def test_measurements(self):
+        """MEASUREMENTS begins with a table of at most 20 rows, each of which links the section that has its figures."""
+        lines = lines_of("docs/MEASUREMENTS.md")
+        line, _, rows = next(tables_of(lines))
+        heads = [number for number, text in enumerate(lines, 1) if text.startswith("## ")]
+        self.note("before all sections", line < heads[0], line)
+        wanted = ["Question", "Now", "Goal", "Met?", "Measure it again by"]
+        self.same("columns", rows[0], wanted)
+        self.note("rows", 10 < len(rows[2:]) <= 20, len(rows[2:]))
+        for row in rows[2:]:
+            self.note(row[0], re.fullmatch(r"\[.*\]\(#.*\)", row[0]) and len(row) == 5, row)
 
     def test_changes(self):
         """CHANGELOG has for each version some of these kinds of changes, in this order, and at most three lines for each."""
