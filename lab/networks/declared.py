@@ -11,7 +11,6 @@ from xml.parsers import expat
 
 from lab.networks.fields import shown
 from lab.networks.listed import Where
-from lab.networks.network_text import MAX_EDGES, MAX_NODES
 from lab.wrong import Wrong, wrong_line
 
 
@@ -24,9 +23,6 @@ TAG = re.compile(rb"<[^>]*")
 LONGEST_TAG = 1 << 20
 # Letters of a namespace: each element gets its name with the whole namespace before it.
 LONGEST_SPACE = 1000
-# No graph within the limits has more letters of six bits in sparse6: each edge, and each node once, takes a bit and the
-# bits of a node.
-LONGEST_SPARSE = (MAX_EDGES + MAX_NODES) * (1 + MAX_NODES.bit_length()) // 6 + 100
 
 
 @dataclass
@@ -142,24 +138,3 @@ def in_json(data: bytes, path: str) -> Declared:
                     raise declared.wrong(where, f"its `{own}` is no text and no whole number")
             declared.declare(kind, where, item)
     return declared.checked()
-
-
-def in_letters(data: bytes, path: str) -> None:
-    """Refuses a second graph of graph6 or sparse6, each of which is a line, and one of too many nodes or edges."""
-    first, *others = data.strip().split(b"\n")
-    if others:
-        raise wrong_line(path, 2, "a second graph: a file of one graph is read")
-    # Up to 62 nodes are one letter; more are three after a `~`.
-    letters = re.sub(rb"^(>>\w+<<)?:?", b"", first)
-    count = sum((letter - 63) << 12 - 6 * at for at, letter in enumerate(letters[1:4]))
-    if letters.startswith(b"~") and count > MAX_NODES:
-        raise wrong_line(path, 1, f"more than {MAX_NODES} nodes")
-    is_sparse = b":" in first[: len(first) - len(letters)]
-    if len(letters) > LONGEST_SPARSE if is_sparse else edges_in(letters) > MAX_EDGES:
-        raise wrong_line(path, 1, f"more than {MAX_EDGES} edges")
-
-
-def edges_in(letters: bytes) -> int:
-    """The edges of graph6, each of which is a bit; the letters of the number of nodes are few, and don't count."""
-    behind = letters[4:] if letters.startswith(b"~") else letters[1:]
-    return sum(behind.count(bytes([63 + six])) * six.bit_count() for six in range(1, 64))

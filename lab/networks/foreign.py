@@ -13,9 +13,10 @@ import warnings
 from collections.abc import Iterable
 from typing import Any
 
-from lab.networks.declared import Declared, in_json, in_letters, in_xml
+from lab.networks.declared import Declared, in_json, in_xml
 from lab.networks.fields import shown
 from lab.networks.gml import in_gml, with_multigraph
+from lab.networks.letters import from_graph6, in_graph6, in_sparse6
 from lab.networks.listed import Listed, Where, name_of, not_read
 from lab.networks.stated import Stated, decoded
 from lab.networks.table import FARTHEST
@@ -57,8 +58,8 @@ READERS = {
     "gexf": (lambda nx, data: nx.read_gexf(io.BytesIO(data.replace(NEW_GEXF, GEXF))), in_xml),
     "gml": (from_gml, in_gml),
     "json": (from_json, in_json),
-    "graph6": (lambda nx, data: nx.from_graph6_bytes(data.strip()), in_letters),
-    "sparse6": (lambda nx, data: nx.from_sparse6_bytes(data.strip()), in_letters),
+    "graph6": (from_graph6, in_graph6),
+    "sparse6": (lambda nx, data: nx.from_sparse6_bytes(data.strip()), in_sparse6),
 }
 
 

@@ -140,7 +140,9 @@ REFUSED = (
         "line 2: the text defines `e`: write what it stands for in its place",
     ),
     ("pairs", PAIR + "a" + "\u0300\u0316" * 400 + ",b\n", "line 2: no name of a node"),
-    ("graph6", "A", "can't read it"),
+    ("graph6", "A", "line 1: no graph6: the bits of 2 nodes take 1 letter, and here are 0"),
+    ("graph6", "", "line 1: no graph6: ``"),
+    ("sparse6", "An", "line 1: no sparse6: `An`"),
 )
 YED = """\
 <graphml xmlns="http://graphml.graphdrawing.org/xmlns" xmlns:y="http://www.yworks.com/xml/graphml">

@@ -1,0 +1,90 @@
+"""graph6 and sparse6: one line of letters from `?` to `~`, each of which is six bits. What a line declares is judged
+before anything is made of it: a few letters can declare 68 billion nodes."""
+import re
+from math import isqrt
+from typing import Any
+
+from lab.networks.fields import shown
+from lab.networks.network_text import MAX_EDGES, MAX_NODES
+from lab.words import counted
+from lab.wrong import wrong_line
+
+FIRST, LAST = b"?~"
+# What may stand before the letters of a form: the name of the form, and the mark of sparse6.
+HEADS = {"graph6": re.compile(rb"(?:>>graph6<<)?"), "sparse6": re.compile(rb"(?:>>sparse6<<)?:")}
+OTHER = re.compile(rb"[^?-~]")
+# No graph within the limits has more letters in sparse6: each edge, and each node once, takes a bit and the bits of a
+# node.
+LONGEST_SPARSE = (MAX_EDGES + MAX_NODES) * (1 + MAX_NODES.bit_length()) // 6 + 100
+
+
+def in_graph6(data: bytes, path: str) -> None:
+    """Refuses what isn't one line of graph6 within the limits."""
+    nodes, letters = declared("graph6", data, path)
+    pairs = nodes * (nodes - 1) // 2
+    wanted = (pairs + 5) // 6
+    if len(letters) != wanted:
+        take = f"the bits of {counted(nodes, 'node')} take {counted(wanted, 'letter')}"
+        what = f"{take}, and here are {len(letters):,}"
+        raise wrong_line(path, 1, f"no graph6: {what}")
+    if edges_in(letters) > MAX_EDGES:
+        raise wrong_line(path, 1, f"more than {MAX_EDGES} edges")
+
+
+def in_sparse6(data: bytes, path: str) -> None:
+    """Refuses what isn't one line of sparse6 within the limits."""
+    _, letters = declared("sparse6", data, path)
+    if len(letters) > LONGEST_SPARSE:
+        raise wrong_line(path, 1, f"more than {MAX_EDGES} edges")
+
+
+def declared(form: str, data: bytes, path: str) -> tuple[int, bytes]:
+    """How many nodes the one line of a text declares, and the letters after that number."""
+    line, *others = data.strip().split(b"\n")
+    if others:
+        raise wrong_line(path, 2, "a second graph: a file of one graph is read")
+    head = HEADS[form].match(line)
+    letters = line[head.end() :] if head else b""
+    if not letters:
+        raise wrong_line(path, 1, f"no {form}: `{shown(line[:41].decode('utf-8', 'replace'))}`")
+    other = OTHER.search(letters)
+    if other:
+        letter = shown(letters[other.start() :].decode("utf-8", "replace")[0])
+        raise wrong_line(path, 1, f"no {form}: `{letter}` isn't one of the letters from ? to ~")
+    # Up to 62 nodes are one letter; more are three after a `~`, or six after two, and so many no network has.
+    begin, end = (0, 1) if letters[0] < LAST else (1, 4)
+    nodes = 0
+    for six in letters[begin:end]:
+        nodes = nodes << 6 | six - FIRST
+    if nodes > MAX_NODES:
+        raise wrong_line(path, 1, f"more than {MAX_NODES} nodes")
+    if len(letters) < end:
+        raise wrong_line(path, 1, f"no {form}: its number of nodes is cut")
+    return nodes, letters[end:]
+
+
+def edges_in(letters: bytes) -> int:
+    """The edges of graph6, each of which is a bit."""
+    some = letters.translate(None, b"?")
+    return sum(some.count(bytes([FIRST + six])) * six.bit_count() for six in range(1, 64))
+
+
+def from_graph6(nx: Any, data: bytes) -> Any:
+    """The graph of a line that `in_graph6` takes. networkx would list all pairs of nodes first, which takes some 20 GB
+    for as many nodes as a network may have."""
+    nodes, letters = declared("graph6", data, "")
+    graph = nx.Graph()
+    graph.add_nodes_from(range(nodes))
+    for found in re.finditer(rb"[^?]", letters):
+        for place in range(6):
+            lower, higher = pair_at(6 * found.start() + place)
+            # The last letter has bits that are of no pair.
+            if found[0][0] - FIRST & 32 >> place and higher < nodes:
+                graph.add_edge(lower, higher)
+    return graph
+
+
+def pair_at(bit: int) -> tuple[int, int]:
+    """The pair of nodes that a bit of graph6 is of: (0, 1), (0, 2), (1, 2), (0, 3), .., by their higher node."""
+    higher = (1 + isqrt(1 + 8 * bit)) // 2
+    return bit - higher * (higher - 1) // 2, higher
