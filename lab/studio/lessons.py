@@ -109,7 +109,7 @@ def lecture():
     """The places of the twenty minutes: {minutes, title, open, say}."""
     rows = re.findall(
         r"^- \*\*(.*?)\*\*, \[(.*?)\]\(\S*?#(\S*?)\): (.*?)(?=^- |^$)",
-        page_of("TEACHING.md"),
+        page_of("LECTURE.md"),
         re.M | re.S,
     )
     return [

@@ -213,7 +213,7 @@ class Grades(Submitted):
 
 
 class Points(Case):
-    """By hand, of the table in TEACHING: 99 of 100 runs give 39, nine of ten policies 36, and all plans 10."""
+    """By hand, of the table in WEEK: 99 of 100 runs give 39, nine of ten policies 36, and all plans 10."""
 
     def test_they_add_up(self):
         alpha = [{"policy": policy, "verdict": "right"} for policy in POLICIES for _ in range(12)]
@@ -230,9 +230,9 @@ class Points(Case):
 
     def test_the_parts_are_a_hundred(self):
         table = (
-            text_in("docs", "learn", "TEACHING.md")
-            .partition("**Points.**")[2]
-            .partition("\n\n**")[0]
+            text_in("docs", "learn", "WEEK.md")
+            .partition("## Points")[2]
+            .partition("\n## ")[0]
         )
         found = {
             name: int(number) for name, number in re.findall(r"(?m)^\| (\w+) \| (\d+) \|", table)

@@ -49,7 +49,7 @@ class Pages(Case):
             self.assertTrue(line.startswith(wanted.removesuffix("..")), (line, wanted))
 
     def test_numbers(self):
-        workshop, talking, teaching = page("WORKSHOP.md"), page("PROTOCOL.md"), page("TEACHING.md")
+        workshop, talking, teaching = page("WORKSHOP.md"), page("PROTOCOL.md"), page("WEEK.md")
         defaults = options.parsed(["rounds", "two", "--", "x"])
         for text, number, words in (
             (workshop, defaults.timeout, r"An answer may take ([\d,]+) seconds"),
@@ -61,7 +61,7 @@ class Pages(Case):
             (talking, protocol.MOST_LETTERS, r"up to ([\d,]+) letters"),
             (talking, processes.LAST_LINES, r"shows the last (\w+) lines"),
             (teaching, len(MISTAKES.MISTAKES), r"writes ([\d,]+)\s+wrong nodes"),
-            (teaching, len(MISTAKES.MISTAKES) - 2, r"([\d,]+) of them show; two change nothing"),
+            (teaching, len(MISTAKES.MISTAKES) - 2, r"([\d,]+) of them show; two\s+change nothing"),
             (workshop, len(cases.NETWORKS.split(",")), r"plays (\w+) networks under"),
             (workshop, len(POLICIES), r"networks under (\w+) policies"),
             (workshop, 10 * len(cases.NETWORKS.split(",")), r"workshop alpha --runs ([\d,]+) -- "),
@@ -137,6 +137,8 @@ class ClassFolder(Case):
             "tests",
             "docs/learn/WORKSHOP_ANSWERS.md",
             "docs/learn/TEACHING.md",
+            "docs/learn/LECTURE.md",
+            "docs/learn/WEEK.md",
         ):
             with self.subTest(path):
                 self.assertTrue(os.path.exists(os.path.join(TOP, path)), "it isn't here either")
