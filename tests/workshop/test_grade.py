@@ -229,11 +229,7 @@ class Points(Case):
                 self.same(f"{assignment} {points}", part.points, points)
 
     def test_the_parts_are_a_hundred(self):
-        table = (
-            text_in("docs", "learn", "WEEK.md")
-            .partition("## Points")[2]
-            .partition("\n## ")[0]
-        )
+        table = text_in("docs", "learn", "WEEK.md").partition("## Points")[2].partition("\n## ")[0]
         found = {
             name: int(number) for name, number in re.findall(r"(?m)^\| (\w+) \| (\d+) \|", table)
         }
