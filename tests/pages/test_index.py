@@ -254,7 +254,7 @@ class Index(FilesCase):
             self.note(row[0], re.fullmatch(r"\[.*\]\(#.*\)", row[0]) and len(row) == 5, row)
 
     def test_changes(self):
-        """CHANGELOG has for each version some of these kinds of changes, in this order, at most three lines for each."""
+        """Each version of CHANGELOG has some of these kinds of changes, in this order, at most three lines for each."""
         kinds = ["Breaking", "Added", "Changed", "Fixed", "Removed"]
         _, *versions = re.split(r"^## ", text_in("CHANGELOG.md"), flags=re.M)
         self.note("versions", len(versions) > 5, len(versions))
