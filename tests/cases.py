@@ -18,9 +18,12 @@ from collections.abc import Callable
 
 from lab.wrong import Wrong as Fault
 from tests import FORESTLAB, TOP
+from tests.tools import without_rt
 
 # With this word in a module, unittest leaves its functions out of the traceback of a failure.
 __unittest = True
+# No test proves anything, whatever runs it.
+os.environ["PATH"] = without_rt(os.environ["PATH"])
 # The folder of the tests; what runs them isn't in a folder of it.
 OWN = os.path.join(TOP, "tests", "")
 # Of what is said of a row that fails: letters of values that are shown whole, letters of a line, and lines.

@@ -1,16 +1,20 @@
 """Measures how the time of a reader grows with a text of one shape: one letter again and again, one long field, blank
 lines, lists in lists, a quotation mark without a second one, a long number, comments, and many fields."""
+import contextlib
+import gc
 import math
 import re
 import tempfile
 import time
 from collections.abc import Callable, Iterator
+from dataclasses import dataclass
 
 from tests.readers import Reader, parsers_kept
 
 # The larger text has so many times the bytes of the smaller one, and may take so many times as long.
 TIMES, MOST_TIMES = 4, 6.0
-# Calls of which the fastest counts; one is enough if it shows that the time doesn't grow too fast.
+# Calls of which the fastest counts, of the by-hand command; fewer are enough once they show that the time doesn't grow
+# too fast.
 MOST_CALLS = 3
 Shape = Callable[[int], bytes]
 
@@ -49,20 +53,33 @@ def shapes_of(reader: Reader) -> Iterator[tuple[str, Shape]]:
     yield "its last line again and again", again(good, lines[-1])
 
 
+@contextlib.contextmanager
+def garbage_set_apart() -> Iterator[None]:
+    """What other tests have left in this process isn't looked at again by its collections, whose time would count:
+    a longer text has more of them."""
+    gc.collect()
+    gc.freeze()
+    try:
+        yield
+    finally:
+        gc.unfreeze()
+
+
 def seconds_for(reader: Reader, data: bytes, folder: str) -> float:
-    begun = time.process_time()
+    """Of the processor, and of this thread: neither other programs nor what another test has begun counts."""
+    begun = time.thread_time()
     reader.status(data, folder)
-    return time.process_time() - begun
+    return time.thread_time() - begun
 
 
 def compared(
-    reader: Reader, shape: Shape, size: int, least: float, folder: str
+    reader: Reader, shape: Shape, size: int, least: float, folder: str, calls: int
 ) -> tuple[float, float]:
     """The least seconds for a text of so many bytes, and for one of four times as many, of some calls by
     turns: of fewer if the larger text takes less than `least` seconds, or isn't too slow already.
     """
     small, large = math.inf, math.inf
-    for _ in range(MOST_CALLS):
+    for _ in range(calls):
         large = min(large, seconds_for(reader, shape(size * TIMES), folder))
         if large < least:
             return large, large
@@ -72,16 +89,47 @@ def compared(
     return small, large
 
 
-def what_is_wrong(reader: Reader, size: int, least: float) -> Iterator[str]:
-    """The shapes of which a text takes too long, or raises what would end a command with status 70.
+@dataclass(frozen=True)
+class Measured:
+    """What came out for a text of one shape: the seconds of the smaller and of the larger one, or what was raised."""
+
+    shape: str
+    small: float = 0.0
+    large: float = 0.0
+    fault: str = ""
+
+    @property
+    def times(self) -> float:
+        """How many times as long the larger text takes."""
+        return self.large / self.small if self.small else 0.0
+
+    def wrong(self) -> str:
+        """What is wrong with it, if anything is."""
+        is_slow = self.times > MOST_TIMES
+        slow = f"{self.large:.2f} s, and a quarter of it {self.small:.2f} s" if is_slow else ""
+        return f"{self.shape}: {self.fault or slow}" if self.fault or slow else ""
+
+
+def measured(
+    reader: Reader, size: int, least: float, calls: int = MOST_CALLS
+) -> Iterator[Measured]:
+    """Each shape, with what a reader does with its texts.
 
     Where the larger text takes less than `least` seconds, there is nothing to compare."""
-    with tempfile.TemporaryDirectory() as folder, parsers_kept():
+    with tempfile.TemporaryDirectory() as folder, parsers_kept(), garbage_set_apart():
         for name, shape in shapes_of(reader):
             try:
-                small, large = compared(reader, shape, size, least, folder)
+                small, large = compared(reader, shape, size, least, folder, calls)
             except Exception as fault:
-                yield f"{reader.name}: {name}: {type(fault).__name__}: {str(fault)[:200]}"
+                yield Measured(name, fault=f"{type(fault).__name__}: {str(fault)[:200]}")
             else:
-                if large > MOST_TIMES * small:
-                    yield f"{reader.name}: {name}: {large:.2f} s, and a quarter of it {small:.2f} s"
+                yield Measured(name, small, large)
+
+
+def what_is_wrong(
+    reader: Reader, size: int, least: float, calls: int = MOST_CALLS
+) -> Iterator[str]:
+    """The shapes of which a text takes too long, or raises what would end a command with status 70."""
+    for one in measured(reader, size, least, calls):
+        if one.wrong():
+            yield f"{reader.name}: {one.wrong()}"

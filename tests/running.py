@@ -5,19 +5,10 @@
 A NAME is MODULE, MODULE.CLASS or MODULE.CLASS.test_x. What failed or was skipped is printed after each test, and last
 'N passed, M failed'. A test that takes longer than the limit ends the process, with the place where it waits."""
 import faulthandler
-import os
 import sys
 import unittest
 
 from tests.settings import setting
-
-
-def without_rt(path):
-    """A PATH without the folders that have the toolchain's command: where a program isn't built from the sources as
-    they are, its script then says so, and proves nothing."""
-    return ":".join(
-        folder for folder in path.split(":") if not os.path.exists(os.path.join(folder, "rt"))
-    )
 
 
 class Rows(unittest.TextTestResult):
@@ -61,8 +52,6 @@ class Rows(unittest.TextTestResult):
 
 
 def main() -> int:
-    # No test proves anything.
-    os.environ["PATH"] = without_rt(os.environ["PATH"])
     faulthandler.dump_traceback_later(float(setting("limit")), exit=True)
     names, result = [f"tests.{name}" for name in sys.argv[1:]], Rows()
     unittest.defaultTestLoader.loadTestsFromNames(names).run(result)

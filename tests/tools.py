@@ -26,6 +26,14 @@ OF_SYSTEM = "/usr/lib/python3/dist-packages"
 OWN = "/usr/bin/python{}.{}".format(*sys.version_info)
 
 
+def without_rt(path: str) -> str:
+    """A PATH without the folders that have the toolchain's command: where a program isn't built from the sources as
+    they are, its script then says so, and proves nothing."""
+    return ":".join(
+        folder for folder in path.split(":") if not os.path.exists(os.path.join(folder, "rt"))
+    )
+
+
 def has_module(python: str, module: str) -> bool:
     """Whether a Python is there and can import a module."""
     if not shutil.which(python):

@@ -76,9 +76,10 @@ class Guard:
 
         def enter() -> None:
             signal.pthread_sigmask(signal.SIG_SETMASK, ())
+            # Before the limits: as many files as the workshop has open are open here, too, and may be more than those.
+            self.enter()
             limit(limits, tasks)
             control(PARENT_DEATH_SIGNAL, signal.SIGKILL)
-            self.enter()
             if os.getppid() != workshop:
                 os._exit(1)
 

@@ -3,11 +3,12 @@ takes at most 6 times as long, the fastest of up to three calls, and none ends a
 
   python3 -m tests.by_hand.growth [READER ..] [--size 1000000]
 
-It takes some ten minutes, and prints what is wrong, and last how many shapes it tried."""
+It takes some ten minutes. Of each reader it prints the shape whose time grows most and the slowest one, and what is
+wrong; last how many shapes it tried."""
 import argparse
 import sys
 
-from tests.growth import shapes_of, what_is_wrong
+from tests.growth import Measured, measured
 from tests.readers import READERS
 from tests.tools import is_installed
 
@@ -29,10 +30,18 @@ def main() -> int:
         if reader.needs and not is_installed(reader.needs):
             print(f"{reader.name}: {reader.needs} isn't installed, so it isn't tried")
             continue
-        shapes += sum(1 for _ in shapes_of(reader))
-        for line in what_is_wrong(reader, given.size, LEAST):
+        found = list(measured(reader, given.size, LEAST))
+        shapes += len(found)
+        most = max(found, key=lambda one: one.times)
+        slowest = max(found, key=lambda one: one.large)
+        print(
+            f"{reader.name}: {most.times:.1f} times ({most.shape}, {most.large:.2f} s), "
+            f"and at most {slowest.large:.2f} s ({slowest.shape})",
+            flush=True,
+        )
+        for one in filter(Measured.wrong, found):
             wrong += 1
-            print(line, flush=True)
+            print(f"WRONG: {reader.name}: {one.wrong()}", flush=True)
     print(f"{shapes} shapes, {wrong} are wrong")
     return int(wrong > 0)
 

@@ -14,7 +14,7 @@ import tempfile
 from lab.workshop import class_files
 from tests import TOP
 from tests.cases import Case, called, copied, text_in, wait_until
-from tests.running import without_rt
+from tests.tools import without_rt
 
 # Seconds; a busy machine is slow.
 LIMIT = 300

@@ -10,14 +10,16 @@ from tests.tools import need
 
 # Bytes of the smaller text, and the seconds of the larger one below which there is nothing to compare.
 SIZE, LEAST = 8_000, 0.1
+# Calls of which the fastest counts. Other programs make short calls slower by chance, and hardly all of them.
+CALLS = 12
 
 
 def quadratic(words: list[str]) -> int:
     """A reader that looks at each byte for each byte."""
     with open(words[0], "rb") as file:
         data = file.read()
-    end = time.process_time() + len(data) ** 2 / 5e9
-    while time.process_time() < end:
+    end = time.thread_time() + len(data) ** 2 / 5e9
+    while time.thread_time() < end:
         pass
     return 0
 
@@ -34,11 +36,13 @@ class Growth(Case):
             with self.subTest(reader.name):
                 if reader.needs:
                     need(self, reader.needs)
-                self.assertEqual(list(what_is_wrong(reader, SIZE, LEAST)), [])
+                self.assertEqual(list(what_is_wrong(reader, SIZE, LEAST, CALLS)), [])
 
     def test_what_is_wrong_is_found(self) -> None:
         slow = Reader("slow", quadratic, ("{file}",), (b"x 1\n",))
-        self.note("slow", next(what_is_wrong(slow, SIZE, LEAST), "").startswith("slow: one letter"))
+        self.note(
+            "slow", next(what_is_wrong(slow, SIZE, LEAST, CALLS), "").startswith("slow: one letter")
+        )
         wrong = Reader("faulty", faulty, ("{file}",), (b"x 1\n",))
-        found = [line for line in what_is_wrong(wrong, SIZE, LEAST) if "4300 digits" in line]
+        found = [line for line in what_is_wrong(wrong, SIZE, LEAST, CALLS) if "4300 digits" in line]
         self.note("faulty", len(found) > 0, found)

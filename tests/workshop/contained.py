@@ -102,7 +102,10 @@ class Contained(Case):
         if os.geteuid() == 0:
             subprocess.run(["chown", "-hR", f"{self.user}:{self.user}", self.copy], check=True)
         hidden = [os.path.join(self.folder, "home"), self.subs, self.room, os.path.dirname(RIGHT)]
-        return Sandbox(self.copy, hidden, [], self.user), unguarded(self.copy)
+        container = Sandbox(self.copy, hidden, [], self.user)
+        for number in container.files:
+            self.addCleanup(os.close, number)
+        return container, unguarded(self.copy)
 
 
 def unguarded(folder):

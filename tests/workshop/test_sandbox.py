@@ -1,5 +1,6 @@
 """The container of grading: what a program tries there fails, and each of these attacks gets through where nothing is
 around it. It needs no built program."""
+import contextlib
 import ctypes
 import os
 import shutil
@@ -9,7 +10,7 @@ from unittest import mock
 
 from lab.workshop.compiling import compiled, unpack
 from lab.workshop.findings import Fault
-from lab.workshop.guard import Limits
+from lab.workshop.guard import OPEN_FILES, Limits
 from lab.workshop.leftovers import end_all, shut
 from lab.workshop.processes import Process
 from lab.workshop.sandbox import Sandbox
@@ -248,6 +249,14 @@ class Sandboxed(Contained):
 
     def file_of(self, data):
         return open(self.file("classes", data), "rb")
+
+    def test_many_open_files(self):
+        """A container begins however many files the workshop has open: three for each program of a large network."""
+        with contextlib.ExitStack() as stack:
+            for _ in range(OPEN_FILES):
+                stack.enter_context(open(os.devnull, "rb"))
+            found = got(done(self.guards()[0], program({"reads": f"open({NODE!r}).read()"})))
+        self.same("it has read its own", found, {"reads": "'own'"})
 
     def test_where_it_cant_be(self):
         """One sentence, which says what to do. Where it isn't installed: test_grade.py."""
