@@ -14,7 +14,7 @@ TURNED = {one: other for pair in PAIRS for one, other in (pair, pair[::-1])}
 LOOKS = re.compile(
     r"(?i)(^|_)(left|top|right|bottom|width|height|wide|high|gap|margin|size|font|colou?r|hue|fill|stroke|radius|dash"
     r"|opacity|x|y|x1|x2|y1|y2|dx|dy|r|room|scale|over|row|column|seconds|timeout|interval|poll_interval|moment|moments"
-    r"|look|look_at_files|grace|sleep|limit|until|bold|ink|paper|spot|places?)$"
+    r"|look|look_at_files|grace|sleep|limit|until|bold|ink|paper|spot|places?|level)$"
 )
 # Modules that draw: there a number counts only where it is an index, or is counted or compared with.
 DRAWING = re.compile(r"lab/(pictures/|studio/drawn)")
@@ -32,20 +32,32 @@ class Change:
     line: int
     begin: int
     end: int
-    old: str
     new: str
+    # The lines of the place as they are, and as they become.
+    before: str
+    after: str
 
     @property
     def name(self) -> str:
-        return f"{self.file}:{self.line}: `{shortened(self.old)}` becomes `{shortened(self.new)}`"
+        """It says what is changed, whatever line that stands in."""
+        return f"{self.file}: `{self.before}` becomes `{self.after}`"
+
+    @property
+    def place(self) -> str:
+        return f"{self.file}:{self.line}"
 
     def applied(self, data: bytes) -> bytes:
         return data[: self.begin] + self.new.encode() + data[self.end :]
 
 
-def shortened(words: str) -> str:
-    words = " ".join(words.split())
-    return words if len(words) <= 100 else f"{words[:97]}.."
+def changed(file: str, data: bytes, line: int, begin: int, end: int, new: str) -> Change:
+    """What puts a text in a place of a file, with the lines around it."""
+    first, last = data.rfind(b"\n", 0, begin) + 1, data.find(b"\n", end)
+    before, old, after = (
+        part.decode() for part in (data[first:begin], data[begin:end], data[end:last])
+    )
+    lines = (" ".join(text.split()) for text in (before + old + after, before + new + after))
+    return Change(file, line, begin, end, new, *lines)
 
 
 class Changes(ast.NodeVisitor):
@@ -59,14 +71,14 @@ class Changes(ast.NodeVisitor):
         self.found: list[Change] = []
         # The hint of the function around, whether a number there counts, and whether the place is of looks.
         self.hint = ""
-        self.counts = not DRAWING.search(file)
+        self.draws = bool(DRAWING.search(file))
+        self.counts = not self.draws
         self.looks = False
 
     def add(self, node: ast.expr, new: str) -> None:
         begin = self.starts[node.lineno - 1] + node.col_offset
         end = self.starts[(node.end_lineno or node.lineno) - 1] + (node.end_col_offset or 0)
-        old = self.data[begin:end].decode()
-        self.found.append(Change(self.file, node.lineno, begin, end, old, new))
+        self.found.append(changed(self.file, self.data, node.lineno, begin, end, new))
 
     def inside(self, node: ast.AST, counts: bool | None = None, looks: bool | None = None) -> None:
         """What is within a node, where numbers count or not, or are of looks."""
@@ -108,6 +120,10 @@ class Changes(ast.NodeVisitor):
         name = ast.unparse(node.func).rpartition(".")[2]
         self.inside(node, self.counts or name in COUNTING, self.looks or bool(LOOKS.search(name)))
 
+    def visit_BinOp(self, node: ast.BinOp) -> None:
+        """In a drawing, what is added to a size is one."""
+        self.inside(node, looks=self.looks or self.is_of_looks(node.left, node.right))
+
     def visit_Subscript(self, node: ast.Subscript) -> None:
         self.visit(node.value)
         before, self.counts = self.counts, True
@@ -118,7 +134,13 @@ class Changes(ast.NodeVisitor):
         if len(node.ops) == 1 and type(node.ops[0]) in TURNED:
             turned = ast.Compare(node.left, [TURNED[type(node.ops[0])]()], node.comparators)
             self.add(node, f"({ast.unparse(turned)})")
-        self.inside(node, counts=True)
+        looks = self.is_of_looks(node.left, *node.comparators)
+        self.inside(node, counts=True, looks=self.looks or looks)
+
+    def is_of_looks(self, *sides: ast.expr) -> bool:
+        """Whether one of these is a size, in a module that draws."""
+        names = (ast.unparse(side).rpartition(".")[2] for side in sides)
+        return self.draws and any(map(LOOKS.search, names))
 
     def visit_Constant(self, node: ast.Constant) -> None:
         if type(node.value) is int and self.counts and not self.looks:
