@@ -20,7 +20,6 @@ from dataclasses import dataclass, field
 
 from tests import TOP
 from tests.by_hand.changes import Change
-from tests.running import without_rt
 from tests.settings import BUILT, NAMED
 
 # Of a test: what takes so many times as long as before, and so many seconds, is ended.
@@ -243,7 +242,6 @@ def processor_seconds() -> float:
 
 def run(names: list[str], limits: dict[str, float], stops: bool, rows: str) -> None:
     """Runs tests, and writes a row for each, up to the first that fails if it stops there."""
-    os.environ["PATH"] = without_rt(os.environ["PATH"])
     faulthandler.dump_traceback_later(max(limits.values(), default=0) + MORE_SECONDS, exit=True)
     reached = Reached()
     suite = unittest.defaultTestLoader.loadTestsFromNames([f"tests.{name}" for name in names])

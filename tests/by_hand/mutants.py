@@ -4,7 +4,7 @@ whether that is noticed.
   python3 -m tests.by_hand.mutants nodes
       The right nodes of the workshop, minutes with the built programs: a change that no command of the pages shows is
       played in many runs, and printed. There it has to be right, too.
-  python3 -m tests.by_hand.mutants lab [--seed 2026] [--count 300] [--package NAME ..] [--jobs 2]
+  python3 -m tests.by_hand.mutants lab [--seed 2026] [--count 300] [--package NAME ..] [--jobs 2] [--minutes 600]
       lab/: so many changes by chance, as many of each package as its share of lines. All tests run once in a copy of
       the tree, where they say which of these places they reach. Then each change is made in a copy, and the tests that
       reach it run up to the first that fails twice: those that take least come first, up to a minute of them.
@@ -23,6 +23,7 @@ import shutil
 import signal
 import sys
 import tempfile
+import time
 from collections import Counter, defaultdict
 from collections.abc import Iterator
 
@@ -61,7 +62,7 @@ def shares(lines: dict[str, int], count: int) -> dict[str, int]:
 
 
 def drawn(seed: str, count: int, packages: list[str]) -> list[Change]:
-    """The changes to be tried, package by package."""
+    """The changes to be tried, in an order by chance: what is tried first is a fair sample, too."""
     lines: Counter[str] = Counter()
     changes: dict[str, list[Change]] = defaultdict(list)
     for file in files_of_lab():
@@ -69,7 +70,7 @@ def drawn(seed: str, count: int, packages: list[str]) -> list[Change]:
             data = text.read()
         lines[package_of(file)] += data.count(b"\n")
         changes[package_of(file)] += changes_of(file, data)
-    return [
+    found = [
         change
         for package, share in shares(lines, count).items()
         if not packages or package in packages
@@ -77,6 +78,8 @@ def drawn(seed: str, count: int, packages: list[str]) -> list[Change]:
             changes[package], min(share, len(changes[package]))
         )
     ]
+    random.Random(seed).shuffle(found)
+    return found
 
 
 def equals() -> set[str]:
@@ -89,6 +92,7 @@ def equals() -> set[str]:
 
 def try_lab(given: argparse.Namespace) -> None:
     """Tries the changes, and prints what came out."""
+    until = time.monotonic() + 60 * given.minutes
     changes, known = drawn(given.seed, given.count, given.package), equals()
     if given.list:
         print("\n".join(f"{change.place} {change.name}" for change in changes))
@@ -103,11 +107,12 @@ def try_lab(given: argparse.Namespace) -> None:
 
     with tempfile.TemporaryDirectory(prefix="mutants-") as room:
         os.chmod(room, 0o755)
-        Trial(room, given.jobs, changes, given.tests).run(tell)
-    print(f"seed {given.seed}")
-    for package, kinds in found.items():
+        Trial(room, given.jobs, changes, given.tests).run(tell, until)
+    whole = sum(found.values(), Counter[str]())
+    print(f"seed {given.seed}: {whole.total()} of {len(changes)} changes were tried")
+    for package, kinds in sorted(found.items()):
         print(f"{package}: {words_of(kinds)}")
-    print(f"all: {words_of(sum(found.values(), Counter()))}")
+    print(f"all: {words_of(whole)}")
 
 
 def words_of(found: Counter[str]) -> str:
@@ -191,6 +196,7 @@ def main() -> None:
     words.add_argument("--package", action="append", default=[])
     words.add_argument("--tests", action="append", default=[], metavar="MODULE")
     words.add_argument("--jobs", type=int, default=2)
+    words.add_argument("--minutes", type=float, default=600)
     words.add_argument("--list", action="store_true")
     given = words.parse_args()
     # What is ended ends what it has started.

@@ -97,12 +97,13 @@ class Trial:
                 pool.shutdown(wait=False, cancel_futures=True)
                 raise
 
-    def run(self, tell: Callable[[Change, Outcome], None]) -> None:
-        """Tries all changes, and tells what came of each."""
+    def run(self, tell: Callable[[Change, Outcome], None], until: float) -> None:
+        """Tries the changes, and tells what came of each; none is begun after some time."""
         self.look()
 
         def tried(own: Copy, number: int) -> None:
-            tell(self.changes[number], self.outcome(own, number))
+            if time.monotonic() < until:
+                tell(self.changes[number], self.outcome(own, number))
 
         self.in_copies(tried, range(len(self.changes)))
 
