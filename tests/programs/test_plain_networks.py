@@ -2,10 +2,9 @@
 plans by hand); and networks by chance, the same in every run."""
 import itertools
 import random
-import re
 
 from lab.definitions.colours import first_colours, merge, plan_text, three
-from lab.definitions.rounds import LAST_COLOUR, Rounds, rounds_text
+from lab.definitions.rounds import LAST_COLOUR, Rounds
 from lab.networks.kinds import KINDS
 from lab.networks.network_text import network_of
 from lab.networks.texts import plain_text
@@ -73,8 +72,21 @@ def reached(net, v):
 
 
 def payloads_of(net):
-    """How many payloads the rounds send."""
-    return len(re.findall(rb"^\d+ put ", rounds_text(net), re.M))
+    """How many payloads the rounds send, without their nodes. Each edge has a greeting both ways, a label, and ten colours
+    for the child. In the merge of a forest each node chooses once, and tells it by its edges of the forests so far; in
+    the last step of a merge nobody tells it any more."""
+    forest_of = {}
+    for v in net.vertices:
+        higher = [w for w in net.neighbours[v] if net.identifiers[w] > net.identifiers[v]]
+        for f, w in enumerate(sorted(higher, key=net.identifiers.get)):
+            forest_of[v, w] = forest_of[w, v] = f
+    payloads, merged = 13 * len(net.edges), first_colours(net)
+    for f in range(net.forest_count):
+        colours = three(net, f)
+        tell = [v for v in net.vertices if (colours[v], merged[v]) != (2, net.span)]
+        payloads += sum(forest_of[v, w] <= f for v in tell for w in net.neighbours[v])
+        merged = merge(net, f, merged)
+    return payloads
 
 
 def pairs_of(nodes):
@@ -111,6 +123,8 @@ class Definitions(Case):
             found = [of_pulse[LAST_COLOUR] for of_pulse in rounds.colours]
             self.same(f"network {number}: three colours of each forest", found, threes)
             self.same(f"network {number}: after each merge", rounds.merged, merged)
+            payloads = sum(len(pulse.puts) for pulse in rounds.pulses)
+            self.same(f"network {number}: payloads", payloads, payloads_of(net))
 
     @needs("forestplan")
     def test_plain_and_plan(self):

@@ -4,7 +4,10 @@ import itertools
 import math
 import random
 
-from lab.networks.network_text import network_of
+from lab.networks import tables
+from lab.networks.network_text import MAX_NODES, network_of
+from lab.networks.stated import Stated
+from lab.wrong import Wrong
 from tests.cases import Case, called, example, said_by
 from tests.programs.test_own_networks import call, edges_of
 from tests.settings import PLAN
@@ -103,8 +106,20 @@ class Sites(Case):
         self.same("a title of one table", (done[0], b"\nb 1 6\n" in done[1]), (0, True))
         done = call("read", *words, "--columns", "site=Ort,channel=Kanal")
         self.refusal("of none", done, 1, b"no table here has Kanal as its column channel")
+        for title in ("O\nrt", 'O"r\nt'):
+            done = call("read", *words, "--columns", f"site={title}")
+            self.refusal(f"a title {title!r}", done, 2, b"error: argument --columns: ")
+            self.same(f"a title {title!r}, lines", done[2].count(b"\n"), 2)
         done = call("read", "path3", "--no-heading")
         self.refusal("no table", done, 1, b"--no-heading: no table is read here")
+
+    def test_the_most_sites(self):
+        """As many as a network has nodes are read, and the first one above is refused by its line."""
+        sites = [f"s{number}" for number in range(1, MAX_NODES + 2)]
+        with self.assertRaisesRegex(Wrong, f"t line {MAX_NODES + 2}: more than {MAX_NODES} sites"):
+            tables.Sites("\n".join(["site", *sites]), "t", Stated())
+        found = tables.Sites("\n".join(["site", *sites[:-1]]), "t", Stated())
+        self.assertEqual(list(found.lines), sites[:-1])
 
     def test_known_sites(self):
         """Each node of a file has to be a site, whatever form the file has."""
