@@ -27,7 +27,7 @@ plan, its rounds, runs without a clock, and what goes wrong without a rule.
 The page comes from this command, which answers this machine alone and needs no other.
 Ctrl-C ends it, and all that it has started. If the proved programs aren't built yet, it
 begins at once with Python's definitions, says so on the page, and has a button there
-that proves and builds them.
+that proves and builds them. Only this button needs the Rattle kit.
 """
 MORE_HELP = f"""\
 NETWORK is a file in any form that `forestlab network read` reads, - for standard input, or

@@ -559,6 +559,14 @@ class Unbuilt(Answers):
         self.enterContext(mock.patch.dict(os.environ, PATH=path))
         super().setUp()
 
+    def test_what_needs_the_kit(self):
+        """The page and the help say that proving needs the kit."""
+        page = " ".join(text_in("lab", "studio", "page", "page.html").split())
+        button = re.search(r'<button id="begin".*?</button>', page)[0]
+        self.note("the button", "needs the Rattle kit" in button, button)
+        said = said_by("studio", "--help")[1]
+        self.note("the help", "Only this button needs the Rattle kit." in said, said)
+
     def test_build(self):
         self.note("it isn't said to be proved", self.found("hello")["proved"] is False)
         self.refuses("no threads", "aren't built", "run", network=TRIANGLE, how="threads")
