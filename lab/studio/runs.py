@@ -2,6 +2,7 @@
 made step by step."""
 import re
 
+from lab import processors
 from lab.definitions.nodes import Colouring
 from lab.definitions.programs import program_words
 from lab.pictures.program_rounds import is_own, least_wires, rounds_of
@@ -93,7 +94,8 @@ def by_threads(asked, program):
     words = (
         ["transcript"] if program is Colouring else ["run", "--transcript", *program_words(program)]
     )
-    workers, capacity = asked["workers"], asked["capacity"]
+    workers = processors.workers(asked["workers"])
+    capacity = asked["capacity"]
     return text_from(
         name, [*words, f"--workers={workers}", f"--capacity={capacity}"], asked["network"]
     )

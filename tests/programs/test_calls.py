@@ -5,7 +5,8 @@ import base64
 import json
 from unittest import mock
 
-from lab.studio import building, limits
+from lab.definitions.nodes import Colouring
+from lab.studio import building, limits, runs
 from lab.studio.asked import OPENED
 from lab.studio.calls import CALLS
 from lab.studio.fields import object_of
@@ -151,6 +152,21 @@ class Calls(FilesCase):
                 if isinstance(value, (str, list)):
                     found = self.outcome(name, text_of(asked | {field: value + value}))
                     self.is_no_fault(f"{name} {field} doubled", found)
+
+    def test_processors(self):
+        """A run by threads asks for as many workers as the page does, but no more than there are processors."""
+        asked = {"workers": 4, "capacity": 2, "network": EDGE}
+        for usable, wanted in ((1, 1), (3, 3), (16, 4)):
+            with (
+                mock.patch.dict(OPENED, {"is_proved": True}),
+                mock.patch("os.sched_getaffinity", return_value=range(usable)),
+                mock.patch.object(runs, "text_from") as called,
+            ):
+                runs.by_threads(asked, Colouring)
+            words = called.call_args.args[1]
+            self.same(
+                f"{usable} processors", words, ["transcript", f"--workers={wanted}", "--capacity=2"]
+            )
 
     def test_unknown(self):
         """A field that a call doesn't know is named, so that none is forgotten by a slip of the pen."""

@@ -12,6 +12,7 @@ import random
 import sys
 from concurrent.futures import ProcessPoolExecutor
 from operator import itemgetter
+from unittest import mock
 from xml.etree import ElementTree
 
 from lab import version
@@ -305,6 +306,13 @@ class InPython(Case):
             rows.sort(key=itemgetter(0))
             lines += [f"pulse {at} {phase}", *(f"{v} {words}" for v, words in rows)]
         self.same("the rounds", lines, got.text.splitlines()[1:])
+
+    def test_workers(self):
+        """As many as are asked for, but no more than there are processors."""
+        for usable, asked, wanted in ((1, 4, "1"), (2, 64, "2"), (8, 3, "3"), (64, 64, "64")):
+            with mock.patch("os.sched_getaffinity", return_value=range(usable)):
+                got = forestplan._words_of(asked, 0)
+            self.same(f"{asked} workers, {usable} processors", got[-1], wanted)
 
     @needs("bin/forestplan", "bin/forestplay")
     def test_transcript(self):

@@ -167,7 +167,8 @@ def plan(
     `bars` is a dict with the channels barred at a node, and `licence` has the channels that all may use, in order of
     preference; without it channels count from 1. In each of so many `passes` the nodes choose their channels anew,
     which mostly takes fewer channels, and never more. With `workers`, 1 to 64, it is found by that many
-    threads without a clock, else on one thread, much sooner: the plan is the same.
+    threads without a clock, but by no more than this process may use processors; else on one thread, much
+    sooner. The plan is the same.
 
     >>> plan({"Ulm": ["Aue", "Hof"], "Aue": ["Hof"], "Hof": []}, licence=[36, 40, 44])
     {'Ulm': 40, 'Aue': 44, 'Hof': 36}
@@ -233,12 +234,13 @@ def rounds(G: Any, bars: Bars = None, licence: Channels = None) -> Rounds:
 
 def transcript(G: Any, bars: Bars = None, workers: int = 2, licence: Channels = None) -> Transcript:
     """A run without a clock, by worker threads: all events, an `Entry` each, in an order in which they were possible.
-    Two calls differ, as runs do, unless there is one worker.
+    There are as many threads as `workers` says, 1 to 64, but no more than this process may use processors. Two calls
+    differ, as runs do, unless there is one worker.
 
     >>> transcript({"Ulm": ["Aue"], "Aue": []}, workers=1)[0]
     Entry(stamp=1, node='Ulm', kind='put', other='Aue', wire='payload 0 hello 1')
     """
-    words = ["transcript", "--workers", str(whole(workers, "workers", 1, MAX_WORKERS))]
+    words = ["transcript", *_workers(workers)]
     found = Transcript()
     found.network, order, found.text = _asked(["forestplan", *words], G, bars, licence)
     for line in found.text.splitlines()[1:]:
@@ -258,9 +260,15 @@ def colour_map(channels: int = 8) -> Any:
     return ListedColormap([hue(channel + 1) for channel in range(channels)], "forestplan")
 
 
+def _workers(workers):
+    """The words that ask for so many worker threads, or for fewer where there are fewer processors."""
+    asked = whole(workers, "workers", 1, MAX_WORKERS)
+    return ["--workers", str(of_lab("processors").workers(asked))]
+
+
 def _words_of(workers, passes):
     """The program and its words that find a plan."""
-    more = [] if workers is None else ["--workers", str(whole(workers, "workers", 1, MAX_WORKERS))]
+    more = [] if workers is None else _workers(workers)
     command = ["forestplan", "plan" if more else "plain"]
     if many := whole(passes, "passes", 0, MAX_PASSES):
         command = ["forestplay", "run" if more else "ends"]
