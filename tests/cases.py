@@ -59,7 +59,35 @@ def places() -> str:
     return "".join(traceback.format_list(own)).rstrip()
 
 
-class Case(unittest.TestCase):
+@contextlib.contextmanager
+def working_in(folder):
+    """What `contextlib.chdir` is from Python 3.11 on."""
+    before = os.getcwd()
+    os.chdir(folder)
+    try:
+        yield
+    finally:
+        os.chdir(before)
+
+
+class Contexts(unittest.TestCase):
+    """What `unittest` has from Python 3.11 on."""
+
+    if sys.version_info < (3, 11):
+
+        def enterContext(self, context):
+            entered = context.__enter__()
+            self.addCleanup(context.__exit__, None, None, None)
+            return entered
+
+        @classmethod
+        def enterClassContext(cls, context):
+            entered = context.__enter__()
+            cls.addClassCleanup(context.__exit__, None, None, None)
+            return entered
+
+
+class Case(Contexts):
     """A test is one row, or has rows: each is a `subTest`, and one that fails doesn't stop those after it."""
 
     # Whether a row that is good isn't counted.

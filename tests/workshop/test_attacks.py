@@ -1,6 +1,5 @@
 """What is submitted tries to get points that it hasn't earned, by another way than from within its programs
 (sandbox.py): by the folder in which grading is called, by the words of a command, by what it prints, by its files."""
-import contextlib
 import os
 import shutil
 import subprocess
@@ -8,7 +7,7 @@ from random import Random
 
 from lab.workshop.cases import network_of
 from lab.workshop.submissions import part_of
-from tests.cases import text_in
+from tests.cases import text_in, working_in
 from tests.tools import need, needs
 from tests.workshop.base import ALPHA, JAVA, call
 from tests.workshop.test_forgers import FORGED
@@ -33,7 +32,7 @@ class Attacks(Submitted):
         names = {"two": 2, "path3": 3, "random6": 6, "most4": 4}
         for name in names:
             self.file(os.path.join(self.here, name), "p edge 1 0\n")
-        self.enterContext(contextlib.chdir(self.here))
+        self.enterContext(working_in(self.here))
         for name, nodes in names.items():
             self.same(name, network_of(name, Random(1)).nodes, nodes)
             self.same(f"./{name}", network_of(f"./{name}", Random(1)).nodes, 1)
