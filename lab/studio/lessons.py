@@ -1,5 +1,5 @@
-"""Where each lesson of docs/learn/TUTORIAL.md begins in the studio: the fragment of the address, what to see there, and
-an exercise. Its title and its question are those of the page."""
+"""Where each lesson of docs/learn begins in the studio: the fragment of the address, what to see there, an exercise. Its
+title, its question and its text are those of the lesson's page."""
 import os
 import re
 
@@ -83,26 +83,37 @@ def numbered(page, title):
     return {int(number): words for number, words in items}
 
 
+def lesson_of(number):
+    """(title, question, text) of a lesson's page. What is outside its two rules speaks of the page: what one can do
+    afterwards and without the kit, and where to go on. Links to lessons lead to those of the studio.
+    """
+    head, text, _ = page_of(f"LESSON_{number}.md").split("\n\n---\n\n")
+    title, ask = re.match(r"# \d\. ([^\n]*)\n\n\*(.*?)\*", head, re.S).groups()
+    return title, ask, re.sub(r"\]\(LESSON_(\d)\.md[^)]*\)", r"](#\1-)", text)
+
+
 def lessons():
     """All lessons, as the studio's page has them: with the whole text, in Markdown, a hint and an answer."""
-    page = page_of("TUTORIAL.md")
-    heads = re.findall(r"^## (\d)\. ([^\n]*)\n\n\*(.*?)\*(.*?)(?=^## )", page, re.M | re.S)
+    page = page_of("ANSWERS.md")
     hints, answers = numbered(page, "Hints"), numbered(page, "Answers")
-    return [
-        {
-            "number": int(number),
-            "title": title,
-            "ask": ask,
-            "open": place,
-            "see": see,
-            "do": do,
-            "text": text.partition("\n\n")[2],
-            "hint": hints[int(number)],
-            "answer": answers[int(number)],
-            "questions": QUESTIONS.get(int(number), []),
-        }
-        for (number, title, ask, text), (place, see, do) in zip(heads, PLACES, strict=True)
-    ]
+    found = []
+    for number, (place, see, do) in enumerate(PLACES, 1):
+        title, ask, text = lesson_of(number)
+        found.append(
+            {
+                "number": number,
+                "title": title,
+                "ask": ask,
+                "open": place,
+                "see": see,
+                "do": do,
+                "text": text,
+                "hint": hints[number],
+                "answer": answers[number],
+                "questions": QUESTIONS.get(number, []),
+            }
+        )
+    return found
 
 
 def lecture():

@@ -70,7 +70,7 @@ SAID_OF_LIMITS = {
         " workers, {MAX_PASSES} passes, {READ_LIMIT:,} reads",
         "and B at most {MAX_BARS:,}.",
     ),
-    "docs/learn/TUTORIAL.md": ("every network of up to {MAX_NODES:,} nodes",),
+    "docs/learn/LESSON_6.md": ("every network of up to {MAX_NODES:,} nodes",),
     "docs/work/LOOKUP.md": ("{MAX_DEGREE:,} + {MAX_BARS:,}, below `COLOURS`, {MAX_CHANNEL:,}",),
     "lab/networks/network_text.py": assigned(*OF_NETWORKS, "MAX_DEGREE"),
     "lab/definitions/programs.py": assigned("MAX_PASSES"),

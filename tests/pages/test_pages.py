@@ -1,6 +1,6 @@
 """Checks what the pages README.md and docs/ show and name. Their commands are run by tests/programs/test_install.py.
 
-- Each table of docs/learn/TUTORIAL.md is worked out from the definitions (lab/definitions/), not from the program.
+- Each table of the lessons (docs/learn) is worked out from the definitions (lab/definitions/), not from the program.
 - Each excerpt of code, a fence whose first line names its file, has its lines in that file, in this order; a comment
   `..` means lines that are left out.
 - No line of a page is wider than 150 columns.
@@ -16,6 +16,7 @@ from lab.definitions.colours import colours
 from lab.definitions.nodes import DROPPED, NetState, last_pulse, text_of_wire
 from lab.definitions.rounds import Rounds
 from lab.networks.network_text import network_of
+from lab.studio.lessons import lessons
 from tests import TOP
 from tests.cases import FilesCase, contents, text_in
 
@@ -25,6 +26,7 @@ PAGES = ["README.md"] + sorted(
 )
 # Whose links are looked at, and not the names in them.
 OTHER_PAGES = ["CHANGELOG.md", "CONTRIBUTING.md", "bench/README.md"]
+LESSONS = [f"docs/learn/LESSON_{number}.md" for number in range(1, 8)] + ["docs/learn/BY_HAND.md"]
 WIDEST = 150
 
 
@@ -228,13 +230,31 @@ class Pages(FilesCase):
 
     def test_tutorial(self):
         count = 0
-        for number, title, rows in tables_of(lines_of("docs/learn/TUTORIAL.md")):
-            wanted = tutorial_table(title, rows)
-            if wanted is not None:
-                count += 1
-                got = [row[1 : 1 + len(wanted[0])] for row in rows[:1] + rows[2:]]
-                self.note(f"docs/learn/TUTORIAL.md:{number}", got == wanted, f"wanted {wanted}")
+        for page in LESSONS:
+            for number, title, rows in tables_of(lines_of(page)):
+                wanted = tutorial_table(title, rows)
+                if wanted is not None:
+                    count += 1
+                    got = [row[1 : 1 + len(wanted[0])] for row in rows[:1] + rows[2:]]
+                    self.note(f"{page}:{number}", got == wanted, f"wanted {wanted}")
         self.note("tables of the tutorial", count == 4, count)
+
+    def test_lessons(self):
+        """The tutorial lists the lessons with their titles and minutes. Each says first what its readers can do
+        afterwards, and what works without the kit; the studio has the text between its rules."""
+        listed = text_in("docs/learn/TUTORIAL.md")
+        for page in LESSONS[:-1]:
+            head, text, foot = text_in(page).split("\n\n---\n\n")
+            title, minutes, exercise = re.match(
+                r"# (\d\. .*)\n\n\*[^*]*\*\s*\((\d+) minutes; the exercise (\d+);", head
+            ).groups()
+            row = f"| [{title}]({os.path.basename(page)}) | {minutes} | {exercise} |"
+            self.note(f"{page}: its row", row in listed, row)
+            self.note(f"{page}: afterwards", "\n\nAfterwards you can " in head, head)
+            self.note(f"{page}: the kit", "\n\nWithout the kit: " in head, head)
+            self.note(f"{page}: its exercise", f"**Exercise {title[0]}.**" in text, text[-200:])
+            self.note(f"{page}: answers", "(ANSWERS.md#answers)" in foot, foot)
+        self.same("lessons of the studio", [one["number"] for one in lessons()], [*range(1, 8)])
 
     def test_excerpts(self):
         """Excerpts leave lines out, so their lines are looked for one after another."""

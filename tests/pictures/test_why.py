@@ -1,6 +1,6 @@
 """Tests of `forestlab picture why`.
 
-The channel of the triangle's node 2 is worked by hand, as in docs/learn/TUTORIAL.md. Of other networks: a colour stays
+The channel of the triangle's node 2 is worked by hand, as in docs/learn/LESSON_4.md. Of other networks: a colour stays
 the same if identifiers on which it is said not to depend change."""
 import random
 

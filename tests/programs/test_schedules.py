@@ -118,7 +118,7 @@ def explored(*words):
 
 # (network, rules, the fault of `forestplay events` on the list without them, or None): what happens to two nodes is
 # worked by hand. Without `early` the list is one that the program can play, since it keeps what comes early apart; a
-# wire out of turn is one that it can't take. What goes wrong, after how many events, is on TUTORIAL and GALLERY.
+# wire out of turn is one that it can't take. What goes wrong, after how many events, is on lesson 6 and GALLERY.
 BROKEN = [
     ("two", "safes", "NotReady"),
     ("two", "early", None),
