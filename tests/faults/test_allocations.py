@@ -1,5 +1,5 @@
 """Counts allocations: running a node program takes memory for the nodes, and none for its pulses; nor does a node under
-the synchroniser, but as it starts, nor a worker that runs such nodes. And links take memory for their capacity.
+the synchroniser, but as it starts, nor a worker that runs such nodes. And links take memory for one wire or for two.
 
 No contract says that: a list in working space can grow without an allocator in its call's hands. So the counts of two
 runs that differ in their pulses alone are compared; and the bytes of runs that differ in their capacity alone."""
@@ -44,7 +44,9 @@ class Allocations(Case):
             self.same(f"{test}: allocations of 1 pulse and 50", one, fifty)
 
     def test_capacity(self):
-        """Each direction of a link takes the same memory for each wire of the capacity. No node is looked at."""
+        """Each direction of a link takes the same memory more with a capacity of 2 than with 1, and with any greater
+        capacity what it takes with 2, since no link ever holds more than two wires. No node is looked at.
+        """
         for words in RUNS:
             sizes = set()
             for directions, network in ((2, text(EDGE)), (6, text(TRIANGLE))):
@@ -59,13 +61,15 @@ class Allocations(Case):
                     len({calls for calls, _ in asked}),
                     1,
                 )
-                sizes |= {
-                    (more - asked[0][1]) / (directions * (capacity - 1))
-                    for capacity, (_, more) in zip(CAPACITIES, asked)
-                    if capacity > 1
-                }
+                one, *others = [size for _, size in asked]
+                self.same(
+                    f"{words[1]}: memory of {CAPACITIES[1:]} by {directions} directions",
+                    len(set(others)),
+                    1,
+                )
+                sizes.add((others[0] - one) / directions)
             self.note(
-                f"{words[1]}: memory of each wire in a direction",
+                f"{words[1]}: memory of the second wire in a direction",
                 len(sizes) == 1 and min(sizes) > 0,
                 sizes,
             )

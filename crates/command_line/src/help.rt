@@ -140,8 +140,9 @@ for each other use up their turns.
 
 Use no more workers than the machine has processors. More workers are not faster
 on a small network: there is too little to do at once, and they wait for each
-other. A link never holds more than two wires, so a capacity above 2 takes memory
-and buys nothing; with a capacity of 1 some wires have to wait.
+other. A link never holds more than two wires, so links are made with room for
+two at most, and a capacity above 2 has no effect; with a capacity of 1 some wires
+have to wait.
 
 A run grows with its rounds. With D as the greatest number of neighbours of a
 vertex, B as the greatest number of its barred channels, and U as the greatest
@@ -231,7 +232,7 @@ Example: where the run leads
 
 pub const WORKERS: &'static str = "How many threads run the nodes, 1 to 64";
 
-pub const CAPACITY: &'static str = "Room of a link, 1 to 64 wires; 2 are enough";
+pub const CAPACITY: &'static str = "Room of a link, 1 to 64 wires; above 2 it has no effect";
 
 pub const TURNS: &'static str = "How often a worker looks for a node";
 

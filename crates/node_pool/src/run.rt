@@ -1,6 +1,6 @@
 //! A run of workers, from a network to its outcome.
 
-ghost use Rattle.std.specs.Prelude.{◌≡◌, ◌≢◌, ◌↔◌, IfErr, IfOk, IsTrue, Result, Err, map};
+ghost use Rattle.std.specs.Prelude.{◌≡◌, ◌≢◌, ◌↔◌, IfErr, IfOk, IsTrue, Result, Err, map, min};
 ghost use Rattle.wired_nodes.specs.Tables.{table_of};
 ghost use Rattle.outcomes.specs.Outcome.{IsOutcome};
 ghost use Rattle.run_options.specs.declared.fault.PoolFault.TheVariants.{BadOptions, StampFull};
@@ -50,7 +50,7 @@ fn run_and_gather<
     requires observed { O.observes net.now }
     requires tables { J.tables ≡ tables_of (rows_of made.ends.items) }
     requires links { J.links ≡ map table_of made.links.items }
-    requires made { AreMade net.now options.capacity made.links.items (rows_of made.ends.items) }
+    requires made { AreMade net.now (min options.capacity 2) made.links.items (rows_of made.ends.items) }
     requires options { AreInRange options }
     requires transcript { J.transcript ≡ options.transcript }
     ensures outcome { IfOk result
@@ -87,13 +87,15 @@ pub fn run_observed<P: NodeProgram, G: Gate + Sync, O: Observer + Sync, R: Threa
     if !are_in_range(options) {
         return Err(PoolFault::BadOptions);
     }
-    let Ok(made) = make_links::<P>(alloc, net, options.capacity as usize) else {
+    // More room than for two wires would never be used (the law `outcomes_hold_at_most_two` of `outcomes`).
+    let Ok(made) = make_links::<P>(alloc, net, options.capacity.min(2) as usize) else {
         return Err(PoolFault::Memory);
     };
     Ok(run_and_gather::<Brand, P, G, O, R>(rt, alloc, net, options, gate, observer, made)?)
 }
 
-/// Runs all nodes of a network asynchronously, on worker threads with links between the nodes.
+/// Runs all nodes of a network asynchronously, on worker threads with links between the nodes. A link has room for
+/// `options.capacity` wires, or for two if that is less, since none ever holds more.
 ///
 /// At the start worker (v - 1) mod workers has node v, ascending. Each worker looks for a node at most `options.turns`
 /// times, in its own deque, or else in the others' deques. If it finds one it calls `gate.enter`, makes one turn of

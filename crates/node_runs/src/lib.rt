@@ -6,7 +6,7 @@
 //! functions, and lets `outcomes` gather what they leave.
 //!
 //! ```text
-//! let made = make_links::<P>(alloc, &network, options.capacity as usize)?;
+//! let made = make_links::<P>(alloc, &network, options.capacity.min(2) as usize)?;
 //! let ran = start_and_run::<J, P, OpenGate, _>(&rt, alloc, &network, options, &OpenGate, made)?;
 //! ```
 //!

@@ -1,6 +1,6 @@
 //! A run of nodes by workers.
 
-ghost use Rattle.std.specs.Prelude.{◌≡◌, ◌≢◌, ◌≤◌, All, IfOk, Some, map, reverse};
+ghost use Rattle.std.specs.Prelude.{◌≡◌, ◌≢◌, ◌≤◌, All, IfOk, Some, map, min, reverse};
 ghost use Rattle.interference.specs.Net.{vertices};
 ghost use Rattle.run_options.specs.Ranges.{AreInRange};
 ghost use Rattle.wired_nodes.specs.declared.refused.TurnRefused.TheVariants.{Memory};
@@ -91,7 +91,7 @@ pub fn start_and_run<
     requires observed { O.observes net.now }
     requires tables { J.tables ≡ tables_of (rows_of made.ends.items) }
     requires links { J.links ≡ map table_of made.links.items }
-    requires made { AreMade net.now options.capacity made.links.items (rows_of made.ends.items) }
+    requires made { AreMade net.now (min options.capacity 2) made.links.items (rows_of made.ends.items) }
     requires options { AreInRange options }
     requires transcript { J.transcript ≡ options.transcript }
     ensures order { IfOk result (λ ran. map (λ b. b.value.vertex) ran.nodes.items ≡ vertices J.net) }
