@@ -1,5 +1,5 @@
-"""Where each lesson of docs/learn begins in the studio: the fragment of the address, what to see there, an exercise. Its
-title, its question and its text are those of the lesson's page."""
+"""Where each lesson of docs/learn begins in the studio: the fragment of the address, what to see, and an exercise. Its
+title, its question and its text are those of the page."""
 import os
 import re
 
