@@ -105,9 +105,10 @@ class Index(FilesCase):
         )
 
     def test_kit(self):
-        """README names the kit for which the sources are."""
+        """README and THEOREMS name the kit for which the sources are."""
         kit = text_in("build", "kit_name.txt").split()[0]
-        self.same("kits of README", re.findall(r"rattle-kit-\w+", text_in("README.md")), [kit])
+        for page in ("README.md", "docs/claim/THEOREMS.md"):
+            self.same(f"kits of {page}", re.findall(r"rattle-kit-\w+", text_in(page)), [kit])
 
     def test_crate_tables(self):
         """LAYERS has the tables that `python3 build crate-tables` writes. Each group of crates.txt has a heading and a

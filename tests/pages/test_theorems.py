@@ -3,12 +3,13 @@
 - Each function and clause that the page names is in the code, and so is each field that it names with its record.
 - For each theorem, the page says how many files and lines of definitions its statement reaches; and how many lines of
   code, definitions and proofs there are. A number of lines may be 5 percent off, so that a small change needs no other.
-- It says how many planted bugs the gate tries.
+- It says how many planted bugs CI tries, how many crates a first call proves, and what crates of theorems it leaves.
 - CITATION.cff has the version of this tree.
 """
 import os
 import re
 
+from build.crate_lists import listed, with_below
 from lab.version import NUMBER
 from tests import TOP
 from tests.cases import FilesCase, text_in
@@ -94,8 +95,17 @@ class Theorems(FilesCase):
                 for name, lines in rows[2:]:
                     part = re.search(r"crates/\*/(\w+)", name)[1]
                     self.near(f"lines of {part}", lines, lines_of_part(part))
+        below = with_below(["forestplan"], listed())
+        first = " ".join(text_in(PAGE).split()).partition("It proves the ")[2]
+        self.same("crates of a first call", first.split()[0], str(len(below)))
+        left = re.findall(
+            r"`(\w+)`", first.partition("The laws of the crates ")[2].partition(" are left")[0]
+        )
+        laws = {path.split("::")[0] for path, _ in named_clauses(text_in(PAGE))} - set(below)
+        self.same("crates of theorems that it leaves", sorted(left), sorted(laws))
         bugs = len(crate_files("*/must-fail/*.edit"))
-        self.note("planted bugs", f"It also tries {bugs} planted" in text_in(PAGE), bugs)
+        said = re.findall(r"also\s+tries\s+(\d+)\s+planted\s+bugs", text_in(PAGE))
+        self.same("planted bugs", said, [str(bugs)])
 
     def test_citation(self):
         version = re.search(r"^version: (\S+)$", text_in("CITATION.cff"), re.M)
