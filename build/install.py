@@ -172,8 +172,15 @@ def main():
     if status:
         return status
     os.umask(0o022)
+
+    def fill(room: str) -> None:
+        if given.dir:
+            make(room)
+        else:
+            make_below(room, given.python)
+
     try:
-        make_folder(folder, make if given.dir else lambda room: make_below(room, given.python))
+        make_folder(folder, fill)
     except (OSError, shutil.Error, subprocess.CalledProcessError) as failed:
         why = failed.args[0][0][2] if isinstance(failed, shutil.Error) else failed
         print(f"install: {folder}: {why}", file=sys.stderr)

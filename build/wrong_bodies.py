@@ -70,7 +70,7 @@ def changed_since(rev, given, at_hand):
 
 def chosen(names, at_hand):
     """{crate: its edits} of crates, and of single edits, CRATE/NAME, with `.edit` after it or without."""
-    edits = {}
+    edits: dict[str, list[str]] = {}
     for name in names:
         crate, _, edit = name.removesuffix(".edit").partition("/")
         there = edits_of(crate) if crate in at_hand else []

@@ -39,12 +39,19 @@ LINES = {
 }
 
 
+def two_numbers(fields: list[str]) -> tuple[int, int] | None:
+    """Two fields as numbers; None if they aren't two, or one of them is no number."""
+    found = [number for number in map(whole, fields) if number is not None]
+    return (found[0], found[1]) if len(found) == 2 else None
+
+
 class Reading:
     """What the lines so far say: `nodes` is None before the `p` line, `promised` its number of edges, and `edge_lines`
     counts the lines that name one, again and again too."""
 
     def __init__(self, path=""):
-        self.path, self.line, self.nodes, self.promised, self.edge_lines = path, 0, None, None, 0
+        self.path, self.line, self.promised, self.edge_lines = path, 0, 0, 0
+        self.nodes: int | None = None
         self.edges, self.places, self.names, self.identifiers, self.bars = set(), {}, {}, {}, {}
 
     def wrong(self, what, code):
@@ -77,29 +84,31 @@ class Reading:
         """NODES and EDGES of the `p` line."""
         if self.nodes is not None:
             raise self.wrong("a second `p` line", "F2")
-        if len(fields) < 4 or fields[1] not in FORMATS or None in map(whole, fields[2:4]):
+        pair = two_numbers(fields[2:4])
+        if pair is None or fields[1] not in FORMATS:
             raise self.wrong(f"no `p edge NODES EDGES`: `{shown(' '.join(fields))}`", "F4")
-        if whole(fields[2]) > MAX_NODES:
+        if pair[0] > MAX_NODES:
             raise self.wrong(f"more than {MAX_NODES} nodes", "F7")
-        self.nodes, self.promised = map(whole, fields[2:4])
+        self.nodes, self.promised = pair
 
     def numbers(self, fields):
         """The two numbers of a line; a vertex that isn't there is named with the digits that the text has."""
         words, count, what, code = LINES[fields[0]]
         if self.nodes is None:
             raise self.wrong(f"{what} before the line `p edge NODES EDGES`", code)
-        if len(fields) < 3 or None in map(whole, fields[1:3]):
+        pair = two_numbers(fields[1:3])
+        if pair is None:
             raise self.wrong(f"no `{fields[0]} {words}`: `{shown(' '.join(fields))}`", "F4")
-        for v in fields[1 : 1 + count]:
-            if not 1 <= whole(v) <= self.nodes:
+        for field, v in zip(fields[1 : 1 + count], pair):
+            if not 1 <= v <= self.nodes:
                 raise self.wrong(
-                    f"there is no vertex {shown(v)}: there are {self.nodes}, from 1 on", "F5"
+                    f"there is no vertex {shown(field)}: there are {self.nodes}, from 1 on", "F5"
                 )
-        if fields[0] == "b" and not 1 <= whole(fields[2]) <= MAX_CHANNEL:
+        if fields[0] == "b" and not 1 <= pair[1] <= MAX_CHANNEL:
             raise self.wrong(
                 f"channel {shown(fields[2])} can't be barred, only 1 to {MAX_CHANNEL} can", "F13"
             )
-        return map(whole, fields[1:3])
+        return pair
 
     def edge(self, v, w):
         if v == w:
@@ -122,11 +131,17 @@ class Reading:
         if len(barred) > MAX_BARS:
             raise self.wrong(f"more than {MAX_BARS} channels are barred at vertex {v}", "F14")
 
+    def count(self) -> int:
+        """How many nodes there are, by the `p` line."""
+        if self.nodes is None:
+            raise Wrong(f"{self.path}: there is no line `p edge NODES EDGES` (F1)")
+        return self.nodes
+
     def network(self):
         """What all lines are, or its first fault."""
         return checked(
             Network(
-                self.nodes,
+                self.count(),
                 self.edges,
                 self.identifiers,
                 self.bars,
@@ -143,8 +158,7 @@ def reading_of(text: str, path: str) -> Reading:
     read = Reading(path)
     for raw in text.split("\n"):
         read.read(raw)
-    if read.nodes is None:
-        raise Wrong(f"{path}: there is no line `p edge NODES EDGES` (F1)")
+    read.count()
     return read
 
 

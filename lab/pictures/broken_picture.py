@@ -92,7 +92,8 @@ class OfForest:
 
     def __init__(self, *both):
         self.both, self.clash, net = both, both[0].clash, both[0].net
-        v, above = self.clash.v, []
+        v = self.clash.v
+        above: list[tuple[int, int | None]] = []
         # A colour after pulse P hangs on P - 2 nodes above it.
         while v and len(above) < self.clash.pulse - 1:
             above.append((v, net.parent(self.clash.forest, v)))

@@ -43,7 +43,8 @@ def distances(neighbours, start, most=None):
 def landmarks_of(network, part):
     """Vertices that are far from each other, with the distances from each: the next is always one farthest from those
     before."""
-    nearest, found = dict.fromkeys(part, len(part)), []
+    nearest = dict.fromkeys(part, len(part))
+    found: list[tuple[int, dict[int, int]]] = []
     first = distances(network.neighbours, part[0])
     v = max(part, key=lambda w: (first[w], -w))
     while len(found) < min(LANDMARKS, len(part)):
@@ -121,7 +122,8 @@ def in_rows(parts):
         1.5 * sqrt(sum((wide + SPACE) * (high + SPACE) for _, wide, high in boxes)),
         max(wide for _, wide, _ in boxes),
     )
-    found, left, top, tallest = {}, 0.0, 0.0, 0.0
+    found: dict[int, complex] = {}
+    left, top, tallest = 0.0, 0.0, 0.0
     for places, (corner, wide, high) in zip(parts, boxes):
         if left and left + wide > row:
             left, top, tallest = 0.0, top + tallest + SPACE, 0.0

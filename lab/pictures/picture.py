@@ -132,7 +132,10 @@ def draw_run(of, pulses, only, wrong, stopped):
 def draw_watch(of, pulses):
     texts = of.texts or [of.text("transcript")]
     return watch_page.draw(
-        [watch_page.run_of_text(*text, of.network, pulses, of.program) for text in texts]
+        [
+            watch_page.run_of_text(text.name, text.text, of.network, pulses, of.program)
+            for text in texts
+        ]
     )
 
 
@@ -379,12 +382,11 @@ def command_line():
         kind = add_command(
             kinds, f"picture {name}", usage, does.does, most + does.more, does.example
         )
-        kind.add_argument(
-            "network",
-            metavar="NETWORK",
-            nargs="?" if name == "broken" else None,
-            help="a file, - for standard input, or a name, as petersen or path5",
-        )
+        said = "a file, - for standard input, or a name, as petersen or path5"
+        if name == "broken":
+            kind.add_argument("network", metavar="NETWORK", nargs="?", help=said)
+        else:
+            kind.add_argument("network", metavar="NETWORK", help=said)
         kind.add_argument(
             "--title",
             metavar="NAME",
@@ -406,8 +408,9 @@ def drawing(kind, of, **options):
     if of.network is not None:
         if of.network.nodes == 0:
             raise Wrong(f"{of.network.name}: no node, so nothing to draw")
-        if KINDS[kind].most:
-            limit, instead = KINDS[kind].most
+        most = KINDS[kind].most
+        if most:
+            limit, instead = most
             at_most(kind, of.network.nodes, "nodes", limit, instead)
     _, *names = signature(KINDS[kind].draw).parameters
     return KINDS[kind].draw(of, *(options.get(name) for name in names))

@@ -27,7 +27,7 @@ class ProgramRounds:
         self.pulses, ports = [], network.neighbours
         for p, nodes, _, sent in synchronous_pulses(network, program):
             puts = puts_of(network, sent)
-            drawn = {
+            drawn: dict[int, tuple] = {
                 v: (colour, None if port is None else ports[v][port])
                 for v, node in nodes.items()
                 if hasattr(node, "drawn")

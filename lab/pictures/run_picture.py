@@ -201,7 +201,7 @@ def draw_bands(svg, window):
 
 
 def polygon(points):
-    steps = []
+    steps: list[str | float] = []
     for x, y in points:
         steps += ["L" if steps else "M", x, y]
     return steps
@@ -237,7 +237,7 @@ def draw_wires(svg, window, kinds):
 
 def write_words(svg, window, words):
     """The payloads' words along their arrows, left out where they would collide."""
-    used = []
+    used: list[tuple[float, float, float]] = []
     for x1, y1, dx, dy, text in words:
         half = text_width(text, 9.5) * BOLD / 2 + 2
         for part in (0.5, 0.32, 0.68, 0.2, 0.8):

@@ -12,6 +12,9 @@ from lab.pictures.transcripts import window_of
 from lab.schedules.explore import events_words, rounded
 from lab.wrong import at_most
 
+# Where a step ends: at a state, or at (state, number of the step) if it is refused there.
+End = int | tuple[int, int]
+
 COLUMNS, MOST_COLUMNS, STEPS, MOST_STEPS = 36, 108, 6_000, 12_000
 LEFT, HIGH, WIDE, LEAST_WIDTH = 44, 560, 1150, 860
 APART = [BAND, "#CFE3F1", "#8FBBDD", "#56B4E9"]
@@ -101,10 +104,10 @@ class Lattice:
         self.network, self.space = network, space
         self.low, self.high, self.bold = low, high, set(bold)
         self.passed = {0, *(s for s, _ in bold), *(space.steps(s)[e][1] for s, e in bold)}
-        self.columns = [[] for _ in range(low, high + 1)]
-        for s in range(space.count):
-            if low <= space.depth[s] <= high:
-                self.columns[space.depth[s] - low].append(s)
+        self.columns: list[list[End]] = [[] for _ in range(low, high + 1)]
+        for state in range(space.count):
+            if low <= space.depth[state] <= high:
+                self.columns[space.depth[state] - low].append(state)
         # (state, number of the step, event, where it ends).
         self.steps = [
             (s, e, event, (s, e) if target is None else target)
@@ -120,7 +123,8 @@ class Lattice:
 
     def place(self):
         """Rows by the mean of a mark's neighbours to the left, so that lines cross little."""
-        before, self.row = {}, {}
+        before: dict[End, list[End]] = {}
+        self.row: dict[End, float] = {}
         for s, _, _, end in self.steps:
             before.setdefault(end, []).append(s)
         for column in self.columns:

@@ -222,7 +222,10 @@ def farthest(net, edge):
 def network_by(source):
     """A connected network of the sheets' sizes, by chance, with a row of four in forest 0."""
     while True:
-        net = Network(NODES, alike_edges(source, NODES, EDGES, True, NEIGHBOURS, FORESTS))
+        edges = alike_edges(source, NODES, EDGES, True, NEIGHBOURS, FORESTS)
+        if edges is None:
+            continue
+        net = Network(NODES, edges)
         above = {v: net.parent(0, v) for v in net.neighbours} | {None: None}
         if any(above[above[above[v]]] for v in net.neighbours):
             return net

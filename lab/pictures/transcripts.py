@@ -85,7 +85,7 @@ def window_of(name, greatest, asked, usual, what="pulses"):
 
 def wires_of(made):
     """The wires of entries by stamp. A link hands them over in the order in which they were put."""
-    taken = {}
+    taken: dict[tuple[int, int], deque[int | None]] = {}
     for entry in made:
         if entry.kind == "Take":
             taken.setdefault((entry.neighbour, entry.vertex), deque()).append(entry.stamp)

@@ -118,7 +118,7 @@ class Run:
         self.moments = every[first:end]
         self.start = steps.start | {entry.vertex: look for entry, _, look in every[:first]}
         self.wires = wires_of(every[:end], first)
-        self.sent = {}
+        self.sent: dict[int, list[tuple[int, int, str]]] = {}
         for v, w, wire, *_ in self.wires:
             if wire[0] == "Payload":
                 self.sent.setdefault(wire[1], []).append((v, w, payload_words(wire[2])))
@@ -156,7 +156,8 @@ class Run:
 
     def table(self):
         """The rows that the page follows; what comes again and again has a number."""
-        looks, texts = {}, {}
+        looks: dict[str, int] = {}
+        texts: dict[str, int] = {}
 
         def text(said):
             return texts.setdefault(said, len(texts))
@@ -206,7 +207,8 @@ def wires_of(every, first):
     """[from, to, wire, number and stamp of its put, and of its take] of the wires that are on their links at or after
     the first entry shown; an entry before it has a negative number, and one after those shown none.
     """
-    flying, found = {}, []
+    flying: dict[tuple[int, int], deque[list]] = {}
+    found = []
     for at, (entry, *_) in enumerate(every, -first):
         if entry.kind == "Put":
             found.append([entry.vertex, entry.neighbour, entry.what, at, entry.stamp, None, None])

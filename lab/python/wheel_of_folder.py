@@ -21,13 +21,14 @@ def build_wheel(folder, config_settings=None, metadata_directory=None):
     version = text_in("VERSION").split()[1]
     tag = "py3-none-" + sysconfig.get_platform().replace("-", "_").replace(".", "_")
     name, info = f"forestplan-{version}-{tag}.whl", f"forestplan-{version}.dist-info"
-    said = ast.get_docstring(ast.parse(text_in(PACKAGE, "__init__.py")))
+    said = ast.get_docstring(ast.parse(text_in(PACKAGE, "__init__.py"))) or ""
+    summary = said.partition("\n")[0]
     texts = {
         "METADATA": f"""\
 Metadata-Version: 2.1
 Name: forestplan
 Version: {version}
-Summary: {said.splitlines()[0]}
+Summary: {summary}
 License: MIT OR Apache-2.0
 License-File: LICENSE-APACHE
 License-File: LICENSE-MIT

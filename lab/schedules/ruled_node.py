@@ -123,7 +123,8 @@ class Rounds:
     """The synchronous run of a program: `inbox[v, p]` of each vertex and pulse from 1."""
 
     def __init__(self, net, program=Colouring):
-        self.ports, self.inbox = net.neighbours, {}
+        self.ports = net.neighbours
+        self.inbox: dict[tuple[int, int], list[Slot]] = {}
         for p, _, inboxes, _ in synchronous_pulses(net, program):
             self.inbox |= {(v, p): inbox for v, inbox in inboxes.items()}
 

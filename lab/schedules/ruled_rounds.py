@@ -19,6 +19,7 @@ from lab.definitions.independent_set import IndependentSet
 from lab.definitions.matching import Matching
 from lab.definitions.nodes import DROPPED, Colouring, Program, synchronous_run
 from lab.definitions.recolouring import Recolouring
+from lab.definitions.sequel import Sequel
 from lab.network import Edge, Network
 from lab.schedules.rules import OF_FORESTS
 
@@ -36,7 +37,9 @@ class RuledRounds:
     def __init__(self, net, without):
         self.net, self.without = net, frozenset(without)
         self.colours = [[net.identifiers] for _ in range(net.forest_count)]
-        self.merged, self.plan, self.clash = [first_colours(net)], None, None
+        self.merged = [first_colours(net)]
+        self.plan: dict[int, int] | None = None
+        self.clash: Clash | None = None
         for pulse in range(3, 13):
             for f, lists in enumerate(self.colours):
                 lists.append(self.next_colours(pulse, f))
@@ -94,8 +97,11 @@ class RuledRounds:
                 yield Clash(None, f, v, w, self.merged[-1][v])
 
     def words(self):
-        """What goes wrong, in a sentence or two."""
-        clash, v, w = self.clash, self.clash.v, self.clash.w
+        """What goes wrong, in a sentence or two; nothing if nothing does."""
+        clash = self.clash
+        if clash is None:
+            return ""
+        v, w = clash.v, clash.w
         if clash.pulse is None:
             said = (
                 f"after the merge of forest {clash.forest} the neighbours {v} and {w} both have "
@@ -106,13 +112,13 @@ class RuledRounds:
                 f"after pulse {clash.pulse} node {v} and its parent {w} in forest {clash.forest} "
                 f"both have colour {clash.colour}"
             )
-        if self.plan is None:
-            return (
-                f"{said}\nnode {v} hears its own colour in pulse {clash.pulse + 1}, and can't go on"
-            )
-        same = [(a, b) for a, b in self.net.edges if self.plan[a] == self.plan[b]]
+            if self.plan is None:
+                again = f"node {v} hears its own colour in pulse {clash.pulse + 1}, and can't go on"
+                return f"{said}\n{again}"
+        plan = self.merged[-1]
+        same = [(a, b) for a, b in self.net.edges if plan[a] == plan[b]]
         return said + "".join(
-            f"\nthe plan gives {a} and {b} channel {self.plan[a] + 1}" for a, b in same[:1]
+            f"\nthe plan gives {a} and {b} channel {plan[a] + 1}" for a, b in same[:1]
         )
 
 
@@ -123,7 +129,18 @@ class Fault(NamedTuple):
     words: str
 
 
-class RuledMatching(Matching):
+class Ruled:
+    """What the nodes of a program with rules left out have, too."""
+
+    without: frozenset[str] = frozenset()
+
+    @staticmethod
+    def faults(net: Network, nodes: dict) -> Iterator[Fault]:
+        """What isn't right at the end, the nodes being as they are after the last pulse."""
+        raise NotImplementedError
+
+
+class RuledMatching(Ruled, Matching):
     @classmethod
     def last_pulse(cls, net):
         return Matching.last_pulse(net) - ("last" in cls.without)
@@ -152,7 +169,7 @@ class RuledMatching(Matching):
         )
 
 
-class RuledSet(IndependentSet):
+class RuledSet(Ruled, IndependentSet):
     def go_on(self, pulse, inbox):
         self.is_beside = (self.is_beside or any(inbox)) and "beside" not in self.without
         joins = any if "class" in self.without else all
@@ -170,7 +187,7 @@ class RuledSet(IndependentSet):
         )
 
 
-class RuledRecolouring(Recolouring):
+class RuledRecolouring(Ruled, Recolouring):
     def go_on(self, pulse, inbox):
         if "bars" in self.without:
             # The colouring has ended, so nothing else looks at them.
@@ -197,7 +214,11 @@ class RuledRecolouring(Recolouring):
         )
 
 
-RULED = {Matching: RuledMatching, IndependentSet: RuledSet, Recolouring: RuledRecolouring}
+RULED: dict[type[Sequel], type[Ruled]] = {
+    Matching: RuledMatching,
+    IndependentSet: RuledSet,
+    Recolouring: RuledRecolouring,
+}
 
 
 class RuledSequel:
@@ -205,14 +226,17 @@ class RuledSequel:
 
     def __init__(self, net, without, program):
         base = next(ruled for base, ruled in RULED.items() if issubclass(program, base))
-        self.net, self.program = net, type(
-            program.__name__, (base, program), {"without": frozenset(without)}
-        )
+        rules = {"without": frozenset(without)}
+        self.net = net
+        self.program: Program = type(program.__name__, (base, program), rules)
         self.nodes = synchronous_run(net, self.program)
         self.faults = list(base.faults(net, self.nodes))
         self.clash = self.faults[0] if self.faults else None
 
     def words(self):
+        """What goes wrong, in a sentence; nothing if nothing does."""
+        if self.clash is None:
+            return ""
         return f"after pulse {self.program.last_pulse(self.net)} {self.clash.words}"
 
 

@@ -8,7 +8,7 @@ import sys
 from collections import deque
 from collections.abc import Collection, Iterable, Iterator
 
-from lab.definitions.nodes import Colouring, NetState, Program, Refused, missing_words
+from lab.definitions.nodes import Colouring, NetState, Program, Refused, Wire, missing_words
 from lab.definitions.own_program import check_repeats, wrong_end
 from lab.definitions.programs import add_program, program_asked
 from lab.network import Edge, Network
@@ -83,7 +83,7 @@ class Player:
     def look_at(self, v):
         """What is possible at v now."""
         node, self.steps[v] = self.state.nodes[v], []
-        waiting = [("pulse", 0, [("",)] * node.can_pulse())]
+        waiting: list[tuple[str, int, list[Wire]]] = [("pulse", 0, [("",)] * node.can_pulse())]
         for port, w in enumerate(self.state.neighbours[v]):
             waiting += [("put", w, node.ports[port].out), ("take", w, self.state.link_to(v, port))]
         for kind, w, wires in waiting:

@@ -43,11 +43,13 @@ from array import array
 from collections import Counter, namedtuple
 from functools import cache
 
-from lab.definitions.nodes import Colouring, Refused, wire_words
+from lab.definitions.nodes import Colouring, Refused, Wire, wire_words
 from lab.definitions.own_program import OwnNode, asks_for_messages, what_is_wrong
 from lab.schedules.ruled_node import Rounds, RuledNode
 
 REFUSED = 2**32 - 1
+# (from, to).
+Link = tuple[int, int]
 
 Node = namedtuple("Node", "pulse stage waits wrong colour result")
 # An event that is possible: its number, the node's value after it or None, the link that it takes from or None, what
@@ -95,8 +97,8 @@ class Space:
         )
         self.contents.number(())
         # Each is worked out once for the same parts of a state.
-        self.moves_of, self.pulse = cache(self.moves_of), cache(self.pulse)
-        self.take, self.with_wires = cache(self.take), cache(self.with_wires)
+        self.moves_of, self.pulse = cache(self.find_moves), cache(self.find_pulse)
+        self.take, self.with_wires = cache(self.find_take), cache(self.find_with_wires)
         self.faults, self.ends, self.broken, self.said = {}, [], set(), {}
         self.first, self.event_of, self.target = array("I", [0]), array("I"), array("I")
         self.search(progress)
@@ -112,7 +114,7 @@ class Space:
                 port.out = []
         return self.locals[a].number(node, node.key()), tuple(gone)
 
-    def pulse(self, a, i):
+    def find_pulse(self, a, i):
         """(value after or None, wires, fault) of a pulse of the node with this value."""
         node = self.locals[a][i].copied()
         fault, is_refused = node.fault_of_pulse(self.vertices[a], self.rounds)
@@ -121,7 +123,7 @@ class Space:
         node.pulse()
         return *self.after(a, node), fault
 
-    def take(self, a, i, port, wire):
+    def find_take(self, a, i, port, wire):
         node = self.locals[a][i].copied()
         try:
             node.on_wire(port, wire)
@@ -130,7 +132,7 @@ class Space:
             return None, (), f"node {v} refuses `{wire_words(wire)}` from {self.ports[v][port]}"
         return *self.after(a, node), None
 
-    def moves_of(self, a, i, *arriving):
+    def find_moves(self, a, i, *arriving):
         """The moves of a node with this value and these contents of the links to it, and which is made `alone`."""
         v, node, moves = self.vertices[a], self.locals[a][i], []
         if node.can_pulse():
@@ -185,7 +187,7 @@ class Space:
             state[slot] = self.with_wires(state[slot], wires)
         return tuple(state)
 
-    def with_wires(self, c, wires):
+    def find_with_wires(self, c, wires):
         """The number of what a link holds once these wires are put on it, too."""
         return self.contents.number(self.contents[c] + wires)
 
@@ -320,9 +322,8 @@ class Space:
 
     def node_words(self, v, node):
         colour = node.program.merged if self.program is Colouring else None
-        return Node(
-            node.pulse_number, *self.stage_of(v, node), node.wrong, colour, node.program.result()
-        )
+        stage, waits = self.stage_of(v, node)
+        return Node(node.pulse_number, stage, waits, node.wrong, colour, node.program.result())
 
     def stage_of(self, v, node):
         """How far a node is in its pulse, and the wires for which it waits there."""
@@ -389,11 +390,9 @@ class Space:
 
     def with_puts(self, events):
         """The events with the puts between them, each only as a take needs its wire."""
-        sent, held, put = (
-            {link: [] for link in self.links},
-            {link: [] for link in self.links},
-            Counter(),
-        )
+        sent: dict[Link, list[Wire]] = {link: [] for link in self.links}
+        held: dict[Link, list[int]] = {link: [] for link in self.links}
+        put: Counter[Link] = Counter()
         state, gone, listed = self.states[0], self.first_puts, []
         for event in events:
             for slot, wires in gone:

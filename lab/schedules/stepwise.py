@@ -5,10 +5,11 @@ A step is written as `3`, node 3 makes its next pulse; `2-1`, node 2 takes the n
 takes the wire that overtakes four others, without the rule `fifo`."""
 import random
 import re
+from collections.abc import Iterable
 
 from lab.definitions.nodes import Colouring, Refused, wire_words
 from lab.schedules.policies import Step
-from lab.schedules.ruled_node import Rounds
+from lab.schedules.ruled_node import Rounds, RuledNode
 from lab.schedules.simulate import Player, events_of
 from lab.wrong import Wrong, wrong_line
 
@@ -47,7 +48,7 @@ class Stepwise(Player):
                     found += [f"{v}-{step.neighbour}-{place}" for place in later]
         return found
 
-    def follow(self, steps):
+    def follow(self, steps: Iterable[str]) -> None:
         for number, step in enumerate(filter(None, steps), 1):
             fields = re.fullmatch("([0-9]{1,5})(?:-([0-9]{1,5}))?(?:-([0-9]{1,5}))?", step)
             v, w, place = (int(field or 0) for field in fields.groups()) if fields else (0, 0, 0)
@@ -87,14 +88,14 @@ class Stepwise(Player):
     def step(self, step: Step, place: int = 0):
         """One step, and the puts that it makes possible."""
         v, w, node = step.node, step.neighbour, self.state.nodes[step.node]
-        port, fault = self.state.port_to.get((v, w)), None
-        if w:
+        port, fault = self.state.port_to[v, w] if w else None, None
+        if port is not None:
             wires = self.state.link_to(v, port)
             wires.insert(0, wires.pop(place))
             self.said = f"node {v} takes {wire_words(wires[0])} from {w}"
         else:
             self.said = f"node {v} makes pulse {node.pulse_number + 1}"
-            if self.rounds:
+            if self.rounds and isinstance(node, RuledNode):
                 fault, self.is_over = node.fault_of_pulse(v, self.rounds)
         self.chosen.append("-".join(map(str, [v, *[w] * bool(w), *[place] * bool(place)])))
         self.lines.append(f"take {v} {port}" + f" {place}" * bool(place) if w else f"pulse {v}")

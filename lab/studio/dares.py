@@ -1,4 +1,6 @@
 """The dares of the tab Adversary: a goal for any network, won by steps that the definitions play."""
+from collections.abc import Iterable
+
 from lab.definitions.nodes import Colouring
 from lab.pictures.layout import distances
 from lab.pictures.program_rounds import rounds_of
@@ -16,7 +18,7 @@ DARES = {
 }
 
 
-def judged(network, program, without, steps, dare):
+def judged(network, program, without, steps: Iterable[str], dare):
     """{won, said} of steps: whether they win the dare, and how far they come."""
     if dare not in DARES:
         raise Wrong(f"there is no dare {dare}")

@@ -173,7 +173,7 @@ def make(asked, _tell):
     if nodes > MOST_DRAWN:
         raise Wrong(f"the studio draws at most {MOST_DRAWN} nodes")
     seed = [whole_number(asked["seed"], "seed")] if KINDS[kind].is_by_chance else []
-    more = [REACH, *seed] if kind == "disk" else seed
+    more: list[float] = [REACH, *seed] if kind == "disk" else [*seed]
     network = read_network(text_of(KINDS[kind].make(*sizes, *more)), kind)
     network.name = "-".join(map(str, [kind, *sizes, *more]))
     network.places = by_shape(kind, *sizes) or network.places

@@ -118,7 +118,7 @@ class Server(socketserver.ForkingMixIn, http.server.HTTPServer):
     def server_bind(self):
         # The name of the machine isn't looked up.
         socketserver.TCPServer.server_bind(self)
-        self.server_name, self.server_port = self.server_address[:2]
+        self.server_name, self.server_port = self.socket.getsockname()[:2]
 
     def address(self):
         return f"http://{HOST}:{self.server_port}/?token={self.token}"
@@ -161,6 +161,7 @@ class Answer:
 class Handler(http.server.BaseHTTPRequestHandler):
     """One request; then the connection ends."""
 
+    server: Server
     timeout, server_version, sys_version = SECONDS_TO_ASK, "studio", ""
 
     def setup(self):

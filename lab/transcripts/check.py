@@ -20,7 +20,8 @@ class Found:
     def __init__(self, net, entries, program):
         self.entries, self.is_stamped = entries, bool(entries) and entries[0].stamp is not None
         self.state, self.clock, self.made = NetState(net, program), Clock(net.neighbours), []
-        self.left, self.refusals = {}, {}
+        self.left: dict[int, deque[Entry]] = {}
+        self.refusals = {}
         for entry in entries:
             self.left.setdefault(entry.vertex, deque()).append(entry)
 
@@ -99,7 +100,9 @@ def find_order(net: Network, entries: list[Entry], program: Program = Colouring)
             entry = left[v][0]
             found.make_next(v)
             w = entry.neighbour
-            if entry.kind == "Put" and refusals.get(w) == "LinkEmpty" and left[w][0].neighbour == v:
+            if w is None or entry.kind != "Put" or refusals.get(w) != "LinkEmpty":
+                continue
+            if left[w][0].neighbour == v:
                 work.append(w)
     return found
 

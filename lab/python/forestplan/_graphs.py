@@ -100,7 +100,7 @@ def near_order(given, pairs):
     near = of_lab("networks", "near")
     if len(given) < near.LARGE:
         return given
-    neighbours = {node: {} for node in given}
+    neighbours: dict[Any, dict[Any, None]] = {node: {} for node in given}
     for one, other in pairs:
         if one != other:
             neighbours[one][other] = neighbours[other][one] = None

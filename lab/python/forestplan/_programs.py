@@ -44,9 +44,10 @@ def lab_called(words, text):
 def of_lab(*parts):
     """A module of lab/ that stands alone; the package `lab` itself isn't imported, since users may have one of that
     name."""
-    spec = importlib.util.spec_from_file_location(
-        f"forestplan.lab.{parts[-1]}", os.path.join(home(), "lab", *parts) + ".py"
-    )
+    path = os.path.join(home(), "lab", *parts) + ".py"
+    spec = importlib.util.spec_from_file_location(f"forestplan.lab.{parts[-1]}", path)
+    if spec is None or spec.loader is None:
+        raise ImportError(f"{path} is no module", path=path)
     module = importlib.util.module_from_spec(spec)
     spec.loader.exec_module(module)
     return module
