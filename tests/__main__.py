@@ -22,7 +22,7 @@ import tempfile
 import unittest
 from collections import defaultdict
 from collections.abc import Iterator
-from concurrent.futures import ThreadPoolExecutor
+from concurrent.futures import Future, ThreadPoolExecutor
 
 from tests import TOP
 from tests.settings import BUILT, MORE_HELP, PATHS
@@ -145,7 +145,9 @@ def report_missing(tests):
 def run_all(chosen, jobs, folder):
     """The sums over all modules, which are reported in their order."""
     order = sorted(chosen, key=lambda module: module not in LONGEST)
-    running, sums, skipped = [], [0, 0], []
+    running: list[Future] = []
+    sums = [0, 0]
+    skipped = []
     with ThreadPoolExecutor(jobs) as pool:
         done = {
             module: pool.submit(run_module, module, chosen[module], folder, running)

@@ -6,6 +6,7 @@ import gc
 import io
 import os
 import pprint
+import re
 import shutil
 import subprocess
 import sys
@@ -14,11 +15,15 @@ import time
 import traceback
 import unittest
 import unittest.mock
-from collections.abc import Callable
+from collections.abc import Callable, Iterator
+from contextlib import AbstractContextManager
+from typing import IO, AnyStr, TypeVar
 
 from lab.wrong import Wrong as Fault
 from tests import FORESTLAB, TOP
 from tests.tools import without_rt
+
+Value = TypeVar("Value")
 
 # With this word in a module, unittest leaves its functions out of the traceback of a failure.
 __unittest = True
@@ -60,7 +65,7 @@ def places() -> str:
 
 
 @contextlib.contextmanager
-def working_in(folder):
+def working_in(folder: str) -> Iterator[None]:
     """What `contextlib.chdir` is from Python 3.11 on."""
     before = os.getcwd()
     os.chdir(folder)
@@ -75,13 +80,13 @@ class Contexts(unittest.TestCase):
 
     if sys.version_info < (3, 11):
 
-        def enterContext(self, context):
+        def enterContext(self, context: AbstractContextManager[Value]) -> Value:
             entered = context.__enter__()
             self.addCleanup(context.__exit__, None, None, None)
             return entered
 
         @classmethod
-        def enterClassContext(cls, context):
+        def enterClassContext(cls, context: AbstractContextManager[Value]) -> Value:
             entered = context.__enter__()
             cls.addClassCleanup(context.__exit__, None, None, None)
             return entered
@@ -116,7 +121,7 @@ class Case(Contexts):
         self.row(name, is_good, lambda: cut([wanted, *lines_of(done)]))
 
     @functools.cached_property
-    def folder(self):
+    def folder(self) -> str:
         """A folder of the test."""
         return self.enterContext(tempfile.TemporaryDirectory())
 
@@ -127,6 +132,20 @@ class Case(Contexts):
         with open(path, mode) as file:
             file.write(data if isinstance(data, bytes) else data.encode())
         return path
+
+
+class FolderCase(Case):
+    """A test whose folder is one for all tests of its class."""
+
+    of_class: str
+
+    @classmethod
+    def setUpClass(cls) -> None:
+        cls.of_class = cls.enterClassContext(tempfile.TemporaryDirectory())
+
+    @functools.cached_property
+    def folder(self) -> str:
+        return self.of_class
 
 
 class FilesCase(Case):
@@ -172,12 +191,46 @@ def example(name):
     return contents("examples", name if "." in name else f"{name}.col")
 
 
+def found_in(pattern: str, words: str, flags: int = 0) -> re.Match[str]:
+    """Where a text has a pattern first; a text that hasn't fails the test."""
+    found = re.search(pattern, words, flags)
+    if found is None:
+        raise AssertionError(f"there is no {pattern!r} in {words[:1000]!r}")
+    return found
+
+
+def written_by(process: subprocess.Popen[AnyStr]) -> IO[AnyStr]:
+    """What a process writes to a pipe."""
+    assert process.stdout is not None
+    return process.stdout
+
+
+def complaints_of(process: subprocess.Popen[AnyStr]) -> IO[AnyStr]:
+    """What a process writes to a pipe on standard error."""
+    assert process.stderr is not None
+    return process.stderr
+
+
+def remove(path: str) -> None:
+    """Removes a file, if it is there."""
+    with contextlib.suppress(FileNotFoundError):
+        os.remove(path)
+
+
+def tool_at(name: str) -> str:
+    """Where a command is that has to be there."""
+    path = shutil.which(name)
+    if path is None:
+        raise AssertionError(f"there is no {name}")
+    return path
+
+
 def called(path, *words, data=b"", limit=300, **streams):
     """The status and both outputs of a program with this standard input; a stream may be another one."""
-    words = [word if isinstance(word, bytes) else str(word) for word in words]
+    line = [path, *(word if isinstance(word, bytes) else str(word) for word in words)]
     given = {"input": data} if "stdin" not in streams else {}
     streams = {"stdout": subprocess.PIPE, "stderr": subprocess.PIPE} | streams
-    done = subprocess.run([path, *words], timeout=limit, **given, **streams)
+    done = subprocess.run(line, timeout=limit, **given, **streams)
     return done.returncode, done.stdout, done.stderr
 
 
@@ -205,8 +258,10 @@ def said_by(*words, **more):
 def in_process(name, main, *words, data=b""):
     """The same of a command of forestlab, whose `main` is called in this process; how a process ends is for
     tests/programs/test_endings.py."""
+    written, complained = io.BytesIO(), io.BytesIO()
     given, out, errors = (
-        io.TextIOWrapper(io.BytesIO(text), "utf-8", write_through=True) for text in (data, b"", b"")
+        io.TextIOWrapper(raw, "utf-8", write_through=True)
+        for raw in (io.BytesIO(data), written, complained)
     )
     is_collecting = gc.isenabled()
     with (
@@ -224,4 +279,4 @@ def in_process(name, main, *words, data=b""):
             print(f"{name}: {said}", file=sys.stderr)
         finally:
             (gc.enable if is_collecting else gc.disable)()
-    return status, out.buffer.getvalue(), errors.buffer.getvalue()
+    return status, written.getvalue(), complained.getvalue()

@@ -144,7 +144,8 @@ def answer(words: list[str]) -> int:
     """An answer of a student's node."""
     got = sys.stdin.buffer.read()
     try:
-        for line in lines_of(got[: END.search(got).start()] if END.search(got) else got):
+        end = END.search(got)
+        for line in lines_of(got[: end.start()] if end else got):
             fields_of(line, forms_of(words[0], "colouring"), 2)
     except Fault:
         return 1

@@ -15,7 +15,8 @@ class Rows(unittest.TextTestResult):
     """Counts rows: a test's, or the test itself if it has no rows. Prints a test's failures when it ends."""
 
     def __init__(self) -> None:
-        super().__init__(unittest.TextTestRunner(sys.stdout).stream, False, 0)
+        # What unittest writes to, which its hints leave out.
+        super().__init__(getattr(unittest.TextTestRunner(sys.stdout), "stream"), False, 0)
         self.passed, self.failed, self.rows = 0, 0, 0
 
     def startTest(self, test):
@@ -47,8 +48,9 @@ class Rows(unittest.TextTestResult):
         """Prints what failed since the last call, and counts it."""
         self.failed += len(self.failures) + len(self.errors) + len(self.unexpectedSuccesses)
         self.printErrors()
-        for found in (self.failures, self.errors, self.unexpectedSuccesses):
-            found.clear()
+        self.failures.clear()
+        self.errors.clear()
+        self.unexpectedSuccesses.clear()
 
 
 def main() -> int:

@@ -81,9 +81,11 @@ def others():
 
 def outcome(top, command, home):
     env = dict(os.environ, PATH=f"{top}/bin:{os.environ['PATH']}", HOME=home)
-    streams = {"stdin": subprocess.DEVNULL, "capture_output": True}
+    words = ["bash", "-c", command]
     try:
-        done = subprocess.run(["bash", "-c", command], cwd=top, env=env, timeout=LIMIT, **streams)
+        done = subprocess.run(
+            words, cwd=top, env=env, timeout=LIMIT, stdin=subprocess.DEVNULL, capture_output=True
+        )
     except subprocess.TimeoutExpired:
         return None
     return done.returncode, done.stdout, done.stderr

@@ -78,7 +78,8 @@ class RefusedMemory(Case):
         def got_of(number):
             return under(self.front, [PATHS[name], *words], data, REFUSE=number)[0]
 
-        wanted, memory, ends = wanted or got_of(0), (4, b"", f"{name}: memory\n".encode()), []
+        wanted, memory = wanted or got_of(0), (4, b"", f"{name}: memory\n".encode())
+        ends: list[tuple] = []
         known = {wanted, memory, or_else}
         while len(ends) < MOST and ends[-LAST:] != [wanted] * LAST and known.issuperset(ends):
             ends.append(got_of(len(ends) + 1))
@@ -86,9 +87,7 @@ class RefusedMemory(Case):
         row = f"each growth refused in turn: {' '.join(words)}, {data[-40:]!r}"
         said = f"{len(refused)} growths, {counts}; at last {ends[-1]}"
         self.note(row, ends[-LAST:] == [wanted] * LAST and counts[memory], said)
-        if or_else is None:
-            self.note(f"{row}: nothing else", not counts[or_else], said)
-        else:
+        if or_else is not None:
             self.note(f"{row}: the other once", counts[or_else] == 1 and counts[wanted] <= 1, said)
 
     def test_each_command(self):
@@ -118,10 +117,10 @@ class RefusedMemory(Case):
             (["--help"], b"", None),
         ):
             self.sweep("forestplan", words, data, wanted)
-        for words, wanted in (([], run.merged()), (["--edition", "1"], run.text())):
+        for edition, wanted in (((), run.merged()), (("--edition", "1"), run.text())):
             self.sweep(
                 "forestplan",
-                ["transcript", *words, "--workers", "1"],
+                ["transcript", *edition, "--workers", "1"],
                 triangle,
                 (0, wanted, b""),
                 THREADS,

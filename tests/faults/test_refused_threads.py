@@ -86,7 +86,9 @@ class RefusedThreads(Case):
         """`transcript` and `run` start as many threads as `--workers` says, whatever nodes run and what is printed."""
         runs = [
             (PLAY, ["run", "--program", program, *shown])
-            for program, shown in product(("colouring", "leader", "layers"), ([], ["--transcript"]))
+            for program, shown in product(
+                ("colouring", "leader", "layers"), ((), ("--transcript",))
+            )
         ]
         for (program, words), workers in product(
             [(PLAN, ["transcript"]), *runs], (1, 2, 5, MOST_WORKERS)
@@ -126,7 +128,9 @@ class RefusedThreads(Case):
         all the time, and the networks are small. With one worker there is no thief. If a refused push dropped its node,
         the run wouldn't end, or the nodes couldn't be gathered."""
         front = build_front(self.folder, "refuse_in_threads")
-        wrong, counts, begin = [], [], time.monotonic()
+        wrong: list[tuple] = []
+        counts: list[int] = []
+        begin = time.monotonic()
         while (
             sum(map(bool, counts)) < enough
             and not wrong

@@ -45,11 +45,13 @@ def pieces(data):
 
 @needs("forestplan", "forestplay", "cc")
 class Streams(Case):
+    # The library that breaks a stream.
+    front: str
+
     @classmethod
     def setUpClass(cls):
-        cls.front = build_front(
-            cls.enterClassContext(tempfile.TemporaryDirectory()), "broken_streams"
-        )
+        folder = cls.enterClassContext(tempfile.TemporaryDirectory())
+        cls.front = build_front(folder, "broken_streams")
 
     def broken(self, name, words, data, stream=-1, call=0, takes_none=False):
         """The answer; and how many reads, writes to output and writes to errors there were."""

@@ -20,7 +20,7 @@ import re
 
 from build.crate_lists import PROGRAMS, listed
 from tests import TOP
-from tests.cases import FilesCase, text_in
+from tests.cases import FilesCase, found_in, text_in
 from tests.pages.test_pages import crate_files
 
 GHOST, CODE = r"\bRattle\.(\w+)\.", r"(?<![\w:.])([a-z_]\w*)::"
@@ -45,7 +45,8 @@ CLAUSE = r"^ *(?:ensures|requires) \w* ?(\{(?:[^{}]|\{[^{}]*\})*\})"
 
 def unfound(path):
     """What an edit changes and isn't exactly once in its file, as the pairs before it left that file."""
-    crate, texts, old = os.path.dirname(os.path.dirname(path)), {}, None
+    crate, old = os.path.dirname(os.path.dirname(path)), ""
+    texts: dict[str, str] = {}
     for word, _, rest in (line.partition(":") for line in text_in(path).splitlines()):
         rest = rest.removeprefix(" ")
         if word == "file":
@@ -76,7 +77,7 @@ def sources():
 
 def has_clause(path):
     """Whether the clause that an edit names is there."""
-    name, _, other = re.search(r"^clause: (.*)$", text_in(path), re.M)[1].partition(" of ")
+    name, _, other = found_in(r"^clause: (.*)$", text_in(path), re.M)[1].partition(" of ")
     crate = os.path.dirname(os.path.dirname(path))
     if not other:
         files = re.findall(r"^file: (.*)$", text_in(path), re.M)

@@ -10,7 +10,7 @@ from build import crate_tables
 from build.crate_lists import PROGRAMS, listed, with_below
 from lab.__main__ import COMMANDS as OF_LAB
 from tests import TOP
-from tests.cases import FilesCase, text_in
+from tests.cases import FilesCase, found_in, text_in
 from tests.commands import COMMANDS
 from tests.pages.test_pages import PAGES, lines_of, tables_of
 
@@ -174,7 +174,7 @@ class Index(FilesCase):
         """A package of lab/ imports only those before it; what is in lab/ itself belongs to none."""
         order = "definitions networks transcripts schedules pictures workshop studio".split()
         packages = glob.glob("*/__init__.py", root_dir=os.path.join(TOP, "lab"))
-        self.same("packages", sorted(order), sorted(map(os.path.dirname, packages)))
+        self.same("packages", sorted(order), sorted(os.path.dirname(path) for path in packages))
         for at, package in enumerate(order):
             for path in glob.glob(os.path.join(TOP, "lab", package, "**", "*.py"), recursive=True):
                 names = re.findall(r"^\s*(?:from|import) lab\.(\w+)", text_in(path), re.M)
@@ -216,7 +216,7 @@ class Index(FilesCase):
         """FORMATS shows each option of a command that takes options, as its help lists them."""
         page = text_in("docs", "claim", "FORMATS.md")
         for command in ("plan", "transcript"):
-            line = re.search(rf"(?m)^    forestplan {command} .*", page)[0]
+            line = found_in(rf"(?m)^    forestplan {command} .*", page)[0]
             helped = text_in("lab", "help", f"forestplan-{command}.txt")
             options = set(re.findall(r"^\s+(?:-\w, )?(--\w+)", helped, re.M)) - {"--help"}
             self.note(

@@ -55,7 +55,7 @@ def played(net, rows):
         wires = []
         for kind, v, _, port in re.findall(r"(Pulse|Put|Take)\((\d+)(,(\d+))?\)", row[1]):
             wire = state.step(kind, int(v), int(port) if port else None)
-            wires += [f"`{text_of_wire(wire)}`"] if port else []
+            wires += [f"`{text_of_wire(wire)}`"] if isinstance(wire, tuple) else []
         pulses = ", ".join(str(node.pulse_number) for _, node in sorted(state.nodes.items()))
         wanted.append([row[1], " ".join(wires), pulses])
     return wanted
@@ -130,7 +130,7 @@ def crate_files(pattern):
 def clauses_of_crate(crate):
     """The names of the clauses of each function and type of a crate, and under `ghost` those of its ghost members."""
     text = "\n".join(map(text_in, crate_files(f"{crate}/src/**/*.rt")))
-    found = {
+    found: dict[str, set[str]] = {
         name: set() for name in re.findall(r"\bimpl(?:<[^{]*?>)? (?:[\w:<>, ]* for )?(\w+)", text)
     }
     _, *parts = re.split(
@@ -281,15 +281,16 @@ class Pages(FilesCase):
     def test_promises(self):
         """A promise is written as `named_clauses` reads it."""
         promises = named_clauses(text_in("docs/claim/PROMISES.md"))
-        crates, named = {}, {}
+        crates: dict[str, dict[str, set[str]]] = {}
+        named: dict[str, set[str]] = {}
         for path, said in promises:
             named.setdefault(path, set()).update(said)
             missing = unknown_clauses(path, said, crates)
             self.note(f"docs/claim/PROMISES.md {path}", not missing, f"not in the code: {missing}")
         laws = laws_of_crates()
         for law in sorted(laws & named.keys()):
-            crate, *_, name = law.split("::")
-            lacking = crates[crate][name] - named[law]
+            where, *_, name = law.split("::")
+            lacking = crates[where][name] - named[law]
             self.note(f"clauses of {law}", not lacking, f"not named: {sorted(lacking)}")
         missing = sorted(laws - {path for path, _ in promises})
         self.note(

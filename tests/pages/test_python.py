@@ -119,12 +119,15 @@ def names_of(tree):
         elif isinstance(node, ast.ImportFrom):
             imported |= {alias.asname or alias.name for alias in node.names}
         else:
-            own |= {name.id for name in ast.walk(node) if is_assigned(name)}
+            own |= set(assigned_in(node))
     return own, imported
 
 
-def is_assigned(node):
-    return isinstance(node, ast.Name) and isinstance(node.ctx, ast.Store)
+def assigned_in(tree):
+    """The names that are given a value somewhere in a tree."""
+    for node in ast.walk(tree):
+        if isinstance(node, ast.Name) and isinstance(node.ctx, ast.Store):
+            yield node.id
 
 
 def imports_of(tree):

@@ -49,7 +49,7 @@ SAID = {
     "pictures": ("kind", "node"),
 }
 # What a state has that says nothing.
-NOTHING = {
+NOTHING: dict[str, object] = {
     **{"passes": 1, "root": None, "slow": [], "lazy": [], "node": None, "lesson": None, "at": 0},
     **{"forest": 0, "broken": "", "predict": False, "without": "", "dare": "", "steps": []},
     **{"other": None, "how": "seed", "policy": "random", "seed": "1", "beside": False},

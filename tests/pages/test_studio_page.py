@@ -5,6 +5,7 @@ import json
 import os
 import re
 import signal
+import subprocess
 import time
 
 from lab.definitions.colours import colours
@@ -20,7 +21,7 @@ from lab.pictures.palette import (
     text_on,
 )
 from tests import TOP, browser
-from tests.cases import Case, said_by, text_in
+from tests.cases import Case, complaints_of, said_by, text_in
 from tests.programs.test_studio import begin
 from tests.tools import need
 
@@ -121,6 +122,10 @@ class Repeated(Case):
 class Page(Case):
     """A studio and a browser for all tests of a class."""
 
+    process: subprocess.Popen[str]
+    address: str
+    page: browser.Browser
+
     @classmethod
     def setUpClass(cls):
         program = browser.command()
@@ -138,7 +143,7 @@ class Page(Case):
     def end_server(cls):
         cls.process.send_signal(signal.SIGINT)
         cls.process.wait(20)
-        cls.process.stderr.close()
+        complaints_of(cls.process).close()
 
     def setUp(self):
         need(self, "a browser")

@@ -2,6 +2,7 @@
 import json
 import re
 import xml.etree.ElementTree as tree
+from tests.cases import found_in
 
 SVG = "{http://www.w3.org/2000/svg}"
 # How wide a letter is, in parts of its size: DejaVu Sans takes from a half to six tenths.
@@ -19,7 +20,7 @@ def parsed(picture):
 
 def data_of(page):
     """What a page in HTML follows."""
-    return json.loads(re.search(r"(?m)^var D = (.*);$", page)[1])
+    return json.loads(found_in(r"(?m)^var D = (.*);$", page)[1])
 
 
 def marks(root, *names):

@@ -147,13 +147,13 @@ class Maps(PictureCase):
         row("the first colours", film["first"], [*facts.merged[0].values()])
         row("its edges", sorted(map(tuple, data["net"]["edges"])), net.edges)
         shown = {key: [pulse[key] for pulse in film["pulses"]] for key in film["pulses"][0]}
-        row("messages", shown["puts"], [[*map(list, pulse.puts)] for pulse in facts.pulses])
+        row("messages", shown["puts"], [[[*put] for put in pulse.puts] for pulse in facts.pulses])
         lists = [colours_after(facts, p) for p in range(last + 1)]
         row("colours", shown["colours"], lists)
         chosen = [{str(v): c for v, c in pulse.chosen.items()} for pulse in facts.pulses]
         row("choices", shown["chosen"], chosen)
         steps = [merge_step(net, p) for p in range(FIRST_MERGE, last + 1)]
-        row("whose turn it is", shown["step"][FIRST_MERGE:], [*map(list, steps)])
+        row("whose turn it is", shown["step"][FIRST_MERGE:], [[*step] for step in steps])
         said = [re.findall(TURN, text) for text in shown["said"][FIRST_MERGE:]]
         wanted = [[(str(k), str(f), str(j + 1), str(k), str(j))] for f, k, j in steps]
         row("the turn in words", said, wanted)

@@ -133,14 +133,14 @@ class Pictures(PictureCase):
         network = re.sub(rb"(?m)^c at .*\n", b"", example("petersen"))
         for more, said in ((b"", b""), (b"c at 1 0 0\n", b"for 1 of 10 vertices")):
             status, _, fault = self.called("plan", network + more)
-            self.note(f"places {more}", status == 0 and bool(fault) == bool(more), fault)
-            self.note(f"places {more}: {said}", said in fault, fault)
+            self.note(f"places {more!r}", status == 0 and bool(fault) == bool(more), fault)
+            self.note(f"places {more!r}: {said!r}", said in fault, fault)
 
     def test_file_names(self):
         """A file's name that is no UTF-8, or has letters that XML hasn't, draws a picture all the same."""
         for name in (b"K\xf6ln.col", b"a\x07\x1b.col", b'"x" <b>&.col'):
             status, picture, fault = painter("rounds", self.file(os.fsdecode(name), example("two")))
-            self.same(f"a file {name}", (status, fault), (0, b""))
+            self.same(f"a file {name!r}", (status, fault), (0, b""))
             ElementTree.fromstring(picture)
 
     def test_examples(self):

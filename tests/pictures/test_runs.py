@@ -23,7 +23,7 @@ def begins_and_tip(group):
 
 def ticks_of(root):
     """Where the ticks of a row are, by the row's place."""
-    ticks = {}
+    ticks: dict[float, list[float]] = {}
     for (x, y), _ in map(ends, marks(root, "tick")):
         ticks.setdefault(y + 10, []).append(x)
     return dict(sorted(ticks.items()))

@@ -41,7 +41,7 @@ def transcript_text(nodes, entries):
 def entries_of(text):
     """{vertex: fields of each entry in its order}, from the vertex on: in edition 2 a stamp is before it."""
     head, *lines = map(str.split, text.decode().splitlines())
-    found = {}
+    found: dict[int, list[list[str]]] = {}
     for line in lines:
         vertex, *entry = line[int(head[1]) - 1 :]
         found.setdefault(int(vertex), []).append([vertex, *entry])

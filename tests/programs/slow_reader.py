@@ -6,6 +6,7 @@ from lab.definitions.colours import forests_text
 from lab.networks.network_text import read_network
 from lab.networks.plan_text import clashes, read_plan
 from lab.wrong import Wrong
+from tests.cases import found_in
 
 # Only a line feed ends a line, only spaces and tabs separate fields, and one carriage return at the end of a line is no
 # part of it.
@@ -28,7 +29,8 @@ def read_by(reader, data, *more):
     try:
         return reader(data.decode("utf-8", "replace"), "it", *more)
     except Wrong as why:
-        line, words, code = re.match(r"it(?: line (\d+))?: (.*) \((\w+)\)", str(why)).groups()
+        said = found_in(r"^it(?: line (\d+))?: (.*) \((\w+)\)", str(why))
+        line, words, code = said.groups()
     vertices = re.match(r"(vert\w+) (\d+)(?: and (\d+))?", words)
     if vertices and code[0] in "CN":
         raise Fault(" ".join(filter(None, (code, *vertices.groups()))))

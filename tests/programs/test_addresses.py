@@ -25,7 +25,7 @@ from lab.studio.links import judge, judged_link
 from lab.studio.networks import opened_by
 from lab.wrong import Wrong
 from tests import FORESTLAB, TOP
-from tests.cases import Case, called, example, said_by, text_in
+from tests.cases import Case, called, example, found_in, said_by, text_in, written_by
 from tests.tools import need
 
 STATES, SEED = 400, 107
@@ -201,7 +201,7 @@ class Addresses(Case):
         drawn = [place for place, state in stored()[1] if place.startswith("#net=")]
         codes = {code for _, code in self.written(states)}
         for place in drawn:
-            self.note(place[:200], re.match("#net=([^&]*)", place)[1] in codes)
+            self.note(place[:200], found_in("^#net=([^&]*)", place)[1] in codes)
 
     def test_refused(self):
         """What no page writes is refused with the reason, however it is written."""
@@ -284,11 +284,11 @@ class Addresses(Case):
         found = opened_by("tab=run&slow=2-1&node=2", here)
         wanted = {"tab": "run", "slow": [(1, 2)], "node": 2}
         self.same("its network is kept", (found.network, found.address.values), (None, wanted))
-        self.same("an empty one", opened_by("net=~", here).network["nodes"], [])
-        found = opened_by("lesson=6").address.values
-        self.same("a lesson's place", (found["tab"], found["without"]), ("adversary", "safes"))
-        found = opened_by(f"{TWO}&tab=check&lesson=6").address.values
-        self.same("another place", (found["tab"], "without" in found), ("check", False))
+        self.same("an empty one", (opened_by("net=~", here).network or {})["nodes"], [])
+        values = opened_by("lesson=6").address.values
+        self.same("a lesson's place", (values["tab"], values["without"]), ("adversary", "safes"))
+        values = opened_by(f"{TWO}&tab=check&lesson=6").address.values
+        self.same("another place", (values["tab"], "without" in values), ("check", False))
 
 
 class Links(Case):
@@ -346,9 +346,10 @@ class Links(Case):
         begun = time.monotonic()
         words = [FORESTLAB, "studio", "--links", links]
         with subprocess.Popen(words, stdout=subprocess.PIPE, text=True) as process:
-            said = process.stdout.readline()
+            output = written_by(process)
+            said = output.readline()
             first = time.monotonic() - begun
-            process.stdout.read()
+            output.read()
         took = time.monotonic() - begun
         self.note(
             "the first one", said.startswith("1: not won") and first < took / 2, (said, first, took)
@@ -375,11 +376,11 @@ class Links(Case):
         self.same("too much memory", list(found[0]), said)
         self.note("the next one", found[1][0].startswith("2: not won"), found[1])
         with mock.patch(
-            "lab.studio.links.judged_link", lambda link: time.sleep(60) or link
+            "lab.studio.links.judged_link", lambda link: time.sleep(60)
         ), mock.patch.object(limits, "SECONDS", 1):
             found = list(judge(["x"]))
         self.same("too much time", found, [(f"1: can't be judged: {limits.TOO_LATE}", False)])
-        with mock.patch("lab.studio.links.judged_link", lambda link: os._exit(3)):
+        with mock.patch("lab.studio.links.judged_link", side_effect=lambda link: os._exit(3)):
             found = list(judge(["x"]))
         self.note("an end without a word", "so it was ended" in found[0][0], found)
         with mock.patch("lab.studio.links.judged_link", lambda link: 1 // 0):

@@ -177,7 +177,7 @@ class BlackBox(Case):
         """Each text whole. The first line is the fault, then maybe a tip, the usage of what was named, and where help
         is; after a word that isn't known, which may be the name of a file, where the network is read from. Which
         options a command has is in its help."""
-        rows = [
+        rows: list[tuple[str, list, str, str]] = [
             *(("forestplan", *row) for row in WRONG_WORDS),
             *(
                 (it.program, [it.name, "extra"], "unexpected argument 'extra' found", it.usage)

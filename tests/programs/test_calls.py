@@ -18,7 +18,7 @@ RUN = {"network": EDGE, "name": "two", "program": "layers root 2"}
 STEPS = {"steps": "1-2_2-1", "without": "fifo"}
 # A call of each name that has all its fields, each good. What is one of two or more (a list or steps, a transcript or a
 # seed) has rows of its own.
-GOOD = [
+GOOD: list[tuple[str, dict]] = [
     ("hello", {}),
     ("address", {"place": "tab=run&node=2", "nodes": 2, "edges": [[1, 2]]}),
     ("example", {"name": "two"}),
@@ -71,7 +71,7 @@ GOOD = [
     ("built", {}),
 ]
 # Values of every type, and of each the ones that are at an end of it.
-VALUES = (
+VALUES: tuple[object, ...] = (
     *(None, True, False, 0, 1, -1, 3, 10**9, 10**30, 1.5, float("inf"), float("nan")),
     *("", "x", "1", "-1", "\0", "\ud800", "1_2", "x" * 100_000, "٣", "constructor", "../x"),
     *([], [0], [[]], [1], [-1, 10**9], ["x"], [None], [[1]], [[1, 1]], [[1, 9]], [[1, 2, 3]]),
@@ -110,7 +110,7 @@ class Calls(FilesCase):
 
     def test_all_are_here(self):
         """Each field of each call is in a call of the list, and each call of the list is good."""
-        fields = {name: set() for name in CALLS}
+        fields: dict[str, set[str]] = {name: set() for name in CALLS}
         for name, asked in GOOD:
             fields[name] |= set(asked)
             self.is_no_fault(f"{name} {asked}", self.outcome(name, text_of(asked)))
@@ -150,7 +150,7 @@ class Calls(FilesCase):
                 found = self.outcome(name, words)
                 self.names_it(f"{name} with two {field}", field, found)
                 if isinstance(value, (str, list)):
-                    found = self.outcome(name, text_of(asked | {field: value + value}))
+                    found = self.outcome(name, text_of(asked | {field: value * 2}))
                     self.is_no_fault(f"{name} {field} doubled", found)
 
     def test_processors(self):

@@ -4,7 +4,7 @@ import os
 import shutil
 import stat
 
-from tests.cases import Case, called, copied
+from tests.cases import Case, called, copied, tool_at
 
 # What the script itself calls.
 TOOLS = ("bash", "dirname", "env", "grep", "sleep", "timeout", "tr")
@@ -12,8 +12,8 @@ TEST = "#!/bin/sh\necho said by the test\necho 3 passed, 1 failed\nexit 1\n"
 # Packages whose command is called as they are, and all others.
 BY_NAME = "black flake8 mypy zsh groff chromium"
 ALL = (
-    "black flake8 mypy bubblewrap zsh graphviz groff binutils default-jdk-headless nodejs gcc "
-    "libc6-dev python3-pip chromium libseccomp2 python3-networkx python3-scipy python3-igraph "
+    "black flake8 mypy bubblewrap zsh graphviz groff binutils default-jdk-headless nodejs "
+    "gcc libc6-dev python3-pip chromium libseccomp2 python3-networkx python3-scipy python3-igraph "
     "python3-pandas python3-matplotlib python3-hypothesis"
 )
 
@@ -33,7 +33,7 @@ class Ci(Case):
         copied(tree, ".ci")
         os.makedirs(here)
         for tool in TOOLS:
-            os.symlink(shutil.which(tool), os.path.join(here, tool))
+            os.symlink(tool_at(tool), os.path.join(here, tool))
         self.program(os.path.join(tree, "test"), TEST)
         self.program(os.path.join(here, "id"), f"#!/bin/sh\necho {user}\n")
         self.program(os.path.join(here, "python3"), "#!/bin/sh\nexit 1\n")

@@ -150,7 +150,7 @@ class Commands(Case):
             (["sheet", "--lesson", "1"], b""),
             (["channels", "7"], b"plan\n1 1\n"),
         ):
-            wanted, done = (forestlab(*words, *more, data=data) for more in ([], ["-o", path]))
+            wanted, done = (forestlab(*words, *more, data=data) for more in ((), ("-o", path)))
             self.same(f"{words} -o", (*done[:2], contents(path)), (0, b"", wanted[1]))
         for words, said in (
             (["picture", "rounds", "nowhere"], b"picture: nowhere: No such file"),

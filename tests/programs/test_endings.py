@@ -163,7 +163,7 @@ class Endings(Case):
     def test_words(self):
         """The doors themselves, without a command, or with one that there isn't."""
         for folder, said in (("lab", "forestlab: "), ("build", "build: one of these is wanted: ")):
-            for words in ([], ["nothing"]):
+            for words in ((), ("nothing",)):
                 done = subprocess.run(
                     [sys.executable, os.path.join(TOP, folder), *words],
                     capture_output=True,

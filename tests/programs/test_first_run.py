@@ -217,20 +217,17 @@ class FirstRun(Case):
             done = tree.run("bash", "-c", line)
             self.same(line, done, (4, "", "forestplan: stream\n"))
         tree.source("forestplay", "")
-        for words, status, is_drawn, said in (
+        for kind, status, is_drawn, said in (
             ("rounds", 0, True, ""),
             ("plan", 0, True, "picture: forestplan isn't built, so "),
             ("run", 1, False, "picture: forestplan isn't built: a first call of it"),
         ):
-            done = tree.run(
-                sys.executable, "-S", "lab", "picture", words, "-", given="p edge 2 1\ne 1 2\n"
-            )
-            good = (done[0], done[1].startswith("<svg ")) == (status, is_drawn) and done[
-                2
-            ].startswith(said)
+            words = [sys.executable, "-S", "lab", "picture", kind, "-"]
+            done = tree.run(*words, given="p edge 2 1\ne 1 2\n")
+            good = (done[0], done[1].startswith("<svg ")) == (status, is_drawn)
             self.note(
-                f"picture {words} where nothing is built",
-                good and bool(done[2]) == bool(said),
+                f"picture {kind} where nothing is built",
+                good and done[2].startswith(said) and bool(done[2]) == bool(said),
                 done,
             )
         self.note("nothing is built by these", not os.path.exists(tree.program))

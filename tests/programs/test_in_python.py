@@ -10,6 +10,7 @@ import os
 import pickle
 import random
 import sys
+from collections.abc import Callable, Sequence
 from concurrent.futures import ProcessPoolExecutor
 from operator import itemgetter
 from unittest import mock
@@ -21,7 +22,7 @@ from lab.network import Network
 from lab.networks.network_text import network_of
 from lab.pictures.palette import CHANNEL_HUES
 from tests import TOP
-from tests.cases import Case, forestlab
+from tests.cases import Case, forestlab, working_in
 from tests.programs.test_own_networks import is_near
 from tests.programs.test_plain_networks import networks_by_chance
 from tests.programs.test_sequels import channels
@@ -41,7 +42,7 @@ SITES = {"Ulm": (0, 0), 7: (0.01, 0.0), "Hof": (0.9, 1.2), "Aue": (-1.2, 0.9), "
 
 # By the call and what it raises: words of a refusal, and what is given. A plan is asked of a graph, bars and a licence;
 # and a graph, a plan, bars and a licence are checked.
-REFUSED = {
+REFUSED: dict[tuple[Callable, type[Exception]], tuple[tuple, ...]] = {
     (forestplan.plan, TypeError): (
         ("a list is no graph", [("Ulm", "Aue")]),
         ("the neighbours of 'Ulm' are 'Aue'", {"Ulm": "Aue"}),
@@ -147,7 +148,7 @@ def wrong_of(seed, text):
     if list(plan) != list(names.values()):
         said.append(f"the order of {list(plan)}")
     for is_planted in (False, True):
-        for v, w in net.edges[:is_planted]:
+        for v, w in [*net.edges][:is_planted]:
             plan[names[v]], found[v] = plan[names[w]], found[w]
         judged = verdict(graph, plan, bars, licence)
         if judged not in (faults_of(net, found, names) or [max(found.values())]):
@@ -254,7 +255,8 @@ class InPython(Case):
         """What is no graph, no list and no whole number is refused, and says where it is; it isn't taken letter by
         letter."""
         for (call, kind), rows in REFUSED.items():
-            for words, *given in rows:
+            for row in rows:
+                words, *given = row
                 why = self.refused(kind, functools.partial(call, *given))
                 self.note(words, words in str(why) and type(why) is kind, why)
 
@@ -263,11 +265,12 @@ class InPython(Case):
         plan = {"Ulm": 1, "Aue": 1, "Hof": 2, "Bonn": 3}
         part = {node: channel for node, channel in plan.items() if node != "Hof"}
         star = {0: range(1, 1025)} | {leaf: () for leaf in range(1, 1025)}
-        for code, nodes, call in (
+        faults: tuple[tuple[str, list, Callable], ...] = (
             ("C4", ["Ulm", "Aue"], lambda: forestplan.check(SQUARE, plan)),
             ("C1", ["Hof"], lambda: forestplan.check(SQUARE, part)),
             ("N1", [0], lambda: forestplan.plan(star)),
-        ):
+        )
+        for code, nodes, call in faults:
             why = self.refused(forestplan.Refused, call)
             self.same(f"{code}: its code and nodes", (why.code, why.nodes), (code, nodes))
             words = f"{' and '.join(map(repr, nodes))} "
@@ -288,7 +291,10 @@ class InPython(Case):
         reasons = [done.exception() for done in found]
         refused = [at for at, why in enumerate(reasons) if why]
         self.same("which are refused", refused, [*range(0, 1000, 10)])
-        plans = [why.plan if why else done.result() for why, done in zip(reasons, found)]
+        plans = [
+            why.plan if isinstance(why, forestplan.Refused) else done.result()
+            for why, done in zip(reasons, found)
+        ]
         wrong = [at for at in range(1000) if not is_proper(graphs[at], plans[at])]
         self.same("which are wrong", wrong, [])
 
@@ -337,7 +343,7 @@ class InPython(Case):
     @needs("bin/forestplan", "bin/forestplay")
     def test_colours(self):
         """The colours are those of the pictures, of real channels, too."""
-        star = {0: range(1, 10), **dict.fromkeys(range(1, 10), ())}
+        star: dict[int, Sequence[int]] = {0: range(1, 10), **{leaf: () for leaf in range(1, 10)}}
         plan = forestplan.plan(star, licence=[40, 36])
         hues = {40: CHANNEL_HUES[0], 36: CHANNEL_HUES[1]}
         self.same("by node", plan.colours(), {node: hues[plan[node]] for node in star})
@@ -382,11 +388,12 @@ def run_cell(code, known):
     tree, result = ast.parse(code), None
     last = tree.body.pop() if isinstance(tree.body[-1], ast.Expr) else None
     said = io.StringIO()
-    with contextlib.chdir(os.path.dirname(NOTEBOOK)), contextlib.redirect_stdout(said):
+    with working_in(os.path.dirname(NOTEBOOK)), contextlib.redirect_stdout(said):
         exec(compile(tree, "cell", "exec"), known)
-        if last:
+        if isinstance(last, ast.Expr):
             result = eval(compile(ast.Expression(last.value), "cell", "eval"), known)
     shown = {} if result is None else {"text/plain": repr(result)}
-    if hasattr(result, "_repr_svg_"):
-        shown["image/svg+xml"] = result._repr_svg_()
+    drawn = getattr(result, "_repr_svg_", None)
+    if drawn:
+        shown["image/svg+xml"] = drawn()
     return [out for out in ({"": said.getvalue()}, shown) if any(out.values())]

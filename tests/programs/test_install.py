@@ -9,11 +9,10 @@ import resource
 import signal
 import subprocess
 import sys
-import tempfile
 
 from build import completion
 from tests import TOP
-from tests.cases import Case, called, contents, copied, text, wait_until
+from tests.cases import FolderCase, called, contents, copied, text, wait_until
 from tests.commands import APART, COMMANDS, PROGRAMS
 from tests.commands import SCRIPTS as OF_BIN
 from tests.pages.test_pages import PAGES, lines_of
@@ -80,12 +79,18 @@ def listed_commands(lines):
                     yield number, command
 
 
-class Install(Case):
+class Install(FolderCase):
+    # Another folder, and the installed one.
+    elsewhere: str
+    target: str
+    # The script that installs.
+    script: list[str]
+
     @classmethod
     def setUpClass(cls):
-        cls.folder = cls.enterClassContext(tempfile.TemporaryDirectory())
+        super().setUpClass()
         cls.elsewhere, cls.target = (
-            os.path.join(cls.folder, name) for name in ("else where", "my plans")
+            os.path.join(cls.of_class, name) for name in ("else where", "my plans")
         )
         os.mkdir(cls.elsewhere)
         cls.script = [*BUILD, "install"]
@@ -162,11 +167,11 @@ class Install(Case):
             got = call(it.program, *it.line, given=text(it.data))
             self.same(f"{it.program} {it.name}", got, (0, text(it.answer), b""))
         own = self.file(os.path.join(self.elsewhere, "net.col"), text(APART))
-        for it in OF_BIN:
-            got = call(*(own if word == "FILE" else word for word in it.line), given=text(it.data))
-            self.note(
-                it.name, got[::2] == (0, b"") and re.fullmatch(it.answer, got[1].decode()), got
-            )
+        for script in OF_BIN:
+            line = (own if word == "FILE" else word for word in script.line)
+            got = call(*line, given=text(script.data))
+            is_answered = re.fullmatch(script.answer, got[1].decode())
+            self.note(script.name, got[::2] == (0, b"") and is_answered, got)
 
     @needs("bin/forestplan", "bin/forestplay")
     def test_manual(self):
@@ -193,19 +198,20 @@ class Install(Case):
         """A folder that has something, this tree and what is in it among them, stays as it is."""
         file = self.file(os.path.join(self.folder, "clash", "lib"), b"")
         clash, new = os.path.dirname(file), os.path.join(self.folder, "new")
-        for words in (
-            [],
-            [self.folder, self.folder],
-            ["--all"],
-            [new, "--prefix", "/usr"],
-            [new, "--destdir", self.folder],
-            [new, "--python", "lib"],
-            ["--prefix", new, "--python", "/lib"],
-            ["--prefix", clash],
-            [clash],
-            [TOP],
-            [os.path.join(TOP, "docs", "new")],
-        ):
+        refused: tuple[tuple[str, ...], ...] = (
+            (),
+            (self.folder, self.folder),
+            ("--all",),
+            (new, "--prefix", "/usr"),
+            (new, "--destdir", self.folder),
+            (new, "--python", "lib"),
+            ("--prefix", new, "--python", "/lib"),
+            ("--prefix", clash),
+            (clash,),
+            (TOP,),
+            (os.path.join(TOP, "docs", "new"),),
+        )
+        for words in refused:
             self.refusal(f"install {words}", run([*self.script, *words]), 2, b"install: error: ")
         self.same("what was there", os.listdir(clash), ["lib"])
 
@@ -302,12 +308,13 @@ class Install(Case):
         """A way to call pip, in which what it installs comes into a room."""
         system, inside = ["/usr/bin/python3"], f"{room}/bin/python"
         alone = ["bwrap", "--dev-bind", "/", "/", "--bind", room, "/usr/local", *system]
-        python, words, settings = {
+        ways: dict[str, tuple[list[str], list[str], dict[str, str]]] = {
             "an environment": ([inside], [], {}),
             "a folder": ([sys.executable], ["--target", room], {"PYTHONPATH": room}),
             "one user": (system, ["--user"], {"PYTHONUSERBASE": room}),
             "all users": (alone, [], {}),
-        }[way]
+        }
+        python, words, settings = ways[way]
         os.mkdir(room)
         if inside in python:
             run([sys.executable, "-m", "venv", "--without-pip", "--system-site-packages", room])

@@ -175,7 +175,7 @@ def play(command, asked, *words, data):
 def program_of(asked):
     """The definition of a program as it is asked for."""
     name, *option = asked.replace("--", "").split()
-    return program_at(name, **({option[0]: int(option[1])} if option else {}))
+    return program_at(name, "1", **({option[0]: int(option[1])} if option else {}))
 
 
 @needs("forestplan", "forestplay")

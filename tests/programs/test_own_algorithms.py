@@ -278,7 +278,7 @@ class OwnAlgorithms(Case):
 
     def test_chance(self):
         """Chance by the seed is the same in the rounds and in each order, and the seed is named."""
-        for seed, words in (("1", []), ("other", ["--lots", "other"])):
+        for seed, words in (("1", ()), ("other", ("--lots", "other"))):
             status, said, _ = self.told(DRAWS, *words)
             good = status == 0 and f"of the draws of --lots {seed} alone\n" in said
             self.note(f"me.random by {seed}", good and "one end" in said, said)

@@ -204,16 +204,15 @@ class OwnNetworks(Case):
             if words.startswith("tree"):
                 before = sorted(w for _, w in net.edges)
                 self.same("each node but the first has one before it", before, [*range(2, 20001)])
-        for name, words in (("queen5_5", ("queen", 5, 5)), ("star", ("star", 9))):
-            self.same(
-                f"the example {name}", edges_of(self.written(*words)), edges_of(example(name))
-            )
+        for name, kind in (("queen5_5", ("queen", 5, 5)), ("star", ("star", 9))):
+            self.same(f"the example {name}", edges_of(self.written(*kind)), edges_of(example(name)))
 
     def test_disk(self):
         """The places are what the seed's numbers say, and two are joined just if they are less than the reach apart."""
         for reach in (0.05, 0.26, 1.5):
             net = network_of(self.written("disk", 60, "--radius", reach, "--seed", 5))
-            source, places = random.Random(5), {}
+            source = random.Random(5)
+            places: dict[tuple[int, int], None] = {}
             while len(places) < 60:
                 places[int(source.random() * 1001), int(source.random() * 1001)] = None
             self.same(f"places of a disk of reach {reach}", [*net.places.values()], [*places])
@@ -258,8 +257,8 @@ class OwnNetworks(Case):
     def test_words(self):
         for words in REFUSED:
             self.refusal(f"refused words: {words}", call(*words.split()), 2, b": error: ")
-        for words in (("path", "9" * 100_000), ("path", "3", "a\nb" * 20_000)):
-            status, text, fault = call(*words)
+        for line in (("path", "9" * 100_000), ("path", "3", "a\nb" * 20_000)):
+            status, text, fault = call(*line)
             said = fault.partition(b"error: ")[2]
             good = (status, text) == (2, b"") and 0 < len(said) < 1000 and said.count(b"\n") == 1
             self.note(f"a long word: {len(words)}", good, fault[:300])
@@ -297,7 +296,7 @@ class OwnNetworks(Case):
             if seed % 2:
                 data = self.written(*source.choice(LARGE).format(nodes).split())
             words = ("read -", "number - --seed 2")[seed // 2 % 2]
-            orders = ([], ["--keep-order"])
+            orders = ((), ("--keep-order",))
             texts = [self.written(*words.split(), *more, data=data) for more in orders]
             command = "plan" if seed % 50 == 1 else "plain"
             plans = [called(PLAN, command, data=text)[1].decode() for text in texts]
@@ -354,7 +353,7 @@ class OwnNetworks(Case):
         said = b"the `p` line says 99 edges, and the text has 1: is it cut?"
         self.note("a text that is cut", said in self.told_of(b"p edge 3 99\ne 1 2\n")[1])
         for data in (b"p edge 2 1\ne 1 2\n", b"p edge 3 2\ne 1 2\ne 2 1\ne 2 3\ne 3 2\n"):
-            self.same(f"not warned of {data}", self.told_of(data)[1], b"")
+            self.same(f"not warned of {data!r}", self.told_of(data)[1], b"")
 
     def test_faults(self):
         """The fault that the program reports (test_codes.py), in words."""
@@ -363,9 +362,9 @@ class OwnNetworks(Case):
             code, _, place = fault.partition(" ")
             lines = told.decode().split("\n")
             said_in = rf"network: -(?=.*{re.escape(said)}).*\({code}\)"
-            good = (status, wrote) == (1, b"") and re.fullmatch(said_in, lines[0])
-            good = good and (f" {place}: " in lines[0] if place.startswith("line") else True)
-            self.note(f"the fault {fault} of {text[:40]!r}", good, told)
+            is_said = (status, wrote) == (1, b"") and re.fullmatch(said_in, lines[0])
+            is_placed = f" {place}: " in lines[0] if place.startswith("line") else True
+            self.note(f"the fault {fault} of {text[:40]!r}", is_said and is_placed, told)
 
     def test_large(self):
         """Of a large network `network tell` has the bound that test_tell compares, and the command that counts."""

@@ -53,8 +53,8 @@ class Plans(Case):
             whole = Run(network_of(data), capacity)
             for words, answer in (
                 (["plan"], plan_text(network_of(data))),
-                (["transcript", "--edition", 1], whole.text()),
-                (["transcript"], whole.merged()),
+                (("transcript", "--edition", 1), whole.text()),
+                (("transcript",), whole.merged()),
             ):
                 call = functools.partial(called, PLAN, *words, data=data)
                 name = f"{words} for {data[:60]!r} with capacity {capacity}"
@@ -75,7 +75,7 @@ class Plans(Case):
                 f"node {v} pulse {program.last_pulse(net)} {ended(net, v, node.program.result())}"
                 for v, node in whole.player.state.nodes.items()
             )
-            for shown, answer in (([], states), (["--transcript"], whole.merged())):
+            for shown, answer in (((), states), (("--transcript",), whole.merged())):
                 call = functools.partial(play, "run", asked, *shown, data=TRIANGLE)
                 name = f"run of {asked} {shown} with capacity {capacity}"
                 self.limit_rows(name, whole, answer, STOPPED_PLAY, call, "--capacity", capacity)

@@ -14,7 +14,7 @@ from lab.networks.network_text import network_of
 from lab.schedules import ruled_rounds, rules
 from lab.schedules.space import Space
 from tests import TOP
-from tests.cases import Case, called, said_by, text_in
+from tests.cases import Case, called, found_in, said_by, text_in
 from tests.programs.test_events import words_of
 from tests.programs.test_plain_networks import networks_by_chance, payloads_of
 from tests.settings import PLAY
@@ -35,7 +35,7 @@ NETWORKS = {
 
 # (network, how it is searched, states, steps), as a trial found them that searched copies of whole states; and as Spin
 # finds them of a model that was written apart (bench/spin).
-TRIAL = [
+TRIAL: list[tuple[str, dict, int, int]] = [
     ("two", {}, 281, 430),
     ("path", {}, 3551, 8843),
     ("triangle", {}, 16473, 50723),
@@ -143,7 +143,7 @@ FAULTS = [
     ),
     (["README.md"], 1, "explore: README.md line 1: `#` begins no line of a network (F8)\n"),
 ]
-REFUSED = [
+REFUSED: list[tuple[list[str], str]] = [
     ([], "NETWORK is missing"),
     (["examples/two.col", "--without", "safes,digit"], "can't be left out together"),
     (["examples/two.col", "--without", "x"], "`x` is no rule"),
@@ -208,7 +208,8 @@ class Schedules(Case):
         for name, count in (("two", 10), ("path", 10), ("triangle", 20)):
             space = Space(net_of(name), limit=MOST)
             for _ in range(count):
-                state, s, events, length = NetState(space.net), 0, [], source.randrange(0, 400)
+                state, s, length = NetState(space.net), 0, source.randrange(0, 400)
+                events: list[str] = []
                 put_all(state)
                 is_right = is_state(space, s, state)
                 while is_right and space.steps(s) and len(events) < length:
@@ -232,7 +233,7 @@ class Schedules(Case):
             less = Space(net_of("two"), without, MOST, reduce=True)
             self.note(f"what goes wrong is found: two without {without}", less.faults)
         # The triangle's counts by the help; and nothing of what it doesn't know.
-        for words in ([], ["--reduce"]):
+        for words in ((), ("--reduce",)):
             said = explored("triangle", *words)[1]
             count = said.split(" states")[0].split(": ")[1]
             self.note(
@@ -249,7 +250,7 @@ class Schedules(Case):
     def test_broken(self):
         for name, without, fault in BROKEN:
             (status, said, _), (_, listed, _) = (
-                self.explored(name, "--without", without, *more) for more in ([], ["--list"])
+                self.explored(name, "--without", without, *more) for more in ((), ("--list",))
             )
             lines = listed.splitlines()
             self.note(f"{name} without {without}", status == 1, said)
@@ -270,7 +271,7 @@ class Schedules(Case):
     def test_whole_lists(self):
         """One whole list of each network, by the program, which ends as `explore` says."""
         for name in ("alone", "apart", "path"):
-            listed, said = (self.explored(name, *more)[1] for more in (["--list"], []))
+            listed, said = (self.explored(name, *more)[1] for more in (("--list",), ()))
             done = called(PLAY, "events", data=list_of(name, listed.splitlines()))
             channels = re.findall(rb"channel (\d+)", done[1])
             ended = f"\none end: channels {b' '.join(channels).decode()}\n"
@@ -294,7 +295,7 @@ class Schedules(Case):
             part = gallery.partition(f"\n### `{word}`: ")[2].partition("\n### ")[0]
             self.note(f"{word} in the gallery", f"--without {word}" in part and rule.edit in part)
             if word in rules.OF_ROUNDS:
-                said = re.search(r"br(?:eaks|oken on)\s(.*?)(?:[.:;]|\n *after)", part, re.S)[1]
+                said = found_in(r"br(?:eaks|oken on)\s(.*?)(?:[.:;]|\n *after)", part, re.S)[1]
                 edges = [(int(v), int(w)) for v, w in re.findall(r"(\d)-(\d)", said)]
                 found = ruled_rounds.smallest_wrong([word])[0].net.edges
                 self.same(f"the smallest network without {word}", found, edges)
@@ -310,8 +311,8 @@ class Schedules(Case):
     def test_words(self):
         for words, status, fault in FAULTS:
             self.same(f"explore {' '.join(words)}", explored(*words), (status, "", fault))
-        for words, fault in REFUSED:
-            self.refusal(f"explore {' '.join(words)}", explored(*words), 2, fault)
+        for line, said in REFUSED:
+            self.refusal(f"explore {' '.join(line)}", explored(*line), 2, said)
         self.note(
             "explore at the limit", explored("examples/triangle.col", "--limit", "16473")[0] == 0
         )

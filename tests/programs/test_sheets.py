@@ -7,7 +7,7 @@ import re
 
 from lab.definitions.colours import bit, drop, first_colours, merge, shift
 from lab.networks.network_text import network_of
-from tests.cases import Case, said_by
+from tests.cases import Case, found_in, said_by
 from tests.programs.test_plain_networks import payloads_of, reached
 
 
@@ -31,7 +31,7 @@ ASKED = r"the colours of node (\d+) .*?its parent (\d+) .*?does node (\d+) choos
 
 def ends_of(section):
     """The ends of the edge that is still."""
-    return map(int, re.search(r"over the edge (\d)–(\d)", section).groups())
+    return map(int, found_in(r"over the edge (\d)–(\d)", section).groups())
 
 
 def colours_of(net, f: int) -> list[dict]:
@@ -71,7 +71,7 @@ def shifted_and_dropped(x: int, parents: dict, before: dict) -> tuple[dict, dict
 
 class Sheets(Case):
     def check(self, name, section):
-        net = network_of(re.search(r"<pre>(.*?)</pre>", section, re.S)[1].encode())
+        net = network_of(found_in(r"<pre>(.*?)</pre>", section, re.S)[1].encode())
         sizes = (len(reached(net, 1)), len(net.edges), net.greatest_degree, net.forest_count)
         self.same(f"{name}: its network", sizes, (8, 9, 3, 2))
         tables = rows_of(section)
@@ -101,7 +101,7 @@ class Sheets(Case):
     def line_rows(self, name, net, section, plan):
         """The answers that are written on lines."""
         payloads, after_bits = payloads_of(net), colours_of(net, 0)[1:5]
-        child, parent, chooser = map(int, re.search(ASKED, section, re.S).groups())
+        child, parent, chooser = map(int, found_in(ASKED, section, re.S).groups())
         self.note(f"{name}: its payloads", f"has {payloads} payloads" in section, payloads)
         clashes = [f"{v} and {w}" for v, w in net.edges if plan[v - 1] == plan[w - 1]]
         self.note(f"{name}: two neighbours of one channel", clashes, plan)

@@ -39,20 +39,24 @@ class Waits(Case):
         nothing, 4 and 6 wait for its acknowledgement, and 3 for 4's safe; 2 makes one pulse, and 1 two.
         """
         net = network_of(example("chain6"))
-        for held, waits, pulses in (
+        for name, entries, waits, pulses in (
             (
-                {"slow": [(2, 3)]},
+                "a slow link",
+                played(net, seed="5", slow=[(2, 3)]),
                 lambda it: {it.vertex, it.neighbour} == {2, 3},
                 [0, 0, 0, 0, 1, 2],
             ),
-            ({"lazy": [5]}, lambda it: it.vertex == 5, [2, 1, 0, 0, 0, 0]),
+            (
+                "a lazy node",
+                played(net, seed="5", lazy=[5]),
+                lambda it: it.vertex == 5,
+                [2, 1, 0, 0, 0, 0],
+            ),
         ):
             state = NetState(net)
-            for entry in itertools.takewhile(
-                lambda it: not waits(it), played(net, seed="5", **held)
-            ):
+            for entry in itertools.takewhile(lambda it: not waits(it), entries):
                 make(state, entry)
-            self.same(f"{held}", [node.pulse_number for node in state.nodes.values()], pulses)
+            self.same(name, [node.pulse_number for node in state.nodes.values()], pulses)
 
 
 class Runs(Case):
@@ -78,7 +82,7 @@ class Runs(Case):
     def test_repeatable(self):
         """Two calls give the same bytes, and seeds differ; the first one is taken without --seed."""
         one, other, again = (
-            simulate("triangle", *words)[1] for words in (["--seed", "1"], ["--seed", "x"], [])
+            simulate("triangle", *words)[1] for words in (("--seed", "1"), ("--seed", "x"), ())
         )
         self.assertTrue(one == again != other)
 

@@ -197,19 +197,19 @@ class Channels(Case):
     def test_files(self):
         """The licence as a table; test_reading.py has what else a table may be."""
         for table, words, unread in (
-            ("Bemerkung;channel\r\ngut;36\r\ngut;40\r\n;;\r\n", [], "Bemerkung"),
-            ("Kanal,MHz\n36,1\n40,2\n", ["--columns", "channel=kanal"], "MHz"),
-            ("36,x\n40,y\n", ["--no-heading"], "column 2"),
+            ("Bemerkung;channel\r\ngut;36\r\ngut;40\r\n;;\r\n", (), "Bemerkung"),
+            ("Kanal,MHz\n36,1\n40,2\n", ("--columns", "channel=kanal"), "MHz"),
+            ("36,x\n40,y\n", ("--no-heading",), "column 2"),
         ):
             path = self.file("my licence.csv", table)
             said = f"channels: {path}: columns that aren't read: {unread}\n"
             got = self.call(*words, path, data="plan\n1 2\n2 1\n")
             self.same(f"{table!r} {words}", got, (0, "plan\n1 40\n2 36\n", said))
         for table, words, said in (
-            ("Frequency\n5180\n", [], "line 1: no heading with channel"),
-            ("channel,power\n36,1\nforty,1\n", [], "line 3: no channel: `forty`"),
-            ("channel,power\n36,1\n36,2\n", [], "names a channel twice"),
-            ("channel\n36\n", ["--no-heading"], "line 1: it is a heading"),
+            ("Frequency\n5180\n", (), "line 1: no heading with channel"),
+            ("channel,power\n36,1\nforty,1\n", (), "line 3: no channel: `forty`"),
+            ("channel,power\n36,1\n36,2\n", (), "names a channel twice"),
+            ("channel\n36\n", ("--no-heading",), "line 1: it is a heading"),
         ):
             got = self.call(*words, self.file("licence.csv", table), data="plan\n1 2\n2 1\n")
             self.refusal(f"{table!r} {words}", got, 1, said)
@@ -242,9 +242,12 @@ class Channels(Case):
                 got[:2] == (1, "") and said in got[2] and got[2].count("\n") == 1,
                 got,
             )
-        for words in ([], ["x"], ["1", "1"], ["5-1"], ["36-63/4"], ["1-3000"], ["--run", "--back"]):
+        for line in ("", "x", "1 1", "5-1", "36-63/4", "1-3000", "--run --back"):
             self.refusal(
-                f"refused words: {words}", self.call(*words, data="plan\n"), 2, "channels: error: "
+                f"refused words: {line}",
+                self.call(*line.split(), data="plan\n"),
+                2,
+                "channels: error: ",
             )
 
     def test_names(self):
@@ -261,4 +264,4 @@ class Channels(Case):
             (b"plan\n2 1\n1 2\n", other),
             (b"plan\n1 1\n2 2\n3 3\n", other),
         ):
-            self.refusal(f"{data}", call("names", path, data=data), 1, said)
+            self.refusal(f"{data!r}", call("names", path, data=data), 1, said)

@@ -14,7 +14,7 @@ from tests.tools import SYSTEM, need
 PATH = f"{TOP}/bin:/usr/bin:/bin"
 EDGE = {"Ulm": {"Aue"}, "Aue": {"Ulm"}}
 # Files, the words of a call, and how many of the commands that it prints have to read an edge between Ulm and Aue.
-ASKED = (
+ASKED: tuple[tuple[dict, str, int], ...] = (
     ({"net": "source,target\nUlm,Aue\n"}, "net", 1),
     ({"my net.txt": "Ulm Aue\n"}, "'my net.txt'", 1),
     ({"$(x) 'y'.txt": "Ulm Aue\nAue\n"}, "\"\\$(x) 'y'.txt\"", 1),

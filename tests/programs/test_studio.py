@@ -16,7 +16,17 @@ from unittest import mock
 
 from lab.schedules.policies import POLICIES
 from tests import TOP
-from tests.cases import Case, copied, example, examples, said_by, text_in, wait_until
+from tests.cases import (
+    Case,
+    complaints_of,
+    copied,
+    example,
+    examples,
+    found_in,
+    said_by,
+    text_in,
+    wait_until,
+)
 
 TRIANGLE = "p edge 3 3\ne 1 2\ne 1 3\ne 2 3\n"
 EDGE, ROW = "p edge 2 1\ne 1 2\n", "p edge 3 2\ne 1 2\ne 2 3\n"
@@ -52,13 +62,14 @@ def begin(*words, top=TOP):
         text=True,
         preexec_fn=lambda: signal.signal(signal.SIGINT, signal.default_int_handler),
     )
-    return process, re.search(r"http\S+", process.stderr.readline()).group()
+    return process, found_in(r"http\S+", complaints_of(process).readline()).group()
 
 
 class Server(Case):
     """A studio at a free port, and what is asked of it."""
 
-    words, top = (), TOP
+    words: list[str] = []
+    top = TOP
 
     def setUp(self):
         with socket.create_server(("127.0.0.1", 0)) as free:
@@ -167,10 +178,10 @@ class Refusals(Server):
             self.refuses(f"example {name}", "no example", "example", name=name)
         for name in ("/x.py", "x.py", "examples/algorithms/independent_set.py", "?"):
             for call in ("run", "steps", "rounds"):
-                asked = {"network": TRIANGLE, "program": name}
-                asked |= {"policy": "random"} if call == "run" else {}
+                policy = {"policy": "random"} if call == "run" else {}
+                asked = {"network": TRIANGLE, "program": name} | policy
                 self.refuses(f"{call} of program {name}", "no program", call, **asked)
-        rows = [
+        rows: list[tuple[str, dict, str]] = [
             ("run", {"policy": "random", "slow": [[1, 9]]}, "isn't in this network"),
             ("plan", {"network": "p edge 2 1\ne 1 3\n"}, "(F5)"),
             ("broken", {"without": "x"}, "no such rule"),
@@ -182,17 +193,18 @@ class Refusals(Server):
             ("steps", {"list": "c a list\nput 1 0\nput 1 0"}, "line 3: `put 1 0` isn't"),
             ("steps", {"list": "take 1 0 1"}, "overtakes"),
         ]
-        for call, asked, words in rows:
-            self.refuses(f"{call} {asked}", words, call, **{"network": TRIANGLE} | asked)
-        for asked, words in (
+        for call, fields, words in rows:
+            self.refuses(f"{call} {fields}", words, call, **{"network": TRIANGLE} | fields)
+        wrong: tuple[tuple[dict, str], ...] = (
             ({}, "lacks its field network"),
             ({"network": 7}, "field network of the call: a text"),
             ({"network": TRIANGLE}, "lacks its field vertex"),
             ({"network": TRIANGLE, "vertex": "x"}, "field vertex of the call: a whole number"),
             ({"network": TRIANGLE, "vertex": 4}, "field vertex: there is no node 4"),
             ({"network": TRIANGLE, "vertex": 1, "vertx": 1}, "no field vertx"),
-        ):
-            self.refuses(f"nonsense {asked}", words, "why", **asked)
+        )
+        for given, words in wrong:
+            self.refuses(f"nonsense {given}", words, "why", **given)
         twice = self.ask("/call/why", '{"vertex": 1, "vertex": 2}')
         self.note("a field twice", twice[0] == 400 and "vertex twice" in twice[1], twice)
         for size in ("", "1e2", "-1", None, float("inf"), 401):
@@ -321,9 +333,9 @@ class Answers(Server):
         self.same("the page's own text", got["edges"], [[1, 2], [1, 3], [2, 3]])
         got = self.opened("x.dot", "graph { a -- b }")
         self.note("with what can be done", "gv2gml -o x.gml x.dot" in got.get("wrong", ""), got)
-        for words in (["--columns", "x=1"], ["--sites", "x"], [7]):
-            got = self.opened("x.csv", table, *words)
-            self.note(f"stated as {words}", "wrong" in got, got)
+        for stated in (("--columns", "x=1"), ("--sites", "x"), (7,)):
+            got = self.opened("x.csv", table, *stated)
+            self.note(f"stated as {stated}", "wrong" in got, got)
 
     def test_answers(self):
         lessons = self.found("hello")["lessons"]
@@ -427,7 +439,7 @@ class Answers(Server):
 
     def test_dares(self):
         """A dare is won by steps, in the studio and in a list of links."""
-        rows = [
+        rows: list[tuple[str, dict, bool, str]] = [
             ("path", {"dare": "ends", "lazy": [1]}, True, "2 of 2 pulses apart"),
             ("path", {"dare": "apart", "lazy": [1]}, False, "1 of 2 pulses"),
             ("two", {"dare": "results"}, False, "the same results"),
@@ -454,12 +466,13 @@ class Answers(Server):
     def test_predictions(self):
         """What a student says comes beside what the definitions find: colours as lesson 3 works them out."""
         petersen = examples()["petersen"].decode()
-        for network, asked, found in (
+        rows: tuple[tuple[str, dict, str], ...] = (
             *((petersen, {"vertex": 8, "pulse": p}, c) for p, c in enumerate("82311", 2)),
             (TRIANGLE, {"vertex": 2, "pulse": 26}, "3"),
             (TRIANGLE, {"vertex": 2, "pulse": 25}, "-"),
             (EDGE, {"vertex": 1, "pulse": 1, "program": "leader"}, "leader 2"),
-        ):
+        )
+        for network, asked, found in rows:
             for said in (f" {found.upper()} ", f"{found}1"):
                 got = self.found("predict", network=network, said=said, **asked)
                 wanted = (said != f"{found}1", found, True)
@@ -474,11 +487,12 @@ class Answers(Server):
 
     def test_results(self):
         """The picture of what nodes have found, by the program with its option."""
-        for network, asked, wanted in (
+        rows: tuple[tuple[str, dict, list[str]], ...] = (
             (EDGE, {"program": "recolouring passes 3"}, ["channel 1", "channel 2"]),
             (ROW, {"program": "layers root 3"}, ["layer 2 by 0", "layer 1 by 1", "layer 0"]),
             (EDGE, {}, ["channel 1", "channel 2"]),
-        ):
+        )
+        for network, asked, wanted in rows:
             got = self.answer("picture", network=network, kind="results", **asked)
             found = re.findall(r"<title>node \d+: (.*?)</title>", got.get("answer", ""))
             self.note(f"results of {asked}", found == wanted, got)
@@ -562,7 +576,7 @@ class Unbuilt(Answers):
     def test_what_needs_the_kit(self):
         """The page and the help say that proving needs the kit."""
         page = " ".join(text_in("lab", "studio", "page", "page.html").split())
-        button = re.search(r'<button id="begin".*?</button>', page)[0]
+        button = found_in(r'<button id="begin".*?</button>', page)[0]
         self.note("the button", "needs the Rattle kit" in button, button)
         said = said_by("studio", "--help")[1]
         self.note("the help", "Only this button needs the Rattle kit." in said, said)

@@ -153,15 +153,15 @@ class Transcripts(Case):
         self.refusal("a text that is no network", check(transcript), 1, b"transcript line 1: `")
         for words in ([], [network, transcript, "x"]):
             self.refusal(f"the words {words}", check(*words), 2, b"error: ")
-        for data, wanted in (
+        for data, verdict in (
             (whole, {"right": True, "words": EDGE_WHOLE}),
             (wrong, {"right": False, "line": 2, "code": "LinkEmpty", "words": why}),
         ):
             status, told, fault = check("--json", network, data=data)
             self.same(
-                f"--json: {wanted}",
+                f"--json: {verdict}",
                 (status, json.loads(told), fault),
-                (1 - wanted["right"], wanted, b""),
+                (0 if verdict["right"] else 1, verdict, b""),
             )
 
     def test_cut(self):

@@ -151,21 +151,24 @@ def networkx_writers(nx) -> list[Writer]:
     def by_numbers(form):
         """A form without names: its nodes are sorted."""
         write = by(form)
-        return lambda one: write(Meant(list(range(len(one.nodes))), one.numbers()))
+        return lambda one: write(Meant([*range(len(one.nodes))], one.numbers()))
 
     def in_json(one: Meant) -> bytes:
         return json.dumps(nx.node_link_data(graph_of(one, nx.MultiGraph)), indent=1).encode()
 
-    ends = {"lacks": " ", "has_lone": False}
+    def edges(form, write):
+        """A form of lines, which has no node without an edge."""
+        return Writer(form, "net.edgelist", write, lacks=" ", has_lone=False)
+
     return [
         Writer("GraphML", "net.graphml", by("graphml", nx.MultiDiGraph)),
         Writer("GEXF", "net.gexf", by("gexf")),
         Writer("GML", "net.gml", by("gml", nx.MultiGraph)),
         Writer("JSON", "net.json", in_json),
         Writer("adjacency", "net.adjlist", by("adjlist"), lacks=" "),
-        Writer("edges", "net.edgelist", by("edgelist"), **ends),
-        Writer("edges, bare", "net.edgelist", by("edgelist", data=False), **ends),
-        Writer("edges, weights", "net.edgelist", by("weighted_edgelist"), **ends),
+        edges("edges", by("edgelist")),
+        edges("edges, bare", by("edgelist", data=False)),
+        edges("edges, weights", by("weighted_edgelist")),
         Writer("graph6", "net.g6", by_numbers("graph6"), has_names=False),
         Writer("sparse6", "net.s6", by_numbers("sparse6"), has_names=False),
     ]

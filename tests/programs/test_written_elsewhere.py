@@ -14,9 +14,6 @@ from tests.programs import test_written
 from tests.programs.test_written import Meant, Writer, through_file
 from tests.tools import need, needs
 
-NUMBERED = {"has_names": False, "has_lone": False}
-LINES = {"words": ("--as", "edges"), "lacks": " ", "has_lone": False}
-
 
 def igraph_writers() -> list[Writer]:
     igraph = importlib.import_module("igraph")
@@ -33,8 +30,8 @@ def igraph_writers() -> list[Writer]:
     return [
         Writer("GraphML", "net.graphml", by("graphml")),
         Writer("GML", "net.gml", by("gml")),
-        Writer("edges", "net.edgelist", by("edgelist"), **NUMBERED),
-        Writer("NCOL", "net.ncol", by("ncol"), **LINES),
+        Writer("edges", "net.edgelist", by("edgelist"), has_names=False, has_lone=False),
+        Writer("NCOL", "net.ncol", by("ncol"), ("--as", "edges"), lacks=" ", has_lone=False),
     ]
 
 

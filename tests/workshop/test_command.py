@@ -142,11 +142,11 @@ class Command(Played):
                     .splitlines()
                 )
                 self.assertEqual(len(lines), len(expected))
-                for line, words in zip(lines, expected):
+                for line, wanted in zip(lines, expected):
                     done = subprocess.run(
                         ["bash", "-c", line], cwd=here, capture_output=True, text=True
                     )
-                    self.assertIn(words, done.stdout + done.stderr)
+                    self.assertIn(wanted, done.stdout + done.stderr)
 
     def test_the_record_is_what_the_programs_read_and_wrote(self):
         logs, kept = self.path("logs"), self.path("kept")

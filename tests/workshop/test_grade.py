@@ -13,7 +13,7 @@ from unittest import mock
 from lab.schedules.policies import POLICIES
 from lab.workshop import grade, parts, submissions
 from lab.wrong import Wrong
-from tests.cases import Case, text_in, wait_until
+from tests.cases import Case, text_in, tool_at, wait_until
 from tests.tools import need, needs
 from tests.workshop.base import DOOR, LIMIT, call
 from tests.workshop.submitted import MUTE, RIGHT, ZERO, Submitted
@@ -118,7 +118,7 @@ class Grades(Submitted):
         tools = os.path.join(self.folder, "tools")
         os.makedirs(tools)
         for name in ("bash", "python3", "readlink", "dirname", "chmod", "rm"):
-            os.symlink(os.path.realpath(shutil.which(name)), os.path.join(tools, name))
+            os.symlink(os.path.realpath(tool_at(name)), os.path.join(tools, name))
         self.submit("anna", rounds_node_py=ZERO)
         given = {**os.environ, "PATH": tools}
         done = call("grade", self.subs, env=given)
@@ -155,7 +155,7 @@ class Grades(Submitted):
         with mock.patch.object(parts, "play_all", play), mock.patch.object(parts, "AGAIN", 2):
             parts.play_again(some, argparse.Namespace(seconds=600.0), "room")
         self.same("seconds", seen, [400, 600, 600])
-        self.same("right runs", [part.result["right"] for part in some], [5, 9, 5])
+        self.same("right runs", [(part.result or {})["right"] for part in some], [5, 9, 5])
 
     def test_a_result_is_only_what_the_workshop_says_itself(self):
         """A process that plays a part is ended, or hangs: that is no result."""
@@ -188,9 +188,9 @@ class Grades(Submitted):
 
     def test_statuses(self):
         for words, status, said in (
-            (["nowhere"], 2, "nowhere: No such file or directory"),
-            ([self.folder, "--jobs", "0"], 2, "0 is no number"),
-            ([], 2, "required: FOLDER"),
+            (("nowhere",), 2, "nowhere: No such file or directory"),
+            ((self.folder, "--jobs", "0"), 2, "0 is no number"),
+            ((), 2, "required: FOLDER"),
         ):
             done = call("grade", *words)
             self.assertEqual((done.returncode, done.stdout), (status, ""), done)

@@ -168,7 +168,7 @@ class Memory(Contained):
         limits = Limits(20, MEGABYTES, 2)
         begin = f"for _ in range(3):\n{TAKE}"
         slow, grows = (
-            Process(node(*words), limits, within, 0) for words in [("", "pass", 4.0), (begin,)]
+            Process(words, limits, within, 0) for words in (node(seconds=4.0), node(begin))
         )
         try:
             slow.send(["pulse"])

@@ -7,7 +7,7 @@ import subprocess
 import sys
 import time
 
-from tests.cases import contents, wait_until
+from tests.cases import complaints_of, contents, wait_until, written_by
 from tests.tools import needs
 from tests.workshop.base import ALPHA, DOOR, EXAMPLES, LIMIT, Played, played
 
@@ -187,7 +187,8 @@ class Misbehaving(Played):
                 )  # the workshop's own words have the mark, too
                 time.sleep(0.3)
                 workshop.send_signal(number)
-                self.assertEqual((workshop.wait(LIMIT), workshop.stdout.read()), (status, b""))
-                workshop.stdout.close()
-                workshop.stderr.close()
+                output = written_by(workshop)
+                self.assertEqual((workshop.wait(LIMIT), output.read()), (status, b""))
+                output.close()
+                complaints_of(workshop).close()
                 self.assertEqual(left_at_last(), [])

@@ -62,7 +62,7 @@ COLOURING = {
 PULSE = "a node makes its next pulse once it has said safe and has the safes of all its neighbours"
 SAFE = "once each payload that it sent in P is acknowledged; it "
 NO_ACK = "it can't have said safe yet: it lacks the acknowledgement of pulse 1 by port 0"
-SYNCHRONISER = {
+SYNCHRONISER: dict[str, tuple] = {
     "acks_own_pulse": (
         "WrongWire",
         2,
@@ -146,7 +146,8 @@ SYNCHRONISER = {
 SHOWN_ON = {"anew_bars": BARRED, "matching_greatest": "star4", "layers": "path4"}
 # By program and mistake, (node, pulse) of what is found with a clock on path4 or a triangle, the verdict and the pulse
 # without one, the rule that is said, and the numbers of this node that are said after it. test_words.py has the words.
-LAYER = (2, 3, "result", 3, FOUND["layers"], [])
+NO_NUMBERS: list[int] = []
+LAYER = (2, 3, "result", 3, FOUND["layers"], NO_NUMBERS)
 OTHERS: dict[str, dict[str, tuple]] = {
     "layers": {"layers_last": LAYER, "layers_port": LAYER},
     "matching": {
@@ -294,8 +295,8 @@ def tried(name):
         return "alpha", [], [*networks, "--policies", "newest,late-acks"]
     if name in MISTAKES.COLOURING:
         return "rounds", [], ["path1", "most4", "rest3", "drops8"]
-    program, networks = TRIED[name.partition("_")[0]]
-    return "rounds", [program], [*networks, "--program", program]
+    program, given = TRIED[name.partition("_")[0]]
+    return "rounds", [program], [*given, "--program", program]
 
 
 @needs("bin/forestplan", "bin/forestplay")

@@ -9,7 +9,7 @@ from lab.schedules.policies import POLICIES
 from lab.transcripts.fields import PAYLOADS
 from lab.workshop import cases, class_files, guard, options, processes, protocol
 from tests import TOP
-from tests.cases import Case, called, said_by, text_in
+from tests.cases import Case, FolderCase, called, found_in, said_by, text_in
 from tests.tools import needs
 from tests.workshop.base import MISTAKES, call, python
 
@@ -68,7 +68,7 @@ class Pages(Case):
             (teaching, len(POLICIES), r"each of the (\w+) policies of which"),
             (teaching, len(cases.NETWORKS.split(",")), r"of which all (\w+) runs are right"),
         ):
-            found = re.search(words, text)[1].replace(",", "")
+            found = found_in(words, text)[1].replace(",", "")
             self.same(words, NUMBERS.get(found, found), f"{number:.0f}")
         self.assertEqual(guard.Limits(1, 1, 17).written < guard.Limits(1, 1, 16).written, True)
 
@@ -81,14 +81,17 @@ class Pages(Case):
 
 
 @needs("bin/forestplan", "bin/forestplay")
-class ClassFolder(Case):
+class ClassFolder(FolderCase):
+    # The files of the folder.
+    found: set[str]
+
     @classmethod
     def setUpClass(cls):
-        cls.folder = cls.enterClassContext(tempfile.TemporaryDirectory())
-        class_files.copy_class(cls.folder)
+        super().setUpClass()
+        class_files.copy_class(cls.of_class)
         cls.found = {
-            os.path.relpath(os.path.join(at, name), cls.folder)
-            for at, _, names in os.walk(cls.folder)
+            os.path.relpath(os.path.join(at, name), cls.of_class)
+            for at, _, names in os.walk(cls.of_class)
             for name in names
         }
 

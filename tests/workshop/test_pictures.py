@@ -2,7 +2,7 @@
 import os
 import re
 
-from tests.cases import example, text_in
+from tests.cases import example, found_in, text_in
 from tests.pictures.base import painter, transcript
 from tests.tools import needs
 from tests.workshop.base import Played, call, python
@@ -121,7 +121,7 @@ class Pictures(Played):
         self.assertRegex(svg, r"\(NotWhole\): it stops at node [12]\.")
         self.assertRegex(
             done.stdout,
-            f"node {re.search(r'it stops at node ([12])', svg)[1]} at pulse 0 doesn't put",
+            f"node {found_in(r'it stops at node ([12])', svg)[1]} at pulse 0 doesn't put",
         )
         self.assertEqual(
             len(re.findall('<g class="payload"', svg[: svg.index('<g class="lower"')])), 2

@@ -8,6 +8,7 @@ import subprocess
 
 from lab.workshop.guard import Guard
 from lab.workshop.sandbox import USERS
+from tests.cases import remove
 from tests.workshop.contained import NODE, REFUSED, RIGHT, Contained, done, got, program, started
 from tests.workshop.test_misbehaving import MARK
 
@@ -137,7 +138,7 @@ class Reach(Contained):
         if os.geteuid() == 0:
             attacks, names = attacks | COPIES | OF_ROOT, names | self.away()
             for path in (f"/{MARK}", f"/dev/{MARK}"):
-                self.addCleanup(lambda path=path: os.path.exists(path) and os.remove(path))
+                self.addCleanup(remove, path)
         tried = {name: words.format(**names) for name, words in attacks.items()}
         within, without = (got(done(guard, program(tried, BEGIN))) for guard in self.guards())
         self.same("all are tried", within.keys(), attacks.keys())

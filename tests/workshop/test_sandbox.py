@@ -15,7 +15,7 @@ from lab.workshop.leftovers import end_all, shut
 from lab.workshop.processes import Process
 from lab.workshop.sandbox import Sandbox
 from lab.wrong import Wrong
-from tests.cases import wait_until
+from tests.cases import remove, wait_until
 from tests.tools import need
 from tests.workshop.base import JAVA, LIMIT
 from tests.workshop.contained import NODE, REFUSED, RIGHT, Contained, done, got, program, started
@@ -112,7 +112,7 @@ class Sandboxed(Contained):
         names = self.names()
         of_root = OF_ROOT if os.geteuid() == 0 else {}
         attacks = {name: words.format(**names) for name, words in (ATTACKS | of_root).items()}
-        self.addCleanup(lambda: os.path.exists(f"/dev/{MARK}") and os.remove(f"/dev/{MARK}"))
+        self.addCleanup(remove, f"/dev/{MARK}")
         if of_root:  # a folder of the system that is open to all
             os.makedirs(f"/opt/{MARK}")
             os.chmod(f"/opt/{MARK}", 0o777)

@@ -69,7 +69,7 @@ class Skeletons(Case):
                     call(
                         kind, "path3", *more, "--", *self.command(os.path.join(FOLDER, name))
                     ).stdout.splitlines()[1:]
-                    for more in ([], ["--one-process"])
+                    for more in ((), ("--one-process",))
                 )
                 self.assertIn(WRONG[kind], "\n".join(several))
                 self.assertEqual([*several, *[f"note   {APART}"] * (kind != "open")], one)

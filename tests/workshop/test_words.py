@@ -18,7 +18,8 @@ from tests.workshop.base import network, options_of
 # the 5, node 1 the 1, and the root 0. Node 2 drops 5: it had 0, its parent has 1, so it takes 2.
 ROW = Network(3, [(1, 2), (1, 3)], {1: 7, 2: 2, 3: 11}, name="row")
 # Node, pulse, what `Why` is asked of besides, and this node's numbers at the end of what it says.
-OF_ROW = (
+Rows = tuple[tuple[int, int | None, dict[str, int], str], ...]
+OF_ROW: Rows = (
     (
         1,
         1,
@@ -51,7 +52,7 @@ OF_ROW = (
     ),
     (1, 12, {}, "nodes choose in the pulses after 12 alone"),
 )
-OF_TWO = (
+OF_TWO: Rows = (
     (
         2,
         15,
@@ -72,7 +73,7 @@ OF_TWO = (
     ),
 )
 # Of other programs, on the networks of test_nodes.py, which works the numbers out.
-OF_LAYERS = (
+OF_LAYERS: Rows = (
     (
         2,
         None,
@@ -81,7 +82,7 @@ OF_LAYERS = (
         "`hops N` that comes, by the least port by which it comes; if none comes, in none",
     ),
 )
-OF_MATCHING = (
+OF_MATCHING: Rows = (
     (
         2,
         16,
@@ -93,7 +94,7 @@ OF_MATCHING = (
         "pulse 16",
     ),
 )
-OF_SET = (
+OF_SET: Rows = (
     (
         1,
         32,
@@ -103,7 +104,7 @@ OF_SET = (
         "`joined 0` came by port 1 in pulse 32",
     ),
 )
-OF_BARRED = (
+OF_BARRED: Rows = (
     (
         1,
         None,
