@@ -70,9 +70,11 @@ def text_of(name):
 
 def joined(main):
     """The modules that a page needs as one script, on one line: imports and exports go, since all names are in one
-    place, and comments, each of which is a line of its own."""
+    place, and comments: what is said to a reader has lines of its own, and types are in `/** .. */` on one line.
+    """
     text = "".join([hues(), *(text_of(f"{name}.js") for name in (*MODULES, main))])
-    text = re.sub(r"(?ms)^import .*?;$", "", re.sub(r"(?m)^export |^ *//.*$", "", text))
+    text = re.sub(r"(?m)^export |^ *//.*$|/\*\*.*?\*/ ?", "", text)
+    text = re.sub(r"(?ms)^import .*?;$", "", text)
     return " ".join(line.strip() for line in text.split("\n") if line.strip())
 
 

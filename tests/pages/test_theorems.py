@@ -12,7 +12,7 @@ import re
 from build.crate_lists import listed, with_below
 from lab.version import NUMBER
 from tests import TOP
-from tests.cases import FilesCase, text_in
+from tests.cases import FilesCase, found_in, text_in
 from tests.pages.test_pages import crate_files, named_clauses, tables_of, unknown_clauses
 
 PAGE = os.path.join("docs", "claim", "THEOREMS.md")
@@ -63,7 +63,8 @@ class Theorems(FilesCase):
         self.note(name, abs(number - real) <= MOST_OFF * real, f"{number}, and it is {real}")
 
     def test_clauses(self):
-        named, crates = named_clauses(text_in(PAGE)), {}
+        named = named_clauses(text_in(PAGE))
+        crates: dict[str, dict[str, set[str]]] = {}
         for path, said in named:
             missing = unknown_clauses(path, said, crates)
             self.note(f"{PAGE} {path}", not missing, f"not in the code: {missing}")
@@ -93,7 +94,7 @@ class Theorems(FilesCase):
                     self.near(f"lines to judge {name}", lines, lines_to_read(paths))
             if rows[0] == ["What", "Lines"]:
                 for name, lines in rows[2:]:
-                    part = re.search(r"crates/\*/(\w+)", name)[1]
+                    part = found_in(r"crates/\*/(\w+)", name)[1]
                     self.near(f"lines of {part}", lines, lines_of_part(part))
         below = with_below(["forestplan"], listed())
         first = " ".join(text_in(PAGE).split()).partition("It proves the ")[2]
@@ -108,6 +109,6 @@ class Theorems(FilesCase):
         self.same("planted bugs", said, [str(bugs)])
 
     def test_citation(self):
-        version = re.search(r"^version: (\S+)$", text_in("CITATION.cff"), re.M)
+        version = found_in(r"^version: (\S+)$", text_in("CITATION.cff"), re.M)
         self.same("version of CITATION.cff", version[1], NUMBER)
         self.note("it is in CHANGELOG", f"\n## {NUMBER}" in text_in("CHANGELOG.md"), NUMBER)

@@ -78,6 +78,10 @@ def turns_in(facts, f):
     return {v: (facts.colours[f][12][v], facts.merged[f][v]) for v in facts.network.vertices}
 
 
+def as_lists(rows):
+    return [list(row) for row in rows]
+
+
 def colours_after(facts, p):
     """The colours of each vertex in all forests, as the player has them: from pulse 2 until the merges."""
     if not facts.forests or not 2 <= p < FIRST_MERGE:
@@ -147,13 +151,13 @@ class Maps(PictureCase):
         row("the first colours", film["first"], [*facts.merged[0].values()])
         row("its edges", sorted(map(tuple, data["net"]["edges"])), net.edges)
         shown = {key: [pulse[key] for pulse in film["pulses"]] for key in film["pulses"][0]}
-        row("messages", shown["puts"], [[[*put] for put in pulse.puts] for pulse in facts.pulses])
+        row("messages", shown["puts"], [as_lists(pulse.puts) for pulse in facts.pulses])
         lists = [colours_after(facts, p) for p in range(last + 1)]
         row("colours", shown["colours"], lists)
         chosen = [{str(v): c for v, c in pulse.chosen.items()} for pulse in facts.pulses]
         row("choices", shown["chosen"], chosen)
         steps = [merge_step(net, p) for p in range(FIRST_MERGE, last + 1)]
-        row("whose turn it is", shown["step"][FIRST_MERGE:], [[*step] for step in steps])
+        row("whose turn it is", shown["step"][FIRST_MERGE:], as_lists(steps))
         said = [re.findall(TURN, text) for text in shown["said"][FIRST_MERGE:]]
         wanted = [[(str(k), str(f), str(j + 1), str(k), str(j))] for f, k, j in steps]
         row("the turn in words", said, wanted)

@@ -3,13 +3,15 @@ import {BLACK, CHANNELS, DARK, FORESTS, INK, PALE, WHITE, WIRES, WRONG} from "./
 
 const SVG = "http://www.w3.org/2000/svg", LEAST_SIZE = 8, MOST_LETTERS = 13;
 // `inside` is a text or a list of marks.
+/** @type {(name: string, attributes?: Attributes, inside?: Inside) => Mark} */
 export function mark(name, attributes = {}, inside = null) { return {name, attributes, inside}; }
 
 // Makes a parent's children what a list says. Elements are kept from frame to frame, and only what differs is changed.
+/** @param {Element} parent @param {Marks} list */
 export function patch(parent, list) {
-  let child = parent.firstChild;
+  let child = /** @type {Shown | null} */ (parent.firstChild);
   for (const wanted of list) {
-    if (!wanted) continue;
+    if (!wanted || wanted === true) continue;
     if (!child || child.nodeName !== wanted.name) {
       const fresh = document.createElementNS(SVG, wanted.name);
       if (child) parent.replaceChild(fresh, child); else parent.append(fresh);
@@ -17,20 +19,23 @@ export function patch(parent, list) {
     }
     if (child.mark !== wanted) update(child, wanted);
     child.mark = wanted;
-    child = child.nextSibling;
+    child = nextOf(child);
   }
   while (child) {
-    const next = child.nextSibling;
+    const next = nextOf(child);
     child.remove();
     child = next;
   }
 }
+/** @param {Shown} child */
+function nextOf(child) { return /** @type {Shown | null} */ (child.nextSibling); }
+/** @param {Shown} element @param {Mark} wanted */
 function update(element, wanted) {
   const before = element.shown || {}, now = wanted.attributes;
   for (const key in now) {
     if (now[key] === before[key]) continue;
     if (now[key] === null || now[key] === undefined) element.removeAttribute(key);
-    else element.setAttribute(key, now[key]);
+    else element.setAttribute(key, String(now[key]));
   }
   for (const key in before) if (!(key in now)) element.removeAttribute(key);
   element.shown = now;
@@ -38,34 +43,48 @@ function update(element, wanted) {
   else if (element.words !== wanted.inside) element.textContent = element.words = wanted.inside;
 }
 
-export function element(id) { return document.getElementById(id); }
-export function html(name, words, attributes = {}) {
+// What an event is of, which is an element of the page.
+/** @param {Event} event */
+export function targetOf(event) { return /** @type {HTMLElement} */ (event.target); }
+// An element of the page by its name, which it has to have.
+/** @type {<K extends keyof Elements>(id: K) => Elements[K]} */
+export function element(id) { return /** @type {any} */ (document.getElementById(id)); }
+/** @type {<K extends keyof HTMLElementTagNameMap>(name: K, words?: string | number | null, attributes?: Attributes) => HTMLElementTagNameMap[K]} */
+export function html(name, words = null, attributes = {}) {
   const element = document.createElement(name);
-  if (words !== undefined && words !== null) element.textContent = words;
-  for (const key in attributes) element.setAttribute(key, attributes[key]);
+  if (words !== undefined && words !== null) element.textContent = String(words);
+  for (const key in attributes) element.setAttribute(key, String(attributes[key]));
   return element;
 }
 // A row of a table, with `th` or `td`.
+/** @param {"th" | "td"} name @param {(string | number)[]} cells */
 export function row(name, cells) {
   const line = html("tr");
   cells.forEach(words => line.append(html(name, words)));
   return line;
 }
+/** @param {string} fill */
 export function inkOn(fill) { return DARK.includes(fill) ? WHITE : BLACK; }
+/** @param {number} channel */
 export function hue(channel) { return CHANNELS[(channel - 1) % 8]; }
+/** @param {number} channel */
 function isRing(channel) { return Math.floor((channel - 1) / 8) % 2 === 1; }
+/** @param {Numeral} number */
 function digitsOf(number) { return BigInt(number).toString(2).length; }
 // A number as a mark has room for: 128d is one of 128 binary digits.
+/** @param {Numeral} number */
 export function short(number) {
   const words = String(number);
   return words.length < 4 ? words : digitsOf(words) + "d";
 }
+/** @param {number} x @param {number} y @param {number} wanted @param {string} fill @param {string | number} said @param {Attributes} more */
 export function words(x, y, wanted, fill, said, more = {}) {
   const size = Math.max(LEAST_SIZE, wanted);
   return mark("text", {x, y: y + 0.36 * size, "font-size": size.toFixed(1), fill, "text-anchor": "middle", ...more},
     String(said));
 }
 // What a node has found, in words below it; what has no room, `wide` pixels, is cut, and whole in its title.
+/** @param {number} x @param {number} y @param {number} size @param {string} said @param {number} wide @returns {Marks} */
 export function resultWords(x, y, size, said, wide) {
   const most = Math.max(4, Math.min(MOST_LETTERS, Math.floor(wide / size / 0.6))), fits = said.length <= most;
   return [fits ? null : mark("title", {}, said),
@@ -74,6 +93,7 @@ export function resultWords(x, y, size, said, wide) {
 const BOLD = {"font-weight": "bold"};
 export const HALO = {"paint-order": "stroke", stroke: "var(--paper)", "stroke-width": 3};
 // A channel: its hue, full or as a ring, and its number.
+/** @param {number} x @param {number} y @param {number} r @param {number} channel @returns {Marks} */
 export function channelCircle(x, y, r, channel) {
   const fill = hue(channel), ring = isRing(channel), wide = Math.max(2, r * 0.25);
   const size = r * (channel < 10 ? 1.12 : 0.92) * (ring ? 0.85 : 1);
@@ -82,9 +102,10 @@ export function channelCircle(x, y, r, channel) {
     words(x, y, size, ring ? BLACK : inkOn(fill), channel, BOLD)];
 }
 // A colour of 0 to 5 in a forest, or in grey a number that is none yet.
+/** @param {number} x @param {number} y @param {number} half @param {Numeral} colour @param {boolean} isColour @returns {Marks} */
 export function colourSquare(x, y, half, colour, isColour) {
   const said = isColour ? String(colour) : short(colour);
-  let fill = FORESTS[colour], ink, size = half * 1.12;
+  let fill = FORESTS[Number(colour)], ink, size = half * 1.12;
   if (isColour) ink = inkOn(fill);
   else {
     const level = 235 - Math.min(140, 7 * digitsOf(colour));
@@ -97,25 +118,30 @@ export function colourSquare(x, y, half, colour, isColour) {
   return [mark("rect", {x: x - half, y: y - half, width: 2 * half, height: 2 * half, rx: half * 0.25, fill,
     stroke: "var(--rim)"}), words(x, y, size, ink, said, {...BOLD, ...close})];
 }
+/** @param {number} x @param {number} y @param {number} r @param {string | number} [said] @returns {Marks} */
 export function blank(x, y, r, said) {
   return [mark("circle", {cx: x, cy: y, r, fill: "var(--paper)", stroke: "var(--ink)", "stroke-width": 1.6}),
     said === undefined ? null : words(x, y, r * 0.9, "var(--ink)", said, BOLD)];
 }
+/** @param {number} x @param {number} y @param {number} r @param {number} channel @returns {Marks} */
 export function barMark(x, y, r, channel) {
   return [mark("circle", {cx: x, cy: y, r, fill: WHITE, stroke: hue(channel)}),
     mark("line", {x1: x - 0.9 * r, y1: y + 0.9 * r, x2: x + 0.9 * r, y2: y - 0.9 * r, stroke: WRONG,
       "stroke-width": 1.5}), words(x, y, r * 1.2, BLACK, channel, BOLD)];
 }
+/** @param {string} said @param {number} size */
 export function pillWidth(said, size) { return said.length * size * 0.62 + 9; }
 // How a message looks that isn't looked at.
 export const FADED = {fill: "var(--paper)", stroke: "var(--edge)", "stroke-dasharray": "2 2", ink: "var(--soft)"};
 // A pill with words: a message on its way.
+/** @type {(x: number, y: number, said: string, kind: string, size: number, look?: Attributes & {ink?: string}) => Marks} */
 export function pill(x, y, said, kind, size, {ink = INK, ...more} = {}) {
   const wide = pillWidth(said, size), high = size + 6;
   return [mark("rect", {x: x - wide / 2, y: y - high / 2, width: wide, height: high, rx: high / 2, fill: PALE[kind],
     stroke: WIRES[kind], "stroke-width": 1.6, ...more}), words(x, y, size, ink, said)];
 }
 // A red note on a white ground.
+/** @param {number} x @param {number} y @param {string} said @returns {Marks} */
 export function note(x, y, said) {
   const wide = said.length * 7 + 12;
   return [mark("rect", {x: x - wide / 2, y: y - 10, width: wide, height: 20, rx: 10, fill: WHITE, stroke: WRONG,

@@ -5,8 +5,11 @@ import {element, html} from "./marks.js";
 import {openPage} from "./time.js";
 
 const film = new RoundsFilm(D.film, D.net), stage = new Stage(element("net"), D.net);
-let forest = 0, chosen = null;
+let forest = 0;
+/** @type {number | null} */
+let chosen = null;
 
+/** @param {number} at */
 function show(at) {
   const p = film.draw(stage, at, {forest, node: chosen}), [caption, said] = film.said(p, chosen);
   element("when").textContent = `pulse ${p} of ${film.last}`;

@@ -5,6 +5,7 @@ import {nameOf} from "./stage.js";
 
 const ORIENT = 1, SEED = 2, LAST_COLOUR = 12;
 // What the marks mean.
+/** @param {HTMLElement} place @param {RoundsFilm} film */
 export function roundsLegend(place, film) {
   place.textContent = film.forests
     ? "A square is a node’s colour in the forest, from 0; grey: it is still a name (128d has 128 binary digits). A"
@@ -18,9 +19,19 @@ export function roundsLegend(place, film) {
 }
 
 export class RoundsFilm {
+  /** @param {Film} found @param {Net} net */
   constructor(found, net) {
-    Object.assign(this, {found, net, last: found.last, forests: found.forests, channels: found.channels, merged: []});
+    this.found = found;
+    this.net = net;
+    this.last = found.last;
+    this.forests = found.forests;
+    this.channels = found.channels;
+    // What each node has chosen by a pulse.
+    /** @type {Record<number, number>[]} */
+    this.merged = [];
+    /** @type {Map<string, number>} */
     this.parent = new Map(found.parents.map(([v, f, w]) => [v + " " + f, w]));
+    /** @type {Record<number, number>} */
     let now = {};
     found.pulses.forEach((pulse, p) => {
       if (Object.keys(pulse.chosen).length) now = {...now, ...pulse.chosen};
@@ -29,21 +40,26 @@ export class RoundsFilm {
     });
   }
   // The forest of a pulse: the one that is merged, or the one that is looked at.
+  /** @param {number} p @param {number} chosen */
   forestAt(p, chosen) {
     const {step} = this.found.pulses[p];
     return step ? step[0] : p >= ORIENT && p <= LAST_COLOUR && this.forests ? chosen : null;
   }
   // Whether nothing is chosen, found or sent in a pulse; and the next one in which something is, or the last one.
+  /** @param {number} p */
   isIdle(p) {
-    const {step, chosen, results, new: found, puts} = this.found.pulses[p];
-    return p > 0 && p < this.last && !puts.length && (results ? !found.length : step && !Object.keys(chosen).length);
+    const pulse = this.found.pulses[p], {step, chosen, puts} = pulse;
+    return p > 0 && p < this.last && !puts.length
+      && (pulse.results ? !pulse.new.length : step && !Object.keys(chosen).length);
   }
+  /** @param {number} p */
   nextChange(p) {
     let next = Math.min(p + 1, this.last);
     while (this.isIdle(next)) next++;
     return next;
   }
   // What can be asked of a node at the next pulse: [words, answers to tap], or null.
+  /** @param {number} v @param {number} p @param {number} forest @returns {[string, string[]] | null} */
   question(v, p, forest) {
     const next = this.found.pulses[p + 1];
     if (!next || p < 1) return null;
@@ -57,66 +73,82 @@ export class RoundsFilm {
       p + 1 < 6 ? [] : ["0", "1", "2", "3", "4", "5"]];
   }
   // What a node has at a pulse, in words.
+  /** @param {number} v @param {number} p @param {number | null} forest */
   words(v, p, forest) {
     const {results, colours} = this.found.pulses[p];
     if (results) return results[v - 1] || "nothing found yet";
     const channel = v in this.merged[p] ? `channel ${this.merged[p][v] + 1}` : "no channel yet";
     return colours && forest !== null ? `colour ${colours[v - 1][forest]} in forest ${forest}` : channel;
   }
+  /** @param {number} v @param {number} p */
   hasChosen(v, p) {
-    const [, three, old] = this.found.pulses[p].step, width = (this.last - 12) / this.forests / 3;
+    const [, three, old] = this.found.pulses[p].step || [0, 0, 0], width = (this.last - 12) / this.forests / 3;
     for (let at = p - three * width - old; at <= p; at++) if (v in this.found.pulses[at].chosen) return true;
     return false;
   }
+  /** @param {Stage} stage @param {number} p @param {number | null} forest @param {number} v @param {number} x @param {number} y @param {number} r @returns {Marks} */
   node(stage, p, forest, v, x, y, r) {
-    const pulse = this.found.pulses[p], parts = [], lit = mark("circle", {cx: x, cy: y, r: 1.4 * r,
+    const pulse = this.found.pulses[p], lit = mark("circle", {cx: x, cy: y, r: 1.4 * r,
       fill: "var(--chosen)", stroke: "var(--glow)", "stroke-width": 1.5});
+    /** @type {Marks} */
+    const parts = [];
     if (pulse.results) return [pulse.new.includes(v) && lit, ...this.resultMarks(stage, pulse, v, x, y, r)];
     if (pulse.colours && forest !== null) {
       const colour = pulse.colours[v - 1][forest];
-      parts.push(...colourSquare(x, y, r, colour, p > SEED && colour <= 5));
+      parts.push(...colourSquare(x, y, r, colour, p > SEED && Number(colour) <= 5));
     } else if (v in this.merged[p]) {
       parts.push(v in pulse.chosen && lit, ...channelCircle(x, y, r, this.merged[p][v] + 1));
     } else parts.push(...blank(x, y, r));
-    if (pulse.step && !this.hasChosen(v, p)) parts.push(...this.turnMark(p, forest, v, x, y, r));
+    if (pulse.step && !this.hasChosen(v, p)) parts.push(...this.turnMark(p, pulse.step[0], v, x, y, r));
     return parts;
   }
   // What a node of another program has found: in words, and by its colour; or its channel.
+  /** @param {Stage} stage @param {PulseOfProgram} pulse @param {number} v @param {number} x @param {number} y @param {number} r */
   resultMarks(stage, pulse, v, x, y, r) {
     const [colour] = pulse.drawn[v] || [null];
-    if (this.channels) return channelCircle(x, y, r, colour + 1);
+    if (this.channels) return channelCircle(x, y, r, Number(colour) + 1);
     const disc = colour === null ? blank(x, y, r, v) : [mark("circle", {cx: x, cy: y, r, fill: hue(colour + 1),
       stroke: "var(--ink)", class: "found-colour"}), words(x, y, r * 0.9, inkOn(hue(colour + 1)), v)];
     return [...disc, ...resultWords(x, y + r + 12, Math.min(11.5, r), pulse.results[v - 1], stage.least)];
   }
+  // The colour of a node in a forest after one of the pulses 2 to 12.
+  /** @param {number} p @param {number} v @param {number} forest */
+  colourAt(p, v, forest) {
+    const {colours} = this.found.pulses[p];
+    return colours ? colours[v - 1][forest] : 0;
+  }
   // When it is a node's turn in a merge: its colour in the forest, and its old colour.
+  /** @param {number} p @param {number} forest @param {number} v @param {number} x @param {number} y @param {number} r */
   turnMark(p, forest, v, x, y, r) {
     const old = v in this.merged[p] ? this.merged[p][v] : this.found.first[v - 1], half = 0.45 * r;
-    const colour = this.found.pulses[LAST_COLOUR].colours[v - 1][forest];
+    const colour = this.colourAt(LAST_COLOUR, v, forest);
     return [...colourSquare(x - 0.9 * r, y + 1.55 * r, half, colour, true),
       words(x + 0.15 * r, y + 1.55 * r, half * 1.9, "var(--ink)", old, {...HALO, "font-weight": "bold"})];
   }
+  /** @param {Stage} stage @param {number} p @param {number | null} forest */
   arrows(stage, p, forest) {
-    const pulse = this.found.pulses[p], links = [];
-    const upTo = p === ORIENT ? this.forests : pulse.step ? forest + 1 : null;
+    const pulse = this.found.pulses[p], upTo = p === ORIENT ? this.forests : pulse.step ? pulse.step[0] + 1 : null;
+    /** @type {Mark[]} */
+    const links = [];
     this.parent.forEach((w, key) => {
       const [v, f] = key.split(" ").map(Number);
       if (upTo !== null ? f >= upTo : f !== forest) return;
       const mine = f === forest;
       links.push(...stage.arrow(v, w, mine ? "var(--strong)" : "var(--edge)", mine ? 2 : 1.4));
     });
-    for (const v in pulse.drawn || {}) {
-      if (pulse.drawn[v][1]) links.push(...stage.arrow(+v, pulse.drawn[v][1], "var(--ink)", 3.2));
-    }
+    Object.entries(pulse.drawn || {}).forEach(([v, [, w]]) => {
+      if (w) links.push(...stage.arrow(+v, w, "var(--ink)", 3.2));
+    });
     return links;
   }
   // The messages of a pulse, `part` of the way. `why` fades those that didn't decide the chosen node's channel.
+  /** @param {Stage} stage @param {number} p @param {number} part @param {number} chosen @param {Why | null} why @returns {Marks} */
   messages(stage, p, part, chosen, why) {
     const heard = new Set(why ? why.messages.map(m => m.join(" ")) : []), shown = [];
     const size = Math.max(9, Math.min(12, stage.radius * 0.6));
     for (const [v, w, word, sent] of this.found.pulses[p].puts) {
       if (word === "colour" && this.parent.get(w + " " + chosen) !== v) continue;
-      const said = short(word === "chosen" || word === "anew" ? sent + 1 : sent);
+      const said = short(word === "chosen" || word === "anew" ? Number(sent) + 1 : sent);
       const whole = Math.hypot(stage.X(v) - stage.X(w), stage.Y(v) - stage.Y(w)), start = Math.min(0.12, 12 / whole);
       const [x, y] = stage.beside(v, w, start + (1 - start) * part, pillWidth(said, size), size + 6);
       const look = why && !heard.has([p, v, w].join(" ")) ? FADED : {};
@@ -125,6 +157,7 @@ export class RoundsFilm {
     }
     return shown;
   }
+  /** @param {Stage} stage @param {number} at @param {RoundsOptions} options */
   draw(stage, at, {forest = 0, node = null, why = null, quiet = false} = {}) {
     const p = Math.min(this.last, Math.floor(at)), pulse = this.found.pulses[p], shown = this.forestAt(p, forest);
     const names = new Set(why ? why.identifiers : []);
@@ -139,12 +172,14 @@ export class RoundsFilm {
     return p;
   }
   // [caption, sentence] of a pulse, with what the chosen node has found.
+  /** @param {number} p @param {number | null} node */
   said(p, node) {
     const {caption, said, results} = this.found.pulses[p];
     return [caption.split(" · ").slice(1).join(" · ") || caption, said + (results && node
       ? ` Node ${node} has found: ${results[node - 1] || "nothing yet"}.` : "")];
   }
   // Buttons of the forests; `choose(f)` is called by a click.
+  /** @param {number} p @param {number} chosen @param {(forest: number) => void} choose */
   chips(p, chosen, choose) {
     if (this.forests < 2) return [];
     const {step} = this.found.pulses[p];
@@ -156,8 +191,13 @@ export class RoundsFilm {
     });
   }
   // The colours of a node and of its parent, forest by forest, after the pulses 2 to 12: a size and marks.
+  /** @param {number} p @param {number} v @returns {[string, Marks]} */
   strips(p, v) {
-    const rows = [], side = 19, parts = [];
+    const side = 19;
+    /** @type {[number, number, string][]} */
+    const rows = [];
+    /** @type {Marks} */
+    const parts = [];
     for (let f = 0; f < this.forests; f++) {
       const up = this.parent.get(v + " " + f);
       if (up) rows.push([up, f, "parent " + up]);
@@ -171,8 +211,8 @@ export class RoundsFilm {
       const y = 16 + k * (side + 3) + side / 2;
       parts.push(words(0, y, 10.5, who === v ? "var(--ink)" : "var(--soft)", said, {"text-anchor": "start"}));
       for (let q = SEED; q <= LAST_COLOUR; q++) {
-        const colour = this.found.pulses[q].colours[who - 1][f], x = 132 + (q - 2) * 20;
-        parts.push(...colourSquare(x, y, side / 2 - 0.5, colour, q > SEED && colour <= 5),
+        const colour = this.colourAt(q, who, f), x = 132 + (q - 2) * 20;
+        parts.push(...colourSquare(x, y, side / 2 - 0.5, colour, q > SEED && Number(colour) <= 5),
           q === p && mark("rect", {x: x - 10, y: y - 10, width: 20, height: 20, fill: "none", stroke: "var(--glow)",
             "stroke-width": 2}));
       }

@@ -3,21 +3,25 @@ import {PALE, INK, WHITE, WIRES} from "./hues.js";
 import {FADED, channelCircle, html, mark, pill, pillWidth, resultWords, row, words} from "./marks.js";
 import {nameOf} from "./stage.js";
 
+/** @type {Record<string, string>} */
 const AWAITS = {ack: WIRES.ack, safe: WIRES.safe, close: WIRES.safe};
 
 // How many of a list are at its beginning of which this is true.
+/** @type {<One>(list: One[], isTrue: (one: One) => boolean) => number} */
 function firstOf(list, isTrue) {
   let low = 0, high = list.length;
   while (low < high) { const half = (low + high) >> 1; if (isTrue(list[half])) low = half + 1; else high = half; }
   return low;
 }
 // A wire in words, or if there is no room for them by its number and the first letter of its kind.
+/** @param {string} said @param {boolean} isLong */
 function wireWords(said, isLong) {
   const [kind, pulse, word, number] = said.split(" ");
   if (kind === "payload") return (isLong ? word + " " : "") + (number.length < 5 ? number : number.slice(0, 3) + "…");
   return isLong ? kind + (pulse ? " " + pulse : "") : kind[0] + (pulse || "");
 }
 // A wire's mark at a place of its way, 0 at its start and 1 at its end.
+/** @type {(stage: Stage, v: number, w: number, far: number, said: string, isLong: boolean, more?: Attributes, look?: Attributes & {ink?: string}) => Mark} */
 function wireMark(stage, v, w, far, said, isLong, more = {}, look = {}) {
   const kind = said.split(" ")[0], size = Math.max(9, Math.min(11.5, stage.radius * 0.55));
   const shown = wireWords(said, isLong), [x, y] = stage.beside(v, w, far, pillWidth(shown, size), size + 6, 3);
@@ -26,6 +30,7 @@ function wireMark(stage, v, w, far, said, isLong, more = {}, look = {}) {
 }
 // The wires that a link holds, the next one nearest to its taker; `look(place)` says which of them are free, and gives
 // more attributes.
+/** @param {Stage} stage @param {number} v @param {number} w @param {string[]} wires @param {(place: number) => Attributes} look */
 export function queueMarks(stage, v, w, wires, look) {
   const isLong = stage.net.nodes.length <= 12 && stage.wide > 500;
   const length = Math.hypot(stage.X(v) - stage.X(w), stage.Y(v) - stage.Y(w));
@@ -38,14 +43,16 @@ export function queueMarks(stage, v, w, wires, look) {
   }).reverse();
 }
 // A node under the synchroniser: its pulse, what it awaits of whom and what it keeps, and what it has found.
+/** @param {Stage} stage @param {Look} is @param {number} v @param {number} x @param {number} y @param {number} r */
 export function alphaMarks(stage, is, v, x, y, r) {
-  const parts = [mark("circle", {cx: x, cy: y, r, fill: is.e ? PALE.close : is.s ? PALE.safe : WHITE, stroke: INK,
-    "stroke-width": 1.6}), words(x, y, r * 0.9, INK, is.p, {"font-weight": "bold"})];
-  const due = new Map(is.w.map(([what, w]) => [w, what]).reverse()), kept = new Map(is.k.map(([what, w]) => [w, what]));
+  /** @type {Marks} */
+  const parts = [mark("circle", {cx: x, cy: y, r, fill: fillOf(is), stroke: INK, "stroke-width": 1.6}),
+    words(x, y, r * 0.9, INK, is.p, {"font-weight": "bold"})];
+  const due = byNeighbour(is.w.slice().reverse()), kept = byNeighbour(is.k);
   for (const w of stage.near(v)) {
     if (!due.has(w) && !kept.has(w)) continue;
     const m = stage.middle(v, w), far = Math.hypot(m[0] - x, m[1] - y) || 1;
-    const hue = kept.has(w) ? (kept.get(w) === "safe" ? WIRES.safe : WIRES.payload) : AWAITS[due.get(w)];
+    const hue = kept.has(w) ? (kept.get(w) === "safe" ? WIRES.safe : WIRES.payload) : AWAITS[due.get(w) || ""];
     parts.push(mark("circle", {cx: x + (m[0] - x) / far * r, cy: y + (m[1] - y) / far * r, r: Math.max(3, r * 0.2),
       fill: kept.has(w) ? hue : WHITE, stroke: hue, "stroke-width": 2}));
   }
@@ -53,19 +60,27 @@ export function alphaMarks(stage, is, v, x, y, r) {
   else if (is.c) parts.push(...channelCircle(x + 0.95 * r, y + 0.75 * r, Math.max(6, r * 0.5), is.c));
   return parts;
 }
+/** @param {Look} is */
+function fillOf(is) { return is.e ? PALE.close : is.s ? PALE.safe : WHITE; }
+/** @param {OfNeighbour[]} list @returns {Map<number, string>} */
+function byNeighbour(list) { return new Map(list.map(([what, w]) => [w, what])); }
+/** @param {OfNeighbour[]} list */
 function grouped(list) {
   const by = new Map();
   list.forEach(([what, w]) => by.set(what, (by.get(what) || []).concat(w)));
   return Array.from(by, ([what, ws]) => `${what} of ${ws.join(", ")}`).join("; ");
 }
 // What a node waits for, in words.
+/** @param {Look} is */
 export function waitsWords(is) { return is.e ? "done" : grouped(is.w) || `nothing: may make pulse ${is.p + 1}`; }
 // What a node has and waits for, in words, for whoever doesn't see its marks.
+/** @param {Look} is */
 export function lookWords(is) {
   const found = typeof is.c === "string" ? is.c : is.c ? `channel ${is.c}` : "";
   return [`pulse ${is.p}`, found, is.e ? "done" : "waits for " + waitsWords(is)].filter(Boolean).join(", ");
 }
 // A table of what each node (or one of many) waits for and keeps. `more(v)` gives a last column.
+/** @param {Look[]} looks @param {WaitsOptions} options */
 export function waitsTable(looks, {only = null, lit = null, head = "", more = () => ""}) {
   const shown = html("table");
   shown.append(row("th", ["node", "pulse", "waits for", "has, and keeps early", head].filter((w, k) => k < 4 || w)));
@@ -83,6 +98,7 @@ export function waitsTable(looks, {only = null, lit = null, head = "", more = ()
   return box;
 }
 // What the marks mean.
+/** @param {HTMLElement} place */
 export function runLegend(place) {
   place.replaceChildren(...Object.keys(PALE).map(kind => {
     const shown = html("b", kind);
@@ -96,17 +112,28 @@ export function runLegend(place) {
 
 export class RunFilm {
   // `found` has table, last and pulses.
+  /** @param {RunFound} found @param {Net} net */
   constructor(found, net) {
-    Object.assign(this, {found, net, table: found.table, own: net.nodes.map(() => [])});
+    this.found = found;
+    this.net = net;
+    this.table = found.table;
+    // Of each node its entries: how many are made before one, and the number of its look after it.
+    /** @type {[number, number][][]} */
+    this.own = net.nodes.map(() => []);
     this.table.rows.forEach((row_, at) => this.own[row_[1] - 1].push([at, row_[2]]));
   }
+  /** @param {number} stamp */
   rowsBy(stamp) { return firstOf(this.table.rows, one => one[0] <= stamp); }
+  /** @param {number} v @param {number} at @returns {Look} */
   look(v, at) {
     const low = firstOf(this.own[v - 1], one => one[0] < at);
     return low ? this.table.looks[this.own[v - 1][low - 1][1]] : this.table.start[v - 1];
   }
+  /** @param {number} at */
   looks(at) { return this.net.nodes.map((_, k) => this.look(k + 1, at)); }
+  /** @param {number} at */
   last(at) { return at ? this.table.rows[at - 1] : null; }
+  /** @param {number} at */
   said(at) {
     const last = this.last(at);
     return last ? `entry ${at.toLocaleString("en")}, stamp ${last[0]}: node ${last[1]} ${this.table.texts[last[3]]}`
@@ -114,6 +141,7 @@ export class RunFilm {
   }
   // The stamp of the next entry, or of the one before, that is wanted. Entries of one stamp are of different nodes, and
   // none depends on another, so they are stepped over together.
+  /** @param {number} at @param {number} way @param {(row: Row) => boolean} isWanted */
   stepped(at, way, isWanted = () => true) {
     let next = at;
     do next += way; while (next > 0 && next < this.table.rows.length && !isWanted(this.table.rows[next - 1]));
@@ -122,6 +150,7 @@ export class RunFilm {
     return way < 0 && at && stamp === this.table.rows[at - 1][0] ? stamp - 1 : stamp;
   }
   // Where the run is when its last node has made a pulse, and on the way to the next one: {stamp, at, said}.
+  /** @param {number} pulse */
   atPulse(pulse) {
     const whole = Math.floor(pulse), {all, rows, stamps} = this.table, k = whole - this.found.pulses[0], from = all[k];
     if (!from) return {stamp: stamps[1], at: rows.length, said: "the end"};
@@ -130,18 +159,20 @@ export class RunFilm {
     const to = k + 1 < all.length ? all[k + 1][0] : stamps[1], stamp = from[0] + (to - from[0]) * (pulse - whole);
     return {stamp, at: Math.max(from[1], this.rowsBy(stamp)), said: `on the way to pulse ${whole + 1}`};
   }
+  /** @param {Stage} stage @param {number} stamp @param {number} at @param {RunOptions} options @returns {Marks} */
   wires(stage, stamp, at, {node, only}) {
     const isLong = this.net.nodes.length <= 12 && stage.wide > 500, shown = [];
     for (const wire of this.table.wires) {
       if (wire[3] >= at || wire[5] !== null && wire[5] < at) continue;
       const said = this.table.texts[wire[2]];
       if (only && !said.startsWith("payload")) continue;
-      const far = wire[5] === null ? 0.5 : Math.max(0, Math.min(1, (stamp - wire[4]) / (wire[6] - wire[4])));
+      const far = wire[6] === null ? 0.5 : Math.max(0, Math.min(1, (stamp - wire[4]) / (wire[6] - wire[4])));
       const pale = node && wire[0] !== node && wire[1] !== node;
       shown.push(wireMark(stage, wire[0], wire[1], far, said, isLong, {}, pale ? FADED : {}));
     }
     return shown;
   }
+  /** @param {Stage} stage @param {number} stamp @param {RunOptions} options */
   draw(stage, stamp, {at = this.rowsBy(stamp), node = null, only = false, slow = [], lazy = []} = {}) {
     const last = this.last(at), waits = new Set(slow.map(e => e.join("-")));
     const isWord = typeof this.table.start[0].c === "string";
@@ -154,6 +185,7 @@ export class RunFilm {
   }
 }
 // An edge whose link can be made to wait, also by a key.
+/** @param {number} v @param {number} w @param {boolean} isHeld @returns {Attributes} */
 export function heldEdge(v, w, isHeld) {
   return {...isHeld ? {stroke: "#0072B2", "stroke-width": 5, "stroke-dasharray": "2 6"} : {}, tabindex: 0,
     role: "button", "aria-pressed": isHeld, "aria-label": `link ${v}–${w} waits`};

@@ -5,12 +5,39 @@ const LARGEST = 22, LETTERS = new Intl.Segmenter(), TURNS = /[\u0590-\u08FF\u200
 
 export class Stage {
   // `net` has nodes {x, y, id, name, bars} from 0, and edges [v, w] from 1.
+  /** @param {SVGSVGElement} svg @param {Net} net */
   constructor(svg, net) {
+    this.svg = svg;
+    this.net = net;
     // If a node is dragged `dragged` is its number, and what isn't at it is kept.
-    Object.assign(this, {svg, net, dragged: 0, lines: [], groups: [], to: {scale: 1, x: 0, y: 0}, radius: LARGEST, wide: 1, high: 1,
-      apart: 2.9, least: 0, isZoomed: false, key: "", still: [], bends: new Map(), spots: [], spotsOf: "", close: []});
+    this.dragged = 0;
+    /** @type {Mark[]} */
+    this.lines = [];
+    /** @type {Mark[]} */
+    this.groups = [];
+    this.to = {scale: 1, x: 0, y: 0};
+    this.radius = LARGEST;
+    this.wide = 1;
+    this.high = 1;
+    this.apart = 2.9;
+    this.least = 0;
+    this.isZoomed = false;
+    this.key = "";
+    /** @type {unknown[]} */
+    this.still = [];
+    /** @type {Map<string, number>} */
+    this.bends = new Map();
+    /** @type {Spot[]} */
+    this.spots = [];
+    this.spotsOf = "";
+    /** @type {number[][]} */
+    this.close = [];
     patch(svg, Array.from({length: 4}, () => mark("g", {}, [])));
-    [this.edges, this.arrows, this.nodes, this.over] = svg.children;
+    const [edges, arrows, nodes, over] = svg.children;
+    this.edges = edges;
+    this.arrows = arrows;
+    this.nodes = nodes;
+    this.over = over;
   }
 
   // The scale that fits the network into the stage; it is kept while the network is drawn on.
@@ -21,28 +48,30 @@ export class Stage {
     this.isZoomed = false;
     const names = Math.max(0, ...this.net.nodes.map(n => Math.min(12, n.name.length) + Math.min(8, n.id.length)));
     const margin = Math.max(42, Math.min(64, 12 + this.wide / 14)) + Math.min(6 * names, this.wide / 8);
+    /** @type {(size: number, part: number) => number} */
     const room = (size, part) => size - 2 * Math.min(margin, size / part);
-    const least = list => Math.min(...list), most = list => Math.max(...list);
     if (xs.length < 2) {
       this.to = {scale: 1, x: this.wide / 2 - (xs[0] || 0), y: this.high / 2 - (ys[0] || 0)};
       if (!xs.length) this.to = {scale: 1, x: 0, y: 0};
       return;
     }
-    const across = most(xs) - least(xs), up = most(ys) - least(ys);
+    const left = Math.min(...xs), top = Math.min(...ys), across = Math.max(...xs) - left, up = Math.max(...ys) - top;
     const scale = Math.min(1.4, room(this.wide, 4) / (across || 1), room(this.high, 5) / (up || 1));
-    this.to = {scale, x: (this.wide - scale * across) / 2 - scale * least(xs),
-      y: (this.high - scale * up) / 2 - scale * least(ys)};
+    this.to = {scale, x: (this.wide - scale * across) / 2 - scale * left,
+      y: (this.high - scale * up) / 2 - scale * top};
   }
   // Fits it once more if there is another size for it.
   refit() {
     const {width, height} = this.svg.getBoundingClientRect();
     if (!this.isZoomed && (width !== this.wide || height !== this.high)) this.fit();
   }
+  /** @param {number} by @param {number} x @param {number} y */
   zoom(by, x = this.wide / 2, y = this.high / 2) {
     const scale = Math.max(0.02, Math.min(20, this.to.scale * by)), real = scale / this.to.scale;
     this.to = {scale, x: x - real * (x - this.to.x), y: y - real * (y - this.to.y)};
     this.isZoomed = true;
   }
+  /** @param {number} dx @param {number} dy */
   pan(dx, dy) {
     this.to = {...this.to, x: this.to.x + dx, y: this.to.y + dy};
     this.isZoomed = true;
@@ -51,29 +80,39 @@ export class Stage {
     return this.net.nodes.some((_, k) => this.X(k + 1) < 0 || this.Y(k + 1) < 0 || this.X(k + 1) > this.wide
       || this.Y(k + 1) > this.high);
   }
+  /** @param {number} v */
   X(v) { return this.net.nodes[v - 1].x * this.to.scale + this.to.x; }
+  /** @param {number} v */
   Y(v) { return this.net.nodes[v - 1].y * this.to.scale + this.to.y; }
   // A point of the window on the stage, and in the network.
+  /** @param {MouseEvent} event @returns {Point} */
   point(event) {
     const box = this.svg.getBoundingClientRect();
     return [event.clientX - box.left, event.clientY - box.top];
   }
+  /** @param {MouseEvent} event */
   placeOf(event) {
     const [x, y] = this.point(event);
     return {x: Math.round((x - this.to.x) / this.to.scale), y: Math.round((y - this.to.y) / this.to.scale)};
   }
+  /** @param {MouseEvent} event @param {number} slack @returns {number | null} */
   nodeAt(event, slack = 8) {
     const [x, y] = this.point(event);
-    let best = null, near = this.radius + slack;
+    /** @type {number | null} */
+    let best = null;
+    let near = this.radius + slack;
     this.net.nodes.forEach((_, k) => {
       const far = Math.hypot(this.X(k + 1) - x, this.Y(k + 1) - y);
       if (far < near) { near = far; best = k + 1; }
     });
     return best;
   }
+  /** @param {MouseEvent} event @returns {Edge | null} */
   edgeAt(event) {
     const [x, y] = this.point(event);
-    let best = null, near = 11;
+    /** @type {Edge | null} */
+    let best = null;
+    let near = 11;
     this.net.edges.forEach(edge => {
       for (let t = 0.04; t < 1; t += 0.02) {
         const at = this.along(edge[0], edge[1], t), far = Math.hypot(at[0] - x, at[1] - y);
@@ -82,6 +121,7 @@ export class Stage {
     });
     return best;
   }
+  /** @param {number} v @returns {number[]} */
   near(v) { return this.close[v - 1] || []; }
 
   // Edges that pass a third node too near are bent, as lab/pictures/places.py bends them.
@@ -109,8 +149,9 @@ export class Stage {
     this.bends = new Map(edges.map(([a, b]) => [a + " " + b, this.bendOf(a - 1, b - 1, xs, ys)]));
   }
   isDragged() {
-    return this.dragged && this.groups.length === this.net.nodes.length && this.lines.length === this.net.edges.length;
+    return this.dragged > 0 && this.groups.length === this.net.nodes.length && this.lines.length === this.net.edges.length;
   }
+  /** @param {number} a @param {number} b @param {number[]} xs @param {number[]} ys */
   bendOf(a, b, xs, ys) {
     const dx = xs[b] - xs[a], dy = ys[b] - ys[a], length = Math.hypot(dx, dy) || 1;
     const near = xs.some((_, v) => {
@@ -120,19 +161,23 @@ export class Stage {
     });
     return near ? 0.75 * this.radius + 0.045 * length : 0;
   }
+  /** @param {number} a @param {number} b */
   bend(a, b) { return this.bends.get(Math.min(a, b) + " " + Math.max(a, b)) || 0; }
   // The point towards which the edge from a to b is drawn.
+  /** @param {number} a @param {number} b @returns {Point} */
   middle(a, b) {
     const by = this.bend(a, b) * (a < b ? 1 : -1), dx = this.X(b) - this.X(a), dy = this.Y(b) - this.Y(a);
     const length = Math.hypot(dx, dy) || 1;
     return [(this.X(a) + this.X(b)) / 2 + dy / length * by * 2, (this.Y(a) + this.Y(b)) / 2 - dx / length * by * 2];
   }
+  /** @param {number} a @param {number} b @param {number} t @returns {Point} */
   along(a, b, t) {
     const m = this.middle(a, b), s = 1 - t;
     return [s * s * this.X(a) + 2 * t * s * m[0] + t * t * this.X(b),
       s * s * this.Y(a) + 2 * t * s * m[1] + t * t * this.Y(b)];
   }
   // A place on the way from a to b, to the right of it and off the nodes, for something of this size.
+  /** @param {number} a @param {number} b @param {number} t @param {number} wide @param {number} high @returns {Point} */
   beside(a, b, t, wide, high, aside = 0) {
     const dx = this.X(b) - this.X(a), dy = this.Y(b) - this.Y(a), whole = Math.hypot(dx, dy) || 1;
     const across = Math.abs(dx) / whole, up = Math.abs(dy) / whole;
@@ -140,12 +185,14 @@ export class Stage {
     const at = this.along(a, b, off + t * (1 - 2 * off)), by = 3 + aside + (up * wide + across * high) / 2;
     return [at[0] - dy / whole * by, at[1] + dx / whole * by];
   }
+  /** @param {number} a @param {number} b @param {Attributes} attributes */
   line(a, b, attributes) {
     const m = this.middle(a, b), from = `M${this.X(a)} ${this.Y(a)}`, to = `${this.X(b)} ${this.Y(b)}`;
     return mark("path", {d: this.bend(a, b) ? `${from}Q${m[0]} ${m[1]} ${to}` : `${from}L${to}`, fill: "none",
       ...attributes});
   }
   // An arrow from a to b, whose head touches b.
+  /** @param {number} a @param {number} b @param {string} stroke @param {number} width @returns {Mark[]} */
   arrow(a, b, stroke, width) {
     const m = this.middle(a, b), dx = this.X(b) - m[0], dy = this.Y(b) - m[1], far = Math.hypot(dx, dy) || 1;
     const ex = dx / far, ey = dy / far, size = Math.max(6, Math.min(10, this.radius * 0.6)), half = size * 0.45;
@@ -156,15 +203,18 @@ export class Stage {
   }
   // Where the labels have room: for each node, one after another, of 16 directions one in which its label covers no
   // other node and no label before it, and of these the one farthest from its edges.
+  /** @param {string[]} said @param {number} size @param {number[][]} taken @returns {Spot[]} */
   labelSpots(said, size, taken) {
     const key = JSON.stringify([said, taken]);
     if (this.spotsOf === key) return this.spots;
     this.spotsOf = key;
+    /** @type {Box[]} */
     const placed = [];
     this.spots = said.map((words_, k) => {
       const v = k + 1, wide = words_.length * size * 0.3;
       const spots = this.room(v, taken[k]).map(([least, turn]) =>
         ({least, turn, ...this.labelAt(v, turn, wide, size, taken[k])}));
+      /** @type {(spot: Spot) => number} */
       const cost = spot => this.covered(v, spot, wide, size, placed) - 0.01 * spot.least;
       const best = spots.reduce((one, other) => cost(other) < cost(one) - 1e-9 ? other : one);
       if (words_) placed.push([best.x, best.y, wide, size / 2]);
@@ -173,6 +223,7 @@ export class Stage {
     return this.spots;
   }
   // [how far it is from the node's edges, direction] of 16 directions, the usual ones first.
+  /** @param {number} v @param {number[]} taken @returns {[number, number][]} */
   room(v, taken) {
     const angles = this.near(v).map(w => {
       const m = this.middle(v, w);
@@ -185,6 +236,7 @@ export class Stage {
     });
   }
   // The corners of a square are farther out than a circle; what has no room at the side of the stage is above or below.
+  /** @param {number} v @param {number} turn @param {number} wide @param {number} size @param {number[]} taken */
   labelAt(v, turn, wide, size, taken) {
     const x = this.X(v), y = this.Y(v), far = this.radius * (1 + 0.4 * Math.abs(Math.sin(2 * turn))) + 5 + size / 2;
     const free = x + Math.cos(turn) * (far + Math.max(0, wide - 5) * Math.abs(Math.cos(turn)));
@@ -193,7 +245,9 @@ export class Stage {
     return {x: at, y: y + (Math.sin(turn) > 0 && !isBelow ? far : -far)};
   }
   // How much of other nodes and of labels a label would cover, in pixels.
+  /** @param {number} v @param {{x: number, y: number}} spot @param {number} wide @param {number} size @param {Box[]} placed */
   covered(v, spot, wide, size, placed) {
+    /** @type {(...box: Box) => number} */
     const over = (x, y, halfWide, halfHigh) => {
       const across = wide + halfWide - Math.abs(spot.x - x), up = size / 2 + halfHigh - Math.abs(spot.y - y);
       return across > 0 && up > 0 ? Math.min(across, up) : 0;
@@ -207,6 +261,7 @@ export class Stage {
   // `links()` and `above()` are marks; `ring(v)` is the colour of a ring around it, or nothing. `below` says that
   // something is written below each node. `still` is all that they depend on but for what is above: as long as it is
   // the same, only that is drawn anew. `says(v)` is what a node shows, in words.
+  /** @param {Drawing} drawing */
   draw({edge, node, label, says = () => "", ring, links = () => [], above = () => [], bars = true, apart = 2.9,
     below = false, still}) {
     this.apart = apart;
@@ -214,14 +269,19 @@ export class Stage {
     const isStill = still && still.length === this.still.length && still.every((one, k) => one === this.still[k]);
     this.still = still || [];
     if (!isStill) {
-      const box = `0 0 ${this.wide} ${this.high}`, isKept = (...vs) => this.isDragged() && !vs.includes(this.dragged);
+      const box = `0 0 ${this.wide} ${this.high}`;
+      /** @type {(...vs: number[]) => boolean} */
+      const isKept = (...vs) => this.isDragged() && !vs.includes(this.dragged);
       if (this.svg.getAttribute("viewBox") !== box) this.svg.setAttribute("viewBox", box);
       this.lines = this.net.edges.map(([v, w], k) => isKept(v, w) ? this.lines[k] : this.line(v, w,
         {stroke: "var(--edge)", "stroke-width": 1.6, ...(edge ? edge(v, w) : {}), "data-edge": v + "-" + w}));
       patch(this.edges, this.lines);
       patch(this.arrows, links());
       const size = Math.max(10, Math.min(13, this.radius * 0.75));
-      const saidOf = v => label ? label(v) : nameOf(this.net, v), look = {node, size, says, ring, bars};
+      /** @type {(v: number) => string} */
+      const saidOf = v => label ? label(v) : nameOf(this.net, v);
+      const look = {node, size, says, ring, bars};
+      /** @type {(node: NetNode) => number[]} */
       const takenBy = ({bars: own}) => (below ? [1.57] : []).concat(bars && own.length ? [0.8] : []);
       if (this.isDragged()) {
         const v = this.dragged, said = saidOf(v), taken = takenBy(this.net.nodes[v - 1]);
@@ -236,8 +296,10 @@ export class Stage {
     }
     patch(this.over, above());
   }
+  /** @param {number} v @param {LookOfNode} look @returns {Mark} */
   group(v, {node, said, spot, size, says, ring, bars}) {
     const x = this.X(v), y = this.Y(v), r = this.radius, colour = ring && ring(v), own = this.net.nodes[v - 1].bars;
+    /** @type {Marks} */
     const parts = [colour && mark("circle", {cx: x, cy: y, r: r + 5, fill: "none", stroke: colour, "stroke-width": 4}),
       ...node(v, x, y, r), words(spot.x, spot.y, size, "var(--soft)", said, HALO)];
     if (bars) own.slice(0, 4).forEach((bar, n) => parts.push(...barMark(x + r + 8 + n * 19, y + r + 5, 9, bar)));
@@ -248,7 +310,9 @@ export class Stage {
   }
 }
 // A node's number, with its name and its identifier if it has them.
+/** @param {Net} net @param {number} v */
 export function nameOf(net, v) {
+  /** @type {(words: string, most: number, left: number) => string} */
   const cut = (words, most, left) => {
     const letters = Array.from(LETTERS.segment(words), one => one.segment);
     return letters.length > most ? letters.slice(0, left).join("") + "…" : words;

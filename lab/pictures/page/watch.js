@@ -6,9 +6,12 @@ import {Stage} from "./stage.js";
 import {openPage} from "./time.js";
 
 const films = D.runs.map(table => new RunFilm({table, last: D.last, pulses: D.pulses}, D.net)), two = films.length > 1;
-const stages = ["net", "second"].slice(0, films.length).map(id => new Stage(element(id), D.net));
-let chosen = null, at = 0;
+const stages = [element("net"), element("second")].slice(0, films.length).map(svg => new Stage(svg, D.net));
+/** @type {number | null} */
+let chosen = null;
+let at = 0;
 
+/** @param {number} place */
 function show(place) {
   const only = element("payloads").checked, options = {node: chosen, only};
   if (two) return showTwo(place, options);
@@ -20,6 +23,7 @@ function show(place) {
     more: (v, is) => is.c || ""}));
   return `#entry-${at}` + (chosen ? `-node-${chosen}` : "");
 }
+/** @param {number} place @param {RunOptions} options */
 function showTwo(place, options) {
   const p = Math.floor(place), k = Math.min(p, D.pulses[1]) - D.pulses[0], table = html("table");
   table.append(row("th", ["", "stamp", "pulses of nodes 1 to " + D.net.nodes.length]));
@@ -37,6 +41,7 @@ function showTwo(place, options) {
     ? "the same in both runs" : "which differ"}`), html("p", sent, {class: "soft"}));
   return "#pulse-" + p;
 }
+/** @param {number} way */
 function step(way) {
   if (two) return time.set(way > 0 ? Math.floor(time.at + 1) : Math.ceil(time.at - 1));
   const only = element("payloads").checked, {texts} = D.runs[0];
@@ -45,11 +50,18 @@ function step(way) {
 }
 function follow() {
   const words = /^#(entry|pulse)-(\d+)(?:-node-(\d+))?$/.exec(location.hash), n = words ? +words[2] : 0;
-  const {rows, stamps, all} = D.runs[0];
-  chosen = words && words[3] && +words[3] <= D.net.nodes.length ? +words[3] : null;
-  if (two) time.set(words && words[1] === "pulse" ? n : D.pulses[0]);
-  else if (words && words[1] === "pulse") time.set((all[n - D.pulses[0]] || stamps)[0]);
-  else time.set(n ? (rows[Math.min(n, rows.length) - 1] || stamps)[0] : stamps[0]);
+  const isPulse = words !== null && words[1] === "pulse", v = words ? Number(words[3] || 0) : 0;
+  chosen = v <= D.net.nodes.length && v || null;
+  if (two) time.set(isPulse ? n : D.pulses[0]);
+  else time.set(isPulse ? stampOfPulse(n) : stampOfEntry(n));
+}
+// The stamps of a pulse and of an entry of one run; of one that isn't shown that of its start.
+/** @param {number} pulse */
+function stampOfPulse(pulse) { return (D.runs[0].all[pulse - D.pulses[0]] || D.runs[0].stamps)[0]; }
+/** @param {number} n */
+function stampOfEntry(n) {
+  const {rows, stamps} = D.runs[0];
+  return n ? (rows[Math.min(n, rows.length) - 1] || stamps)[0] : stamps[0];
 }
 element("second").toggleAttribute("hidden", !two);
 element("stage").classList.toggle("two", two);
@@ -57,6 +69,7 @@ element("only").hidden = false;
 const time = openPage(stages, {show, follow, step, rate: () => two ? 0.4 : 2.5,
   click(v) { chosen = v === chosen ? null : v; }});
 element("payloads").onchange = () => time.set(time.at);
-time.range(...(two ? [D.pulses[0], D.pulses[1] + 1] : D.runs[0].stamps));
+if (two) time.range(D.pulses[0], D.pulses[1] + 1);
+else time.range(...D.runs[0].stamps);
 runLegend(element("legend"));
 follow();

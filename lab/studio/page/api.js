@@ -3,22 +3,46 @@ const KEPT = "studio-token";
 const given = new URLSearchParams(location.search).get("token"), kept = localStorage.getItem(KEPT) || "";
 if (given) history.replaceState(null, "", location.pathname + location.hash);
 export let token = given || kept;
+/** @type {Map<string, AbortController>} */
 const running = new Map();
 
 // What the server says isn't so.
 export class Wrong extends Error {}
 // Of what is asked of the network, and of nothing else, a TypeError says that it can't be reached.
+/** @param {unknown} fault @returns {never} */
 function lost(fault) {
   throw fault instanceof TypeError ? new Wrong("the server doesn’t answer: has the command studio been ended?") : fault;
 }
 
+/** @param {string} key */
 export function cancel(key) {
   const control = running.get(key);
   if (control) control.abort();
   running.delete(key);
 }
 
+// What comes as lines of JSON, one after another.
+/** @param {Response} got */
+async function* linesOf(got) {
+  if (!got.body) return;
+  const reader = got.body.getReader(), decoder = new TextDecoder();
+  for (let rest = "", isDone = false; !isDone;) {
+    const {value, done} = await reader.read().catch(lost);
+    const lines = (rest + decoder.decode(value || new Uint8Array(), {stream: !done})).split("\n");
+    rest = lines.pop() || "";
+    isDone = done;
+    for (const line of lines) yield JSON.parse(line);
+  }
+}
+// The answer that the last line of a call has.
+/** @type {<Answer>(last: {answer?: Answer, wrong?: string}) => Answer} */
+function answerOf({answer, wrong}) {
+  if (wrong !== undefined) throw new Wrong(wrong);
+  if (answer === undefined) throw new Wrong("the call was ended: it took too much time or memory");
+  return answer;
+}
 // The answer; null if a later call of the key, or cancel, ended it.
+/** @type {<K extends keyof Calls>(name: K, asked?: object, options?: CallOptions) => Promise<Calls[K] | null>} */
 export async function call(name, asked = {}, {key = name, progress, part} = {}) {
   cancel(key);
   const control = new AbortController();
@@ -27,23 +51,13 @@ export async function call(name, asked = {}, {key = name, progress, part} = {}) 
     const got = await fetch("/call/" + name, {method: "POST", signal: control.signal, body: JSON.stringify(asked),
       headers: {"X-Token": token, "Content-Type": "application/json"}}).catch(lost);
     if (!got.ok) throw new Wrong(await got.text());
-    const reader = got.body.getReader(), decoder = new TextDecoder();
-    let rest = "", last = null;
-    for (;;) {
-      const {value, done} = await reader.read().catch(lost);
-      rest += decoder.decode(value || new Uint8Array(), {stream: !done});
-      const lines = rest.split("\n");
-      rest = lines.pop();
-      for (const line of lines) {
-        last = JSON.parse(line);
-        if (last.of && progress) progress(last.done, last.of);
-        if (last.part && part) part(last.part);
-      }
-      if (done) break;
+    let last = null;
+    for await (const line of linesOf(got)) {
+      last = line;
+      if (line.of && progress) progress(line.done, line.of);
+      if (line.part && part) part(line.part);
     }
-    if (last && last.wrong !== undefined) throw new Wrong(last.wrong);
-    if (!last || last.answer === undefined) throw new Wrong("the call was ended: it took too much time or memory");
-    return last.answer;
+    return answerOf(last || {});
   } catch (fault) {
     if (control.signal.aborted) return null;
     throw fault;

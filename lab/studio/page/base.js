@@ -1,15 +1,25 @@
 // What the tabs of the studio share: the stage, what is said of calls, and the tab that is seen.
 import {Wrong, call, cancel} from "./api.js";
 import {net} from "./model.js";
-import {html} from "./marks.js";
+import {element, html} from "./marks.js";
 import {Stage} from "./stage.js";
 import {Time} from "./time.js";
 
-export const by = id => document.getElementById(id), all = words => Array.from(document.querySelectorAll(words));
+export const by = element;
+/** @type {(words: string) => HTMLElement[]} */
+export const all = words => Array.from(document.querySelectorAll(words));
+/** @type {(words: string) => HTMLInputElement[]} */
+export const inputs = words => Array.from(document.querySelectorAll(words));
 // What is seen. `hello` is what there is to choose from, `program` what the nodes run; `slow` and `lazy` are the links
 // and the nodes that wait, `without` the rule of the synchroniser that is left out.
+/** @type {Seen} */
 export const seen = {tab: "draw", node: null, edge: null, lesson: null, hello: null, program: "colouring", passes: 1,
   root: null, slow: [], lazy: []};
+// What there is to choose from, which is asked for before anything else.
+export function hello() {
+  if (!seen.hello) throw new Wrong("the server hasn’t answered yet");
+  return seen.hello;
+}
 // The program with its option, as a call names it: `recolouring passes 2`, `layers root 3`.
 export function programNamed() {
   const {program, passes, root} = seen;
@@ -17,23 +27,28 @@ export function programNamed() {
   return program === "layers" && root ? `layers root ${root}` : program;
 }
 // A number of passes, if recolouring makes as many; else nothing.
+/** @param {string} said */
 export function manyPasses(said) {
   const passes = whole(said);
-  return passes <= seen.hello.passes ? passes : null;
+  return passes <= hello().passes ? passes : null;
 }
 // The fields of these options, beside each choice of a program; `changed` is called after one of them.
 export function showOptions() {
-  all(".passes").forEach(one => { one.value = seen.passes; one.parentNode.hidden = seen.program !== "recolouring"; });
-  all(".root").forEach(one => { one.value = seen.root || ""; one.parentNode.hidden = seen.program !== "layers"; });
+  inputs(".passes").forEach(one => { one.value = String(seen.passes); });
+  inputs(".root").forEach(one => { one.value = String(seen.root || ""); });
+  all(".option").forEach(one => {
+    one.hidden = seen.program !== (one.querySelector(".passes") ? "recolouring" : "layers");
+  });
 }
+/** @param {() => void} changed */
 export function watchOptions(changed) {
-  all(".passes").forEach(one => {
+  inputs(".passes").forEach(one => {
     one.onchange = () => {
       seen.passes = manyPasses(one.value) || 1;
       changed();
     };
   });
-  all(".root").forEach(one => {
+  inputs(".root").forEach(one => {
     one.onchange = () => {
       const v = whole(one.value);
       seen.root = v && v <= net.nodes.length ? v : null;
@@ -43,16 +58,22 @@ export function watchOptions(changed) {
 }
 export const stage = new Stage(by("net"), net);
 // Each tab is {hints, enter, show, click, link, follow, key}; studio.js sets the hooks.
-export const tabs = Object.create(null), hooks = {};
+/** @type {Tabs} */
+export const tabs = Object.create(null);
+/** @type {Hooks} */
+export const hooks = Object.create(null);
 // Elements of a picture have no property `hidden`.
+/** @param {keyof Elements} id @param {boolean} isHidden */
 export function hide(id, isHidden) { by(id).toggleAttribute("hidden", isHidden); }
 export function show() { hooks.show(); }
+/** @param {TabName} tab @param {More} [more] */
 export function go(tab, more) { hooks.go(tab, more); }
 export const KEYS = matchMedia("(pointer: coarse)").matches ? "" : "Space plays, arrows step.";
 // The place of the slider, as an address has it.
 export function timeAt() { return Math.round(time.at * 100) / 100; }
 // What a screen reader says: at most once a second, and nothing while it plays.
-let announcing = null, announced = 0;
+let announcing = 0, announced = 0;
+/** @param {string} words */
 export function announce(words) {
   clearTimeout(announcing);
   if (time.timer) return;
@@ -60,57 +81,88 @@ export function announce(words) {
     Math.max(150, announced + 1000 - Date.now()));
 }
 // Makes anew what a place says only if it is something else: what is left as it is needs no layout.
+/** @param {keyof Elements} id @param {string} words */
 export function say(id, words) { if (by(id).textContent !== words) by(id).textContent = words; }
+/** @type {Map<string, string>} */
+const filled = new Map();
+/** @param {keyof Elements} id @param {string} key @param {() => (Node | string)[]} parts */
 export function fill(id, key, parts) {
-  const place = by(id);
-  if (place.key === key) return;
-  place.key = key;
-  place.replaceChildren(...parts());
+  if (filled.get(id) === key) return;
+  filled.set(id, key);
+  by(id).replaceChildren(...parts());
 }
+// What such a place says is made anew in any case.
+/** @param {keyof Elements} id */
+export function refill(id) { filled.delete(id); }
 // The slider below the stage, which the tabs Rounds and No clock share.
-export const time = new Time(Object.fromEntries(["slider", "play", "back", "next", "speed"].map(id => [id, by(id)])), {
+/** @type {Time} */
+export const time = new Time({slider: by("slider"), play: by("play"), back: by("back"), next: by("next"),
+  speed: by("speed")}, {
   show,
-  step: way => tabs[seen.tab].step(way),
-  rate: () => tabs[seen.tab].rate(),
-  past: at => tabs[seen.tab].past ? tabs[seen.tab].past(at) : at,
+  step(way) {
+    const {step} = tabs[seen.tab];
+    if (step) step(way);
+  },
+  rate() {
+    const {rate} = tabs[seen.tab];
+    return rate ? rate() : 1;
+  },
+  past(at) {
+    const {past} = tabs[seen.tab];
+    return past ? past(at) : at;
+  },
   ended() {
+    const {stopped} = tabs[seen.tab];
     hooks.link();
-    if (tabs[seen.tab].stopped) tabs[seen.tab].stopped();
+    if (stopped) stopped();
   },
 });
 
-let wrongKey = null, busyWith = null;
+/** @type {string | null} */
+let wrongKey = null;
+/** @type {string | null} */
+let busyWith = null;
+/** @param {string} said @param {string | null} key */
 export function wrong(said, key = null) {
   // What went well takes back what it said before, and nothing else.
   if (!said && key && wrongKey !== key) return;
   by("wrong").textContent = said || "";
   wrongKey = key;
 }
+/** @param {string | null} said @param {string} key */
 function busy(said, key) {
   const box = by("busy");
   if (!said && busyWith !== key) return;
   box.hidden = !said;
   busyWith = said && key;
   if (!said) return;
-  box.querySelector("span").textContent = said;
-  box.querySelector("progress").removeAttribute("value");
-  box.querySelector("button").onclick = () => {
+  inside(box, "span").textContent = said;
+  inside(box, "progress").removeAttribute("value");
+  inside(box, "button").onclick = () => {
     cancel(key);
     busy(null, key);
   };
 }
-export function progress(done, of) { Object.assign(by("busy").querySelector("progress"), {max: of, value: done}); }
+// The first element of a kind inside of another one, which has it.
+/** @type {<K extends keyof HTMLElementTagNameMap>(box: HTMLElement, kind: K) => HTMLElementTagNameMap[K]} */
+function inside(box, kind) { return box.getElementsByTagName(kind)[0]; }
+/** @param {number} done @param {number} of */
+export function progress(done, of) { Object.assign(inside(by("busy"), "progress"), {max: of, value: done}); }
+/** @param {unknown} fault */
+export function messageOf(fault) { return fault instanceof Error ? fault.message : String(fault); }
 // Does it, and says what is wrong; what takes longer than a moment is said to be under way.
+/** @param {string} key @param {string} said @param {() => unknown} does */
 export async function tried(key, said, does) {
   const later = setTimeout(() => busy(said, key), 250);
   try { await does(); wrong("", key); } catch (fault) {
     if (!(fault instanceof Wrong)) console.error(fault);
-    wrong(fault instanceof Wrong ? fault.message : "a fault of this page: " + fault.message, key);
+    wrong((fault instanceof Wrong ? "" : "a fault of this page: ") + messageOf(fault), key);
     return false;
   } finally { clearTimeout(later); busy(null, key); }
   return true;
 }
 // Asks for something, and does what its answer is for, unless a later call of the key has ended it.
+/** @type {<K extends keyof Calls>(name: K, asked: object, said: string, does: (got: Calls[K]) => unknown, key?: string) => Promise<boolean>} */
 export function asks(name, asked, said, does, key = name) {
   return tried(key, said, async () => {
     const got = await call(name, asked, {key});
@@ -118,26 +170,30 @@ export function asks(name, asked, said, does, key = name) {
   });
 }
 // A box for each rule that can be left out. `left` are those that are, as an address has them: names with commas.
+/** @param {"without" | "without2"} id @param {Rules} rules @param {string} left @param {(left: string) => void} choose */
 export function ruleBoxes(id, rules, left, choose) {
   const place = by(id), names = left.split(",").filter(Boolean);
-  by(id + "said").textContent = "leave out: " + (names.join(", ") || "no rule");
+  by(`${id}said`).textContent = "leave out: " + (names.join(", ") || "no rule");
   place.replaceChildren(...Object.entries(rules).map(([name, {says}]) => {
     const label = html("label"), box = html("input", null, {type: "checkbox", value: name}), words = html("span");
     box.checked = names.includes(name);
-    box.onchange = () => choose(all(`#${id} :checked`).map(one => one.value).join());
+    box.onchange = () => choose(inputs(`#${id} :checked`).map(one => one.value).join());
     words.append(html("b", name), `: ${says}`);
     label.append(box, words);
     return label;
   }));
 }
 // What is left out, in a sentence for each rule.
+/** @param {Rules} rules @param {string} left */
 export function leftOutWords(rules, left) {
   const names = left.split(",").filter(Boolean);
   return names.map(name => `Left out: ${rules[name].says}; ${rules[name].without}.`).join(" ");
 }
+/** @param {HTMLSelectElement} select @param {string | number} value @param {string} [said] @param {string} title */
 export function option(select, value, said, title = "") {
   select.append(html("option", said || value, {value, title}));
 }
+/** @param {string} svg @param {string} said */
 export function picture(svg, said) {
   const shown = html("img", null, {alt: said, src: URL.createObjectURL(new Blob([svg], {type: "image/svg+xml"}))});
   shown.onload = () => URL.revokeObjectURL(shown.src);
@@ -145,27 +201,42 @@ export function picture(svg, said) {
 }
 // A picture on the stage, as large as there is room.
 let scale = 1;
+/** @param {string} svg @param {string} said */
 export function hang(svg, said) {
   const shown = picture(svg, said);
   shown.addEventListener("load", () => zoomPicture(0));
   by("picture").replaceChildren(shown);
 }
+/** @param {number} by_ */
 export function zoomPicture(by_) {
   const shown = by("picture").firstChild, {clientWidth, clientHeight} = by("picture");
-  if (!shown) return;
+  if (!(shown instanceof HTMLImageElement)) return;
   const wide = (clientWidth - 8) / shown.naturalWidth, high = (clientHeight - 24) / shown.naturalHeight;
   scale = by_ ? scale * by_ : Math.min(wide, Math.max(1, Math.min(3, high)));
   shown.style.width = `${Math.round(shown.naturalWidth * scale)}px`;
 }
+/** @param {string} said */
 export function capital(said) { return said[0].toUpperCase() + said.slice(1); }
+/** @param {number} n @param {string} what */
 export function count(n, what) { return `${n.toLocaleString("en")} ${what}${n === 1 ? "" : "s"}`; }
 // What a field says: a number from 0; of rules, with commas between, those that a program has.
+/** @param {string} said */
 export function whole(said) { return /^\d{1,6}$/.test(said) ? +said : 0; }
+/** @param {Rules} of @param {string} said */
 export function rulesOf(of, said) { return said.split(",").filter(name => Object.hasOwn(of, name)).join(); }
 // The two ends of an edge that is written as 2-3.
-export function endsOf(edge) { return edge.split("-").map(Number); }
-// A click on an edge has its link wait, or no more; and so with a node.
-export function toggle(list, one) {
-  const rest = seen[list].filter(other => String(other) !== String(one));
-  seen[list] = rest.length < seen[list].length ? rest : rest.concat([one]);
+/** @param {string} edge @returns {Edge} */
+export function endsOf(edge) {
+  const [v, w] = edge.split("-").map(Number);
+  return [v, w];
 }
+// A click on an edge has its link wait, or no more; and so with a node.
+/** @type {<One>(list: One[], one: One) => One[]} */
+function toggled(list, one) {
+  const rest = list.filter(other => String(other) !== String(one));
+  return rest.length < list.length ? rest : [...rest, one];
+}
+/** @param {Edge} edge */
+export function toggleSlow(edge) { seen.slow = toggled(seen.slow, edge); }
+/** @param {number} v */
+export function toggleLazy(v) { seen.lazy = toggled(seen.lazy, v); }

@@ -1,12 +1,15 @@
 // The tab Check: a plan that is typed or clicked, with the verdict on it, and transcripts.
-import {announce, asks, by, capital, hooks, programNamed, seen, show, stage, tabs} from "./base.js";
+import {announce, asks, by, capital, hello, hooks, programNamed, show, stage, tabs} from "./base.js";
 import {blank, channelCircle, html, note} from "./marks.js";
 import {net, neighbours, text} from "./model.js";
 
+/** @type {{plan: number[], verdict: GoodPlan | BadPlan | null, typed: number | null}} */
 export const check = {plan: [], verdict: null, typed: null};
 const CLASH = {stroke: "var(--wrong)", "stroke-width": 3, "stroke-dasharray": "5 4"};
+/** @type {Record<string, string>} */
 const SAID = {C4: "one channel", C8: "barred here", C1: "no channel yet", C5: "too great"};
 
+/** @param {number} v @param {number} channel */
 function set(v, channel) { check.plan[v - 1] = Math.max(0, Math.min(9999, channel)); }
 function ask() {
   show();
@@ -17,11 +20,13 @@ function ask() {
 }
 function showPlan() {
   const is = check.verdict, at = is && !is.ok ? is.at.filter(v => v >= 1 && v <= net.nodes.length) : [];
-  const {plan} = check, isWrong = (v, w) => at.length === 2 && at.includes(v) && at.includes(w);
+  const {plan} = check;
+  /** @type {(v: number, w: number) => boolean} */
+  const isWrong = (v, w) => at.length === 2 && at.includes(v) && at.includes(w);
   const above = () => {
-    if (!at.length) return [];
-    const spot = at.length === 2 ? stage.middle(...at) : [stage.X(at[0]), stage.Y(at[0]) - stage.radius - 18];
-    return note(...spot, SAID[is.code] || is.code);
+    if (!at.length || !is || is.ok) return [];
+    const [v, w] = at, x = stage.X(v), y = stage.Y(v) - stage.radius - 18;
+    return note(...(at.length === 2 ? stage.middle(v, w) : /** @type {Point} */ ([x, y])), SAID[is.code] || is.code);
   };
   stage.draw({above, ring: v => at.includes(v) ? "var(--wrong)" : null,
     says: v => plan[v - 1] ? `channel ${plan[v - 1]}` : "no channel",
@@ -30,7 +35,7 @@ function showPlan() {
       : plan[v - 1] && plan[v - 1] === plan[w - 1] ? CLASH : {}});
   const place = by("verdict");
   if (!is) return place.replaceChildren();
-  const left = plan.filter(channel => !channel).length, who = seen.hello.proved ? "The proved program" : "Python";
+  const left = plan.filter(channel => !channel).length, who = hello().proved ? "The proved program" : "Python";
   place.className = "verdict " + (is.ok ? "good" : is.code === "C1" ? "" : "bad");
   const [head, more] = is.ok ? ["The plan is proper", `${who} finds: neighbours differ, no channel is barred at its `
     + `node, and the greatest is ${is.said.split(" ")[1]}.`]
@@ -40,6 +45,7 @@ function showPlan() {
   place.replaceChildren(html("b", head), html("p", more, {class: is.ok ? "" : "soft"}));
   announce(`${head}. ${more}`);
 }
+/** @param {number | null} v @param {Edge | null} _edge @param {MouseEvent | KeyboardEvent} event */
 function click(v, _edge, event) {
   if (!v) return;
   const degree = Math.max(0, ...net.nodes.map((_, k) => neighbours(k + 1).length));
@@ -51,6 +57,7 @@ function click(v, _edge, event) {
 }
 // Digits typed soon after each other are one number.
 let typedAt = 0;
+/** @param {KeyboardEvent} event @param {number | null} on */
 function key(event, on) {
   const v = on || check.typed;
   if (!/^[0-9]$/.test(event.key) || !v) return false;
@@ -91,8 +98,9 @@ by("judged").onclick = () => asks("judge", {network: text(), transcript: by("tra
   if (is.line) choose(by("transcript"), is.line);
 });
 // Chooses a line of a text.
+/** @param {HTMLTextAreaElement} box @param {number} line */
 function choose(box, line) {
-  const lines = box.value.split("\n"), from = lines.slice(0, line - 1).join("\n").length + (line > 1);
+  const lines = box.value.split("\n"), from = lines.slice(0, line - 1).join("\n").length + (line > 1 ? 1 : 0);
   box.focus();
   box.setSelectionRange(from, from + (lines[line - 1] || "").length);
 }

@@ -1,16 +1,18 @@
 // The tab Draw: the network is drawn with the mouse, a finger or keys, and its plan is shown after each change.
 import {call, cancel} from "./api.js";
-import {all, announce, asks, by, count, endsOf, go, hang, hooks, programNamed, seen, show, showOptions, stage,
+import {all, announce, asks, by, count, endsOf, go, hang, hello, hooks, programNamed, seen, show, showOptions, stage,
   tabs, tried, whole, wrong} from "./base.js";
-import {blank, channelCircle, html} from "./marks.js";
+import {blank, channelCircle, html, targetOf} from "./marks.js";
 import * as model from "./model.js";
 import {change, net, neighbours, text} from "./model.js";
 
+/** @type {{plan: Plan | null, fresh: boolean}} */
 export const drawn = {plan: null, fresh: false};
-let timer = null;
+let timer = 0;
 
 function showPlan() {
   const plan = drawn.plan ? drawn.plan.plan : [];
+  /** @type {(v: number) => string} */
   const says = v => [plan[v - 1] ? `channel ${plan[v - 1]}` : "", `neighbours ${neighbours(v).join(", ") || "none"}`]
     .filter(Boolean).join(", ");
   stage.draw({says, ring: v => v === seen.node ? "var(--glow)" : null,
@@ -27,6 +29,7 @@ function showPlan() {
     ? `Edge ${seen.edge.join("–")} is chosen. ` : "";
   announce(`${chosen}${count(net.nodes.length, "node")}, ${count(net.edges.length, "edge")}`);
 }
+/** @param {number} v @param {number} w */
 function isEdge(v, w) { return seen.edge && seen.edge.join() === `${v},${w}`; }
 function facts() {
   const is = drawn.plan, place = by("plan");
@@ -38,7 +41,7 @@ function facts() {
     + ` of the ${is.allowed} allowed`), html("p", `${count(net.nodes.length, "node")}, `
     + `${count(net.edges.length, "edge")}, at most ${count(is.degree, "neighbour")}${bars}. Found in the rounds `
     + `(pulses) 0 to ${is.last}, by way of ${count(is.forests, "forest")}: lessons 2 to 4. `
-    + (seen.hello.proved ? "The plan is that of the proved program plain." : "The plan is that of the definitions.")));
+    + (hello().proved ? "The plan is that of the proved program plain." : "The plan is that of the definitions.")));
 }
 // Asks for the plan, a moment after the last change.
 export function askPlan() {
@@ -50,11 +53,13 @@ export function askPlan() {
   timer = setTimeout(() => asks("plan", {network: text()}, "looking for the plan", plan => {
     Object.assign(drawn, {plan, fresh: true});
     by("plan").classList.remove("old");
-    const on = document.activeElement, isTyped = by("chosen").contains(on) && on.value !== on.defaultValue;
+    const isTyped = fieldsOf(by("chosen")).some(one => one === document.activeElement && one.value !== one.defaultValue);
     if (seen.tab === "draw") { facts(); if (!isTyped) inspect(); show(); }
   }), 40);
 }
 
+/** @param {HTMLElement} box */
+function fieldsOf(box) { return Array.from(box.getElementsByTagName("input")); }
 // The chosen node or edge.
 export function inspect() {
   const place = by("chosen"), v = seen.node;
@@ -64,9 +69,10 @@ export function inspect() {
       html("p", "Delete removes it.", {class: "soft"}));
   }
   if (!v) return place.replaceChildren();
-  const node = net.nodes[v - 1], box = html("div", null, {class: "grid"}), fields = box.getElementsByTagName("input");
-  const on = Array.from(place.querySelectorAll("input")).indexOf(document.activeElement);
-  const field = (said, value, use, more = {}, parse = text_ => text_, refusal = "") => {
+  const node = net.nodes[v - 1], box = html("div", null, {class: "grid"});
+  const on = fieldsOf(place).findIndex(one => one === document.activeElement);
+  /** @type {<Given>(said: string, value: string, use: (given: Given) => void, more: Attributes, parse: (said: string) => Given | null, refusal?: string) => void} */
+  const field = (said, value, use, more, parse, refusal = "") => {
     const label = html("label", said), input = html("input", null, {type: "text", value, ...more});
     // After the focus has gone on: what has it then gets it again.
     input.onchange = () => setTimeout(() => {
@@ -78,7 +84,8 @@ export function inspect() {
     label.append(input);
     box.append(label);
   };
-  field("name", node.name, value => { node.name = value; }, {maxlength: 40, placeholder: "40 letters at most"});
+  field("name", node.name, value => { node.name = value; }, {maxlength: 40, placeholder: "40 letters at most"},
+    said => said);
   field("identifier", node.id, value => { node.id = value; }, {inputmode: "numeric", placeholder: `${v}, its number`},
     said => /^\d{0,39}$/.test(said) ? said : null, "An identifier is a whole number, from 0 on: no other node has it.");
   field("barred channels", node.bars.join(", "), value => { node.bars = value; }, {placeholder: "for example 1, 4-6"},
@@ -86,12 +93,13 @@ export function inspect() {
   const channel = drawn.plan && drawn.plan.plan[v - 1];
   place.replaceChildren(html("h2", `Node ${v}` + (channel ? `, channel ${channel}` : "")), box,
     html("p", `neighbours: ${neighbours(v).join(", ") || "none"}`));
-  if (fields[on]) fields[on].focus();
+  if (on >= 0) fieldsOf(box)[on].focus();
   const why = html("button", "why this channel?");
   why.onclick = () => { seen.node = v; go("rounds", {at: 1e9}); };
   if (channel) place.append(why);
 }
 // The channels of a list, as `1, 4-6`; null if it is none.
+/** @param {string} said */
 function barsOf(said) {
   const found = new Set();
   for (const part of said.split(/[\s,;]+/).filter(Boolean)) {
@@ -101,11 +109,13 @@ function barsOf(said) {
   }
   return Array.from(found).sort((a, b) => a - b);
 }
+/** @param {number | null} v @param {Edge | null} edge */
 function choose(v, edge = null) { seen.node = v; seen.edge = edge; inspect(); show(); }
 function remove() {
   if (seen.edge) model.toggleEdge(...seen.edge);
   else if (seen.node) { const v = seen.node; seen.node = null; model.removeNode(v); }
 }
+/** @param {number | null} v @param {Edge | null} edge @param {MouseEvent | KeyboardEvent} event */
 function click(v, edge, event) {
   if (v && seen.node && v !== seen.node) {
     const from = seen.node;
@@ -115,7 +125,7 @@ function click(v, edge, event) {
   if (v) return choose(v === seen.node ? null : v);
   if (edge) return choose(null, isEdge(...edge) ? null : edge);
   if (seen.node || seen.edge) return choose(null);
-  change(n => n.nodes.push({...stage.placeOf(event), id: "", name: "", bars: []}));
+  if (event instanceof MouseEvent) change(n => n.nodes.push({...stage.placeOf(event), id: "", name: "", bars: []}));
 }
 // A node where there is room: to the right of the last one, or in the middle.
 function addByKey() {
@@ -125,11 +135,12 @@ function addByKey() {
   if (stage.isOutside()) { stage.fit(); show(); }
 }
 // `on` is the node that has the focus.
+/** @param {KeyboardEvent} event @param {number | null} on */
 function key(event, on) {
   const way = {ArrowLeft: [-20, 0], ArrowRight: [20, 0], ArrowUp: [0, -20], ArrowDown: [0, 20]}[event.key];
   if (on && way) change(n => { n.nodes[on - 1].x += way[0]; n.nodes[on - 1].y += way[1]; }, "key " + on, "move");
   else if (event.key === "Delete" || event.key === "Backspace") {
-    const {edge} = event.target.dataset || {};
+    const {edge} = targetOf(event).dataset || {};
     if (on || edge) Object.assign(seen, {node: on, edge: edge ? endsOf(edge) : null});
     remove();
   } else if (event.key === "Escape") choose(null);
@@ -147,6 +158,7 @@ tabs.draw = {
 
 // Files.
 // `stated` has the words of a command line that say what the file is; `name` is that of the network.
+/** @param {File} file @param {string[]} stated @param {string | null} name */
 export async function openFile(file, stated = [], name = null) {
   by("unsaid").hidden = true;
   if (file.size > 4e6) return wrong("That file is larger than the studio reads.");
@@ -154,7 +166,7 @@ export async function openFile(file, stated = [], name = null) {
   let words = "";
   for (let k = 0; k < bytes.length; k += 32768) words += String.fromCharCode(...bytes.subarray(k, k + 32768));
   await asks("read", {name: file.name, data: btoa(words), stated}, "reading the file", found => {
-    if (found.unsaid) return askWhat(file, stated, name, found);
+    if (found.unsaid !== undefined) return askWhat(file, stated, name, found);
     model.load({...found, name: name === null ? found.name : name});
     if (seen.tab !== "draw") go("draw");
     const {said} = found, all_ = [count(net.nodes.length, "node"), count(net.edges.length, "edge")];
@@ -162,21 +174,28 @@ export async function openFile(file, stated = [], name = null) {
   });
 }
 // Nothing is guessed: what isn't said of a file is asked. Of a table without standard titles any columns may be meant.
+/** @param {File} file @param {string[]} stated @param {string | null} name @param {Unsaid} found */
 function askWhat(file, stated, name, {unsaid, choices, wanted, titles}) {
+  /** @type {(means: string, words: () => string[]) => HTMLButtonElement} */
   const say = (means, words) => {
     const button = html("button", means);
     button.onclick = () => openFile(file, [...stated, ...words()], name);
     return button;
   };
-  const columns = wanted.map(column => {
-    const label = html("label", column + " is "), choice = html("select", null, {name: column});
+  const choosers = wanted.map((column, k) => {
+    const choice = html("select", null, {name: column});
     titles.forEach(title => choice.append(html("option", title)));
-    choice.selectedIndex = wanted.indexOf(column);
+    choice.selectedIndex = k;
+    return choice;
+  });
+  const columns = choosers.map(choice => {
+    const label = html("label", choice.name + " is ");
     label.append(choice);
     return label;
   });
-  const quoted = ({name, value}) => `"${(name + "=" + value).replaceAll('"', '""')}"`;
-  const chosen = () => ["--columns", columns.map(one => quoted(one.lastChild)).join(",")];
+  /** @param {HTMLSelectElement} choice */
+  const quoted = ({name: column, value}) => `"${(column + "=" + value).replaceAll('"', '""')}"`;
+  const chosen = () => ["--columns", choosers.map(quoted).join(",")];
   if (seen.tab !== "draw") go("draw");
   by("unsaid").hidden = false;
   by("unsaidwhat").textContent = `${unsaid}. Say what it is:`;
@@ -184,12 +203,14 @@ function askWhat(file, stated, name, {unsaid, choices, wanted, titles}) {
   if (columns.length) by("unsaidchoices").append(...columns, say("read these", chosen));
 }
 // What is saved is a text or a page, for whoever has no studio.
+/** @param {string} words @param {string} ending */
 function download(words, ending) {
   const type = ending === ".html" ? "text/html" : "text/plain", name = (net.name || "network") + ending;
   const link = html("a", null, {href: URL.createObjectURL(new Blob([words], {type})), download: name});
   link.click();
   setTimeout(() => URL.revokeObjectURL(link.href), 1000);
 }
+/** @param {string} what */
 export function save(what) {
   const asked = {network: text(), name: net.name, program: programNamed()};
   if (what === "network") return download(text(), ".col");
@@ -205,15 +226,17 @@ export function save(what) {
 // Making networks.
 export function makeForm() {
   const form = by("make"), kind = html("select", null, {"aria-label": "kind"}), sizes = html("span");
-  const {kinds} = seen.hello, usual = {nodes: 8, rows: 3, columns: 4, edges: 12, seed: 1};
+  const {kinds} = hello();
+  /** @type {Record<string, number>} */
+  const usual = {nodes: 8, rows: 3, columns: 4, edges: 12, seed: 1};
   Object.keys(kinds).forEach(one => kind.append(html("option", one)));
   const fields = () => {
     const is = kinds[kind.value];
     sizes.replaceChildren(...is.sizes.concat(is.chance ? ["seed"] : []).map(name => {
       const label = html("label", name), isNodes = ["nodes", "rows", "columns"].includes(name);
-      const most = isNodes ? {max: seen.hello.most} : {max: 999999999};
+      const most = isNodes ? {max: hello().most} : {max: 999999999};
       const input = html("input", null, {type: "number", name, min: 0, required: "", ...most});
-      input.value = usual[name];
+      input.value = String(usual[name]);
       label.append(input);
       return label;
     }));
@@ -238,9 +261,14 @@ by("tidy").onclick = () => asks("tidy", {network: text()}, "laying it out", ({no
   show();
 });
 by("apply").onclick = () => openFile(new File([by("text").value], "the text"), ["--as", "dimacs"], net.name);
-by("file").onchange = () => { if (by("file").files[0]) openFile(by("file").files[0]); by("file").value = ""; };
+by("file").onchange = () => {
+  const [file] = by("file").files || [];
+  if (file) openFile(file);
+  by("file").value = "";
+};
 
 // The tab Pictures: what the command `picture` draws.
+/** @type {Record<Kind, string>} */
 const KINDS = {
   plan: "The plan.", results: "What the nodes have found at the end.",
   rounds: "A row for each node; of the colouring, for each node of each forest.",
@@ -249,9 +277,17 @@ const KINDS = {
 const OF_RUN = ["run"], OF_NODE = ["why", "bits"];
 // Those that draw any program.
 const OF_PROGRAM = ["results", "rounds", ...OF_RUN];
+/** @type {Kind} */
 let kind = "rounds";
+// The node of a picture of one. Of `why` it is said if none is chosen.
+/** @param {Kind} kind */
+function vertexOf(kind) {
+  if (!OF_NODE.includes(kind)) return null;
+  if (kind === "why" && !seen.node) by("kindsaid").textContent += " None is chosen, so it is node 1.";
+  return seen.node || (kind === "why" ? 1 : null);
+}
 function askPicture() {
-  all("#kinds button").forEach(one => one.setAttribute("aria-pressed", one.dataset.kind === kind));
+  all("#kinds button").forEach(one => one.setAttribute("aria-pressed", String(one.dataset.kind === kind)));
   by("kindsaid").textContent = KINDS[kind];
   announce(KINDS[kind]);
   by("ofnode").hidden = !OF_NODE.includes(kind);
@@ -262,25 +298,24 @@ function askPicture() {
   if (!OF_PROGRAM.includes(kind)) all("[data-panel=pictures] .option").forEach(one => { one.hidden = true; });
   by("program4").value = seen.program;
   const pulses = (/^(\d{1,6})\.\.(\d{1,6})$/.exec(by("pulses").value.trim()) || []).slice(1).map(Number);
-  by("vertex").max = net.nodes.length;
-  by("vertex").value = seen.node || "";
+  by("vertex").max = String(net.nodes.length);
+  by("vertex").value = String(seen.node || "");
   const asked = kind;
   tried("picture", "drawing", async () => {
-    const isOfRun = OF_RUN.includes(kind), v = seen.node;
-    const transcript = isOfRun ? await tabs.run.transcript() : null;
-    const vertex = kind === "why" ? v || 1 : OF_NODE.includes(kind) ? v : null;
+    const isOfRun = OF_RUN.includes(kind), transcript = isOfRun ? await tabs.run.transcript() : null;
     // Another picture has been asked for since.
     if (kind !== asked || isOfRun && !transcript) return;
-    if (kind === "why" && !v) by("kindsaid").textContent += " None is chosen, so it is node 1.";
-    const got = await call("picture", {kind, network: text(), name: net.name, program, vertex, transcript,
-      forest: tabs.rounds.forest(), pulses: isOfRun ? pulses : null});
+    const got = await call("picture", {kind, network: text(), name: net.name, program, vertex: vertexOf(kind),
+      transcript, forest: tabs.rounds.forest(), pulses: isOfRun ? pulses : null});
     if (!got) return;
     hang(got, kind);
     by("keep").href = URL.createObjectURL(new Blob([got], {type: "image/svg+xml"}));
     by("keep").download = `${net.name || "network"}-${kind}.svg`;
   });
 }
-Object.keys(KINDS).forEach(one => {
+/** @type {Kind[]} */
+const ALL_KINDS = ["plan", "results", "rounds", "bits", "why", "run"];
+ALL_KINDS.forEach(one => {
   const button = html("button", one, {"data-kind": one});
   button.onclick = () => { kind = one; askPicture(); hooks.link(); };
   by("kinds").append(button);

@@ -5,15 +5,24 @@ import {html} from "./marks.js";
 export class Question {
   // `ask()` gives the question that there is now, {words, call, asked, picks}, or null; `look()` leads to where its
   // answer is seen. A pick is an answer that is tapped.
-  constructor(id, ask, look) { Object.assign(this, {id, ask, look, key: null}); }
+  /** @param {"question" | "question2"} id @param {() => Asked | null} ask @param {() => void} [look] */
+  constructor(id, ask, look) {
+    this.id = id;
+    this.ask = ask;
+    this.look = look;
+    this.key = "";
+  }
   show() {
-    const is = this.ask(), key = JSON.stringify(is), place = by(this.id);
+    const is = this.ask(), key = JSON.stringify(is);
+    /** @type {HTMLElement} */
+    const place = by(this.id);
     place.hidden = !is;
     if (!is || key === this.key) return;
     this.key = key;
     place.replaceChildren(html("p", is.words));
     if (is.call) place.append(this.form(is), html("p", null, {role: "status"}));
   }
+  /** @param {Asked} is */
   form(is) {
     const form = html("form", null, {class: "row chips"});
     const said = html("input", null, {size: 14, "aria-label": "your answer"});
@@ -25,10 +34,12 @@ export class Question {
     form.onsubmit = event => { event.preventDefault(); if (said.value.trim()) this.judge(is, said.value); };
     return form;
   }
+  /** @param {Asked} is @param {string} said */
   judge(is, said) {
-    return asks(is.call, {...is.asked, said}, "looking for the answer", ({right, found, why}) => {
-      const place = by(this.id).lastChild, look = html("button", "look", {type: "button", class: "quiet"});
-      look.onclick = this.look;
+    return asks(is.call || "predict", {...is.asked, said}, "looking for the answer", ({right, found, why}) => {
+      const place = by(this.id).lastElementChild, look = html("button", "look", {type: "button", class: "quiet"});
+      if (!place) return;
+      look.onclick = this.look || null;
       place.className = "verdict " + (right ? "good" : "bad");
       place.replaceChildren(right ? `✓ Yes: ${found}. ` : `✗ Not ${said}: ${found}. `, html("span", why + " ",
         {class: "soft"}), ...(this.look ? [look] : []));

@@ -1,16 +1,18 @@
 // The tab Rounds: the network at each pulse, why a node has its channel, and what goes wrong without a rule.
 import {call} from "./api.js";
-import {KEYS, announce, asks, by, capital, fill, go, hang, hide, hooks, leftOutWords, picture, programNamed, ruleBoxes,
+import {KEYS, all, announce, asks, by, capital, fill, go, hang, hello, hide, hooks, leftOutWords, picture, programNamed, ruleBoxes,
   rulesOf, say, seen, show, showOptions, stage, tabs, time, timeAt, tried} from "./base.js";
 import {html, patch} from "./marks.js";
 import {load as load_, net, text} from "./model.js";
 import {Question} from "./predict.js";
 import {RoundsFilm, roundsLegend} from "./rounds.js";
 
+/** @type {Rounds} */
 export const rounds = {forest: 0, why: null, whyOf: null, film: null, of: null, without: "", predicts: false};
 const question = new Question("question", () => {
-  if (!rounds.predicts || !isReady()) return null;
-  const p = Math.floor(time.at), {film, forest} = rounds, {node} = seen;
+  const film = ready();
+  if (!rounds.predicts || !film) return null;
+  const p = Math.floor(time.at), {forest} = rounds, {node} = seen;
   if (!node) return {words: "Click a node: what will it have after the next pulse?"};
   const found = film.question(node, p, forest);
   if (!found) return {words: p < 1 ? "Go on to pulse 1." : "This is the last pulse."};
@@ -18,6 +20,7 @@ const question = new Question("question", () => {
     asked: {network: text(), program: programNamed(), vertex: node, pulse: p + 1, forest}};
 }, () => time.set(Math.floor(time.at) + 1));
 
+/** @param {string} program */
 export async function load(program = programNamed()) {
   const asked = text(), key = program + asked;
   if (key === rounds.of) return true;
@@ -26,22 +29,24 @@ export async function load(program = programNamed()) {
   Object.assign(rounds, {film: new RoundsFilm(got, net), of: key, why: null, whyOf: null});
   return true;
 }
-function isReady() { return rounds.film && rounds.of === programNamed() + text(); }
+// The film, if it is of the program and the network that are chosen.
+function ready() { return rounds.film && rounds.of === programNamed() + text() ? rounds.film : null; }
 function showAt() {
-  if (!isReady()) return false;
-  const {film} = rounds, {node} = seen, why = rounds.whyOf === node ? rounds.why : null;
+  const film = ready();
+  if (!film) return false;
+  const {node} = seen, why = rounds.whyOf === node ? rounds.why : null;
   rounds.forest = Math.min(rounds.forest, Math.max(0, film.forests - 1));
   const p = film.draw(stage, time.at, {forest: rounds.forest, node, why}), [caption, said] = film.said(p, node);
   say("when", `pulse ${p} of ${film.last}`);
   const ofNode = node ? ` Node ${node}: ${film.words(node, p, film.forestAt(p, rounds.forest))}.` : "";
   announce(`pulse ${p}. ${said}${ofNode}`);
   fill("said", caption + said, () => [said, html("br"), html("span", caption, {class: "soft"})]);
-  const chips = by("forests"), hasFocus = chips.contains(document.activeElement);
+  const hasFocus = by("forests").contains(document.activeElement);
   fill("forests", [p, rounds.forest, film.forests].join(), () => film.chips(p, rounds.forest, f => {
     rounds.forest = f;
     show();
   }));
-  if (hasFocus && chips.children.length) chips.children[rounds.forest].focus();
+  if (hasFocus) all("#forests button").slice(rounds.forest, rounds.forest + 1).forEach(one => one.focus());
   // What comes is seen when it is looked at.
   question.show();
   by("why").hidden = rounds.predicts;
@@ -65,6 +70,7 @@ async function askWhy() {
   place.replaceChildren(html("h2", head.replace(" of this network", "")), html("p", summary), more, bitsOf(v));
   show();
 }
+/** @param {number} v */
 function bitsOf(v) {
   const bits = html("details"), kept = html("figure");
   bits.append(html("summary", "bit by bit"), html("p", "A click on the picture makes it large.", {class: "soft"}),
@@ -82,7 +88,7 @@ function bitsOf(v) {
 }
 // What goes wrong without a rule of the rounds. A file of one's own has none.
 function rulesHere() {
-  const of = seen.hello.rules.rounds;
+  const of = hello().rules.rounds;
   return Object.hasOwn(of, seen.program) ? of[seen.program] : {};
 }
 function askBroken() {
@@ -96,7 +102,7 @@ function askBroken() {
   asks("broken", asked, "looking for what goes wrong", ({here, words, found, picture: svg}) => {
     if (seen.tab !== "rounds") return;
     const draw = html("button", "draw this smallest network"), back = html("button", "back to all rules");
-    draw.onclick = () => load_(found);
+    draw.onclick = () => { if (found) load_(found); };
     back.onclick = () => leaveOut("");
     place.append(html("p", leftOutWords(rulesHere(), rounds.without), {class: "soft"}), html("p",
       words.map(capital).join(". ") + (found ? "; the picture is of a smallest network on which they go wrong." : "."),
@@ -104,11 +110,13 @@ function askBroken() {
     if (svg) hang(svg, "without " + rounds.without); else { stageHas(false); stage.fit(); show(); }
   });
 }
+/** @param {boolean} isPicture */
 function stageHas(isPicture) {
   by("picture").hidden = !isPicture;
   by("net").style.display = isPicture ? "none" : "";
   by("time").hidden = by("allrules").hidden = isPicture;
 }
+/** @param {string} left */
 function leaveOut(left) {
   rounds.without = left;
   showRules();
@@ -135,15 +143,16 @@ tabs.rounds = {
     rounds.without = rulesOf(rulesHere(), rounds.without);
     showRules();
     tried("rounds", "asking for the rounds", async () => {
-      if (!await load() || seen.tab !== "rounds") return;
+      if (!await load() || seen.tab !== "rounds" || !rounds.film) return;
       time.range(0, rounds.film.last);
       roundsLegend(by("roundslegend"), rounds.film);
       time.set(time.at);
       if (more.play) time.toggle();
       await askWhy();
     });
-    if (!isReady()) {
-      ["said", "forests"].forEach(id => fill(id, "", () => []));
+    if (!ready()) {
+      fill("said", "", () => []);
+      fill("forests", "", () => []);
       by("why").replaceChildren();
       hide("strips", true);
     }
@@ -152,7 +161,10 @@ tabs.rounds = {
   step: way => time.set(way > 0 ? Math.floor(time.at + 1) : Math.ceil(time.at - 1)),
   rate: () => 0.8,
   // What plays leaves out the pulses in which nothing happens.
-  past: at => isReady() && rounds.film.isIdle(Math.floor(at)) ? rounds.film.nextChange(Math.floor(at)) : at,
+  past(at) {
+    const film = ready(), p = Math.floor(at);
+    return film && film.isIdle(p) ? film.nextChange(p) : at;
+  },
   link() {
     const {forest, without, predicts} = rounds;
     return {at: timeAt(), forest, node: seen.node, broken: without, predict: predicts};
@@ -163,5 +175,8 @@ tabs.rounds = {
   },
 };
 by("program2").onchange = () => { seen.program = by("program2").value; time.at = 0; tabs.rounds.enter(); };
-by("change").onclick = () => { time.stop(); time.set(rounds.film.nextChange(Math.floor(time.at))); };
+by("change").onclick = () => {
+  time.stop();
+  if (rounds.film) time.set(rounds.film.nextChange(Math.floor(time.at)));
+};
 by("predicts").onchange = () => { rounds.predicts = by("predicts").checked; show(); hooks.link(); };

@@ -1,18 +1,20 @@
 // The tab No clock: a run by a seed or by real threads, its verdicts, another order or the rounds beside it.
 import {call} from "./api.js";
-import {KEYS, all, announce, by, capital, fill, hide, programNamed, progress, say, seen, show, showOptions, stage, tabs,
-  time, timeAt, toggle, tried, wrong} from "./base.js";
+import {KEYS, all, announce, by, capital, fill, hello, hide, messageOf, programNamed, progress, refill, say, seen, show,
+  showOptions, stage, tabs, time, timeAt, toggleLazy, toggleSlow, tried, wrong} from "./base.js";
 import {net, text} from "./model.js";
 import {rounds} from "./rounds_tab.js";
 import {RunFilm, lookWords, runLegend, waitsTable} from "./run.js";
 import {Stage} from "./stage.js";
 
 // `steps` come first, as the tab Adversary has made them; `other` is the policy and the seed of a second run.
+/** @type {Run} */
 export const run = {film: null, found: null, of: null, key: null, steps: [], transcript: null, other: null, film2: null,
-  key2: null, judgedAt: null};
+  found2: null, key2: null, judgedAt: null, at: 0};
 const second = new Stage(by("second"), net), small = new Stage(by("small"), net);
+/** @type {(keyof Elements)[]} */
 const SAID = ["judge", "judgehere", "same", "costs", "now", "table"];
-let judgeTimer = null;
+let judgeTimer = 0;
 
 function how() {
   return {how: by("made").value, policy: by("policy").value, seed: by("seed").value, workers: +by("workers").value,
@@ -23,23 +25,27 @@ function asked() {
   return run.transcript ? {network: text(), program, transcript: run.transcript}
     : {network: text(), program, slow, lazy, steps: run.steps.join("_"), ...how()};
 }
-function take(found, {program, network}, isPart) {
-  Object.assign(run, {found, film: new RunFilm(found, net), of: program + network, isPart, judgedAt: null});
-  by("table").key = null;
+// Takes a run, or a part of one that is under way.
+/** @param {RunFound} found @param {WholeRun | null} whole @param {{program: string, network: string}} asked */
+function take(found, whole, {program, network}) {
+  const film = new RunFilm(found, net);
+  Object.assign(run, {found: whole, film, of: program + network, judgedAt: null});
+  refill("table");
   by("judgehere").textContent = "";
-  if (!isPart) return verdicts(found, run.film, "");
-  ["same", "costs"].forEach(id => { by(id).textContent = ""; });
+  if (whole) return verdicts(whole, film, "");
+  by("same").textContent = by("costs").textContent = "";
   by("judge").className = "verdict soft";
   by("judge").textContent = "This is its beginning: the rest is on its way.";
 }
 export async function load() {
   const wanted = asked(), key = JSON.stringify(wanted);
   if (key !== run.key) {
-    const part = found => { take(found, wanted, true); place(time.at); };
+    /** @param {RunFound} found */
+    const part = found => { take(found, null, wanted); place(time.at); };
     const got = await call("run", wanted, {progress, part});
     if (!got) return false;
-    run.key = wanted.how === "threads" ? null : key;
-    take(got, wanted, false);
+    Object.assign(run, {key: "how" in wanted && wanted.how === "threads" ? null : key});
+    take(got, got, wanted);
   }
   return await loadOther();
 }
@@ -49,17 +55,19 @@ async function loadOther() {
   if (key === run.key2 && run.film2) return true;
   const got = await call("run", wanted, {progress, key: "run2"});
   if (!got) return false;
-  Object.assign(run, {key2: key, film2: new RunFilm(got, net), found2: got});
-  verdicts(got, run.film2, "2");
+  const film = new RunFilm(got, net);
+  Object.assign(run, {key2: key, film2: film, found2: got});
+  verdicts(got, film, "2");
   return true;
 }
-function isReady() { return run.film && run.of === programNamed() + text(); }
+// The run, if it is of the program and the network that are chosen.
+function ready() { return run.film && run.of === programNamed() + text() ? run.film : null; }
 function ask() {
   const isSeed = by("made").value === "seed";
   if (!run.other) run.film2 = null;
   all(".seeded").forEach(one => { one.hidden = !isSeed; });
   all(".threads").forEach(one => { one.hidden = isSeed; });
-  by("policysaid").textContent = !isSeed || run.transcript ? "" : capital(seen.hello.policies[by("policy").value])
+  by("policysaid").textContent = !isSeed || run.transcript ? "" : capital(hello().policies[by("policy").value])
     + (seen.slow.length ? "; what goes over a dotted link waits" : "") + ".";
   by("handed").hidden = !run.steps.length && !run.transcript;
   by("handedsaid").textContent = run.transcript ? "This is the transcript of the tab Check."
@@ -67,78 +75,86 @@ function ask() {
   all(".other").forEach(one => { one.hidden = !run.other; });
   time.stop();
   // What is said of another run isn't left on the page while this one is worked out.
-  if (JSON.stringify(asked()) !== run.key) SAID.forEach(id => { by(id).replaceChildren(); by(id).key = null; });
+  if (JSON.stringify(asked()) !== run.key) SAID.forEach(id => { by(id).replaceChildren(); refill(id); });
   return tried("run", "playing the run", async () => {
     if (!await load() || seen.tab !== "run") return;
     if (by("beside").checked) await tabs.rounds.load();
     place(time.at);
-    if (run.found.of) by("policysaid").textContent += ` Here it is ${run.found.of}.`;
+    if (run.found && run.found.of) by("policysaid").textContent += ` Here it is ${run.found.of}.`;
     judgeSoon();
   });
 }
 function lay() {
   const is = {two: Boolean(run.film2), beside: by("beside").checked, long: isLong()};
-  Object.keys(is).forEach(name => by("stage").classList.toggle(name, seen.tab === "run" && is[name]));
+  Object.entries(is).forEach(([name, isSo]) => by("stage").classList.toggle(name, seen.tab === "run" && isSo));
 }
 // Whether the network is so long that pictures of it go one below the other.
 function isLong() {
+  /** @type {(list: number[]) => number} */
   const span = list => Math.max(...list) - Math.min(...list);
   const {offsetWidth, offsetHeight} = by("stage");
   return span(net.nodes.map(n => n.x)) > 2 * span(net.nodes.map(n => n.y))
     || offsetWidth < Math.min(500, 1.3 * offsetHeight);
 }
 // Puts the slider to a place of the run that is there: a stamp, or of two runs a pulse.
+/** @param {number} at */
 function place(at) {
-  if (seen.tab !== "run") return;
+  if (seen.tab !== "run" || !run.film) return;
   lay();
   hide("second", !run.film2);
   hide("small", !by("beside").checked);
   stage.fit();
-  const [low, high] = run.film2 ? pulses() : run.found.table.stamps;
+  const [low, high] = run.film2 ? pulses(run.film, run.film2) : run.film.table.stamps;
   time.range(low, high);
   time.set(at);
 }
 // The pulses that both runs show; one more is their ends.
-function pulses() {
-  const [a, b] = [run.found.pulses, run.found2.pulses];
+/** @param {RunFilm} one @param {RunFilm} other */
+function pulses(one, other) {
+  const a = one.found.pulses, b = other.found.pulses;
   return [Math.max(a[0], b[0]), Math.min(a[1], b[1]) + 1];
 }
 function showAt() {
-  if (!isReady()) return false;
+  const film = ready();
+  if (!film) return false;
   lay();
   stage.refit();
   // Threads wait for nobody.
   const only = by("payloads").checked, isSeed = by("made").value === "seed" && !run.transcript;
   const options = {node: seen.node, only, slow: isSeed ? seen.slow : [], lazy: isSeed ? seen.lazy : []};
-  let at;
+  let at = 0;
   if (run.film2) {
-    const here = run.film.atPulse(time.at), there = run.film2.atPulse(time.at);
+    const here = film.atPulse(time.at), there = run.film2.atPulse(time.at);
     at = here.at;
     second.refit();
-    run.film.draw(stage, here.stamp, {...options, at});
+    film.draw(stage, here.stamp, {...options, at});
     run.film2.draw(second, there.stamp, {...options, slow: [], lazy: [], at: there.at});
     say("now", `first run, stamp ${Math.floor(here.stamp)}: ${here.said}; second, stamp `
       + `${Math.floor(there.stamp)}: ${there.said}`);
     say("when", `pulse ${Math.floor(time.at)}`);
   } else {
-    at = run.film.draw(stage, time.at, options);
-    say("now", `${run.film.said(at)}. ${apart(run.film.looks(at))}`);
+    at = film.draw(stage, time.at, options);
+    say("now", `${film.said(at)}. ${apart(film.looks(at))}`);
     say("when", "stamp " + Math.floor(time.at));
   }
   run.at = at;
-  const ofNode = seen.node ? ` Node ${seen.node}: ${lookWords(run.film.look(seen.node, at))}.` : "";
+  const ofNode = seen.node ? ` Node ${seen.node}: ${lookWords(film.look(seen.node, at))}.` : "";
   announce(by("now").textContent + ofNode);
   // What the judge has said of another place isn't left beside this one.
   if (run.judgedAt !== at) say("judgehere", "");
-  const results = run.found.results || [], last = run.film.last(at);
-  const isFound = (v, is) => is.c === results[v - 1] && (is.e || is.p === run.found.last);
-  fill("table", `${at} ${seen.node}`, () => [waitsTable(run.film.looks(at), {only: seen.node, lit: last && last[1],
+  const results = run.found ? run.found.results : [], last = film.last(at);
+  /** @type {(v: number, is: Look) => boolean} */
+  const isFound = (v, is) => is.c === results[v - 1] && (is.e === 1 || is.p === film.found.last);
+  fill("table", `${at} ${seen.node}`, () => [waitsTable(film.looks(at), {only: seen.node, lit: last && last[1],
     head: "found in the rounds", more: (v, is) => resultSaid(results[v - 1]) + (isFound(v, is) ? " ✓" : "")})]);
-  showRounds(at);
+  showRounds(film.looks(at));
 }
+/** @param {number | string | undefined} result */
 function resultSaid(result) { return typeof result === "number" ? `channel ${result}` : result || ""; }
 // How far apart the pulses of neighbours are, and of all nodes.
+/** @param {Look[]} looks */
 function apart(looks) {
+  /** @type {(pairs: Edge[]) => number} */
   const most = pairs => Math.max(0, ...pairs.map(([v, w]) => Math.abs(looks[v - 1].p - looks[w - 1].p)));
   const pulses_ = looks.map(is => is.p), low = pulses_.indexOf(Math.min(...pulses_)) + 1;
   const high = pulses_.indexOf(Math.max(...pulses_)) + 1, far = most([[low, high]]);
@@ -146,22 +162,24 @@ function apart(looks) {
     : "All nodes are at the same pulse.";
 }
 // The rounds, small, at the pulse of the slowest node or of the one that is followed.
-function showRounds(at) {
+/** @param {Look[]} looks */
+function showRounds(looks) {
   if (!by("beside").checked || !rounds.film || rounds.of !== programNamed() + text()) return say("besidesaid", "");
-  const looks = run.film.looks(at);
   const p = seen.node ? looks[seen.node - 1].p : Math.min(...looks.map(is => is.p));
   small.refit();
   rounds.film.draw(small, Math.min(p, rounds.film.last), {forest: rounds.forest, node: seen.node, quiet: true});
   by("small").setAttribute("aria-label", `the rounds, pulse ${p}`);
   say("besidesaid", ` (pulse ${p})`);
 }
+/** @param {"" | "2"} which */
 function of_(which) { return which ? "Second run: " : ""; }
 // What is said of a whole run; `which` is "2" of the other order beside it.
+/** @param {WholeRun} found @param {RunFilm} film @param {"" | "2"} which */
 function verdicts(found, film, which) {
   const {judge} = found, entries = judge.entries.toLocaleString("en"), [same, pulses_, payloads] = found.same;
   const kinds = Object.entries(found.costs).map(([kind, count]) => `${count.toLocaleString("en")} ${kind}s`);
-  by("costs" + which).textContent = `${of_(which)}over the links went ${kinds.join(", ")}.`;
-  const judged = by("judge" + which), compared = by("same" + which), of = of_(which);
+  by(`costs${which}`).textContent = `${of_(which)}over the links went ${kinds.join(", ")}.`;
+  const judged = by(`judge${which}`), compared = by(`same${which}`), of = of_(which);
   judged.className = "verdict " + (judge.ok ? "good" : "bad");
   judged.textContent = of + (judge.ok ? `✓ ${judge.by} accepts these ${entries} entries, a whole run.`
     : `✗ ${judge.by}: ${judge.said}`);
@@ -175,28 +193,36 @@ function verdicts(found, film, which) {
 function judgeSoon() {
   clearTimeout(judgeTimer);
   if (time.timer || run.film2) return;
-  const fails = fault => wrong(fault.message, "replay");
+  /** @param {unknown} fault */
+  const fails = fault => wrong(messageOf(fault), "replay");
   judgeTimer = setTimeout(() => judgeHere().then(() => wrong("", "replay"), fails), 150);
 }
 // The judge plays the entries up to here, and says where each node is: the page's own account has to agree.
 async function judgeHere() {
-  const {at, found} = run;
-  if (seen.tab !== "run" || !isReady() || run.isPart || run.judgedAt === at) return;
+  const {at, found} = run, film = ready();
+  if (seen.tab !== "run" || !film || !found || run.judgedAt === at) return;
   const lines = found.text.split("\n", at + 1).join("\n");
   const is = await call("replay", {network: text(), transcript: lines, program: programNamed()});
   if (!is || run.at !== at || run.found !== found) return;
+  sayJudged(is, film, at);
+}
+/** @param {Replayed} is @param {RunFilm} film @param {number} at */
+function sayJudged(is, film, at) {
   run.judgedAt = at;
-  const agrees = is.ok && is.pulses.every((p, k) => p === run.film.look(k + 1, at).p);
+  const agrees = is.ok && is.pulses.every((p, k) => p === film.look(k + 1, at).p);
   by("judgehere").className = "verdict " + (agrees ? "good" : "bad");
   by("judgehere").textContent = !is.ok ? `✗ Up to here: ${is.said}` : `${agrees ? "✓" : "✗"} Up to here it accepts `
     + `${is.entries.toLocaleString("en")} entries; its nodes are ${agrees ? "at the pulses shown" : "elsewhere"}, and `
     + (is.wires === 1 ? "1 wire is on its way." : `${is.wires} wires are on their way.`);
 }
 // A stored or a new transcript of the network; null if a later call has ended this one.
-async function transcript() { return isReady() && !run.isPart || await load() ? run.found.text : null; }
+async function transcript() {
+  const isThere = ready() && run.found || await load();
+  return isThere && run.found ? run.found.text : null;
+}
 function lazyBox() {
   by("lazybox").hidden = !seen.node;
-  by("lazy").checked = seen.lazy.includes(seen.node);
+  by("lazy").checked = seen.lazy.some(v => v === seen.node);
   say("lazysaid", ` node ${seen.node} waits`);
 }
 tabs.run = {
@@ -206,7 +232,7 @@ tabs.run = {
   click(v, edge) {
     if (v) { seen.node = v === seen.node ? null : v; return show(); }
     if (!edge) return;
-    toggle("slow", edge);
+    toggleSlow(edge);
     by("made").value = "seed";
     ask();
   },
@@ -225,7 +251,8 @@ tabs.run = {
   },
   step(way) {
     if (run.film2) return time.set(way > 0 ? Math.floor(time.at + 1) : Math.ceil(time.at - 1));
-    const only = by("payloads").checked, {texts} = run.found.table;
+    if (!run.film) return;
+    const only = by("payloads").checked, {texts} = run.film.table;
     time.set(run.film.stepped(run.at, way, entry => (!only || / payload /.test(texts[entry[3]]))
       && (!seen.node || entry[1] === seen.node)));
   },
@@ -245,21 +272,26 @@ tabs.run = {
     by("seed2").value = other ? other.seed : "2";
   },
 };
-["made", "policy", "seed", "workers", "capacity"].forEach(id => { by(id).onchange = ask; });
+[by("made"), by("policy"), by("seed"), by("workers"), by("capacity")].forEach(field => { field.onchange = ask; });
 by("program").onchange = () => { seen.program = by("program").value; time.at = 0; tabs.run.enter(); };
 by("how").onsubmit = event => { event.preventDefault(); ask(); };
 by("again").onclick = () => {
-  if (by("made").value === "seed") by("seed").value = /^\d+$/.test(by("seed").value) ? +by("seed").value + 1 : 1;
+  const {value} = by("seed");
+  if (by("made").value === "seed") by("seed").value = /^\d+$/.test(value) ? String(+value + 1) : "1";
   ask();
 };
 by("forget").onclick = () => { Object.assign(run, {steps: [], transcript: null}); ask(); };
 by("payloads").onchange = show;
 by("beside").onchange = ask;
-["two", "policy2", "seed2"].forEach(id => {
-  by(id).onchange = () => {
+[by("two"), by("policy2"), by("seed2")].forEach(field => {
+  field.onchange = () => {
     run.other = by("two").checked ? {policy: by("policy2").value, seed: by("seed2").value} : null;
-    if (id === "two") time.at = 0;
+    if (field.id === "two") time.at = 0;
     ask();
   };
 });
-by("lazy").onchange = () => { toggle("lazy", seen.node); by("made").value = "seed"; ask(); };
+by("lazy").onchange = () => {
+  if (seen.node) toggleLazy(seen.node);
+  by("made").value = "seed";
+  ask();
+};

@@ -1,6 +1,6 @@
 // The tab Adversary: whoever looks is the network, and chooses which message is taken next and which node pulses.
-import {all, announce, asks, by, go, hooks, leftOutWords, programNamed, ruleBoxes, say, seen, show, showOptions, stage,
-  tabs, toggle} from "./base.js";
+import {all, announce, asks, by, go, hello, hooks, leftOutWords, programNamed, ruleBoxes, say, seen, show, showOptions,
+  stage, tabs, toggleLazy, toggleSlow} from "./base.js";
 import {html} from "./marks.js";
 import {net, text} from "./model.js";
 import {Question} from "./predict.js";
@@ -8,6 +8,7 @@ import {alphaMarks, heldEdge, lookWords, queueMarks, waitsWords} from "./run.js"
 import {nameOf} from "./stage.js";
 
 // `made` are the steps so far, as `3` (node 3 makes its next pulse) or `2-1` (node 2 takes the next wire from node 1).
+/** @type {Steps} */
 export const steps = {made: [], found: null, without: "", predicts: false, dare: ""};
 const question = new Question("question2", () => {
   if (!steps.predicts) return null;
@@ -18,25 +19,35 @@ const question = new Question("question2", () => {
 });
 const KEYED = 9;
 
+// How many calls are under way.
 let asking = 0;
+/** @param {object} more */
 async function ask(more = {}) {
   const {slow, lazy} = seen, {without, made, dare} = steps, program = programNamed();
-  asking += 1;
+  begun(1);
   await asks("steps", {network: text(), program, slow, lazy, without, dare, steps: made.join("_"), ...more},
     "playing these steps", found => { Object.assign(steps, {found, made: found.made}); show(); });
-  asking -= 1;
+  begun(-1);
 }
+/** @param {number} more */
+function begun(more) { asking += more; }
 // A step is made after the one before: a click that comes too early is none.
+/** @param {object} more */
 function goOn(more) { if (!asking) ask(more); }
+/** @param {string[]} made */
 function from(made) { goOn({steps: made.join("_")}); }
 // Whether a step is held: a pulse by its node, and a message by its link.
+/** @param {string} step */
 function isHeld(step) {
   const [v, w] = step.split("-").map(Number);
   if (!w) return seen.lazy.includes(v);
   return seen.slow.some(e => e.join("-") === [v, w].sort((a, b) => a - b).join("-"));
 }
-function isFree(step) { return steps.found.steps.includes(step) && !isHeld(step); }
+/** @param {string} step */
+function isFree(step) { return steps.found !== null && steps.found.steps.includes(step) && !isHeld(step); }
+/** @param {string} step */
 function make(step) { if (isFree(step)) from(steps.made.concat(step)); }
+/** @param {[number, number, string[]]} link */
 function queue([v, w, wires]) {
   return queueMarks(stage, v, w, wires, place => {
     const step = `${w}-${v}` + (place ? "-" + place : ""), free = isFree(step);
@@ -61,8 +72,9 @@ function showAt() {
   by("list").value = is.list.join("\n") + "\n";
   by("list").scrollTop = by("list").scrollHeight;
   by("undostep").disabled = by("anew").disabled = !steps.made.length;
-  ["chance", "chance20", "instep"].forEach(id => { by(id).disabled = is.over || !is.steps.some(isFree); });
+  [by("chance"), by("chance20"), by("instep")].forEach(one => { one.disabled = is.over || !is.steps.some(isFree); });
 }
+/** @param {StepsFound} is */
 function sayWhere(is) {
   const box = by("stepsaid"), {judge} = is, n = steps.made.length, done = is.looks.every(look => look.e);
   const lines = [html("b", n ? `${n}: ${is.said}.` : "Nothing has happened yet: choose what comes first.")];
@@ -71,19 +83,25 @@ function sayWhere(is) {
   else if (done) lines.push(html("p", `All have halted: ${is.looks.map(look => look.c).join(", ")}.`, {class: "good"}));
   else if (!is.steps.length) lines.push(html("p", "Nothing can happen, and not all are done.", {class: "bad"}));
   else if (!is.steps.some(isFree)) lines.push(html("p", "All that could happen is held.", {class: "soft"}));
-  if (judge) {
-    const agrees = judge.ok && judge.pulses.every((p, k) => p === is.looks[k].p);
-    const where = agrees ? "at these pulses" : "elsewhere";
-    const said = judge.ok ? `accepts these ${is.entries} entries, and its nodes are ${where}.` : judge.said;
-    lines.push(html("p", `${agrees ? "✓" : "✗"} ${judge.by} ${said}`, {class: agrees ? "good" : "bad"}));
-  }
+  if (judge) lines.push(judgement(judge, is));
   box.replaceChildren(...lines);
   announce(lines.map(line => line.textContent).join(" "));
 }
+/** @param {Replayed} judge @param {StepsFound} is */
+function judgement(judge, is) {
+  const agrees = judge.ok && judge.pulses.every((p, k) => p === is.looks[k].p);
+  const where = agrees ? "at these pulses" : "elsewhere";
+  const said = judge.ok ? `accepts these ${is.entries} entries, and its nodes are ${where}.` : judge.said;
+  return html("p", `${agrees ? "✓" : "✗"} ${judge.by} ${said}`, {class: agrees ? "good" : "bad"});
+}
 // What can happen now, node by node, as buttons; of a large network the chosen node's, or the first ones.
+/** @param {StepsFound} is */
 function listSteps(is) {
-  const place = by("possible"), on = document.activeElement, focus = place.contains(on) ? on.dataset.key : null;
-  const few = net.nodes.length <= 12, byNode = new Map();
+  const place = by("possible"), on = document.activeElement;
+  const focus = on instanceof HTMLElement && place.contains(on) ? on.dataset.key : null;
+  const few = net.nodes.length <= 12;
+  /** @type {Map<number, string[]>} */
+  const byNode = new Map();
   is.steps.forEach(step => { const v = parseInt(step, 10); byNode.set(v, (byNode.get(v) || []).concat(step)); });
   let keyed = 0;
   const rows = net.nodes.map((_, k) => k + 1).filter(v => few || (seen.node ? v === seen.node : byNode.has(v)));
@@ -91,7 +109,7 @@ function listSteps(is) {
     const line = html("div", null, {class: "possible"}), look = is.looks[v - 1], hold = html("button",
       seen.lazy.includes(v) ? "let go" : "hold its pulse", {class: "quiet", "data-key": "hold " + v,
         "aria-label": `hold the pulse of node ${v}`, "aria-pressed": seen.lazy.includes(v)});
-    hold.onclick = () => { toggle("lazy", v); show(); };
+    hold.onclick = () => { toggleLazy(v); show(); };
     line.append(html("b", `node ${v} `), html("span", `pulse ${look.p}${steps.predicts ? "" : ": " + waitsWords(look)} `,
       {class: "soft"}), hold);
     (byNode.get(v) || []).forEach(step => {
@@ -106,14 +124,17 @@ function listSteps(is) {
     return line;
   }));
   if (rows.length > 14) place.append(html("p", `and ${rows.length - 14} more nodes: click one`, {class: "soft"}));
-  const again = focus && (place.querySelector(`[data-key="${focus}"]`) || place.querySelector("[data-step]"));
-  if (again) again.focus();
+  if (focus) (all("#possible [data-key]").find(one => one.dataset.key === focus) || all("#possible [data-step]")[0]
+    || place).focus();
 }
+/** @param {StepsFound} is @param {string} step */
 function wireOf(is, step) {
   const [w, v, place] = step.split("-").map(Number), found = is.wires.find(one => one[0] === v && one[1] === w);
   return found ? found[2][place || 0] : "";
 }
+/** @param {StepsFound} is @param {string} step */
 function kindOf(is, step) { return step.includes("-") ? wireOf(is, step).split(" ")[0] : "pulse"; }
+/** @param {StepsFound} is @param {string} step */
 function saidOf(is, step) {
   const [v, w, place] = step.split("-").map(Number);
   if (!w) return `make pulse ${is.looks[v - 1].p + 1}`;
@@ -126,19 +147,19 @@ tabs.adversary = {
     if (step) return make(step);
     if (v && steps.found && isFree(String(v))) return make(String(v));
     if (v) { seen.node = v === seen.node ? null : v; return show(); }
-    if (edge) { toggle("slow", edge); show(); }
+    if (edge) { toggleSlow(edge); show(); }
   },
   key(event, on) {
     if (on) return false;
-    const tools = {u: "undostep", Backspace: "undostep", r: "chance", s: "instep"};
+    /** @type {Record<string, HTMLElement | undefined>} */
+    const tools = {u: by("undostep"), Backspace: by("undostep"), r: by("chance"), s: by("instep")};
     const made = all("#possible [data-step]:not(:disabled)");
-    if (/^[1-9]$/.test(event.key) && made[event.key - 1]) made[event.key - 1].click();
-    else if (tools[event.key]) by(tools[event.key]).click();
-    else return false;
-    return true;
+    const chosen = /^[1-9]$/.test(event.key) ? made[+event.key - 1] : tools[event.key];
+    if (chosen) chosen.click();
+    return Boolean(chosen);
   },
   enter(more = {}) {
-    const {orders} = seen.hello.rules;
+    const {orders} = hello().rules;
     by("program3").value = seen.program;
     showOptions();
     ruleBoxes("without", orders, steps.without, leaveOut);
@@ -146,8 +167,8 @@ tabs.adversary = {
     by("dare").value = steps.dare;
     by("handover").disabled = Boolean(steps.without);
     steps.found = null;
-    ["undostep", "chance", "chance20", "instep"].forEach(id => { by(id).disabled = true; });
-    ["stepsaid", "possible"].forEach(id => by(id).replaceChildren());
+    [by("undostep"), by("chance"), by("chance20"), by("instep")].forEach(one => { one.disabled = true; });
+    [by("stepsaid"), by("possible")].forEach(one => one.replaceChildren());
     if (more.fresh) steps.made = [];
     ask();
   },
@@ -160,6 +181,7 @@ tabs.adversary = {
     by("predicts2").checked = predict;
   },
 };
+/** @param {string} left */
 function leaveOut(left) {
   steps.without = left;
   tabs.adversary.enter({fresh: true});

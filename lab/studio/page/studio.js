@@ -1,21 +1,24 @@
 // The studio: its tabs, the mouse on the stage, keys, and the address, which says all that is seen.
 import {call, cancel, hello as greeted, token} from "./api.js";
 import {codeOf, written} from "./address.js";
-import {all, asks, by, endsOf, hooks, option, say, seen, show, stage, tabs, time, tried, watchOptions, wrong,
-  zoomPicture} from "./base.js";
+import {all, asks, by, endsOf, hello, hooks, inputs, option, say, seen, show, stage, tabs, time, tried, watchOptions,
+  wrong, zoomPicture} from "./base.js";
 import {askPlan, drawn, inspect, makeForm, openFile, save} from "./draw.js";
 import {check} from "./check.js";
 import {rounds} from "./rounds_tab.js";
 import {run} from "./run_tab.js";
 import {steps} from "./steps_tab.js";
-import {blank, html} from "./marks.js";
+import {blank, html, targetOf} from "./marks.js";
 import * as model from "./model.js";
 import {textOf} from "./text.js";
 import {change, net, text} from "./model.js";
 import {watchBuild} from "./proved.js";
 
+/** @type {TabName[]} */
+const TABS = ["draw", "rounds", "run", "adversary", "check", "pictures"];
 const TIMED = ["rounds", "run"];
 // Where each of them was left.
+/** @type {{[Name in TabName]?: number}} */
 const left = {};
 // Whether the text is older than the places of the nodes; and whether the network has just taken a drawing's place.
 let isMoved = false, isReplaced = false;
@@ -25,11 +28,11 @@ hooks.show = () => {
   const tab = tabs[seen.tab], isThere = !net.nodes.length && seen.tab !== "draw" || tab.show() !== false;
   // Nothing is known of this network yet, and nothing of another one is left.
   if (!isThere) { stage.draw({node: (v, x, y, r) => blank(x, y, r)}); say("when", ""); }
-  ["back", "play", "next", "change", "slider"].forEach(id => { by(id).disabled = !isThere; });
+  [by("back"), by("play"), by("next"), by("change"), by("slider")].forEach(one => { one.disabled = !isThere; });
   by("empty").hidden = net.nodes.length > 0;
   say("hint", isReplaced ? "Undo (Ctrl-Z, or in Draw) brings your drawing back." : tab.hint());
   say("name", [net.name, seen.program].filter(one => one && one !== "colouring").map(one => "· " + one).join(" "));
-  by("slider").setAttribute("aria-valuetext", by("when").textContent);
+  by("slider").setAttribute("aria-valuetext", by("when").textContent || "");
   hooks.link();
 };
 hooks.go = (name, more = {}) => {
@@ -53,7 +56,7 @@ function enter(more = {}) {
   // What another tab has asked for isn't wanted any more.
   CALLS.forEach(cancel);
   all("nav button").forEach(one => {
-    one.setAttribute("aria-selected", one.dataset.tab === name);
+    one.setAttribute("aria-selected", String(one.dataset.tab === name));
     one.tabIndex = one.dataset.tab === name ? 0 : -1;
   });
   all("[data-panel]").forEach(one => { one.hidden = one.dataset.panel !== name; });
@@ -64,20 +67,33 @@ function enter(more = {}) {
   by("picture").replaceChildren();
   wrong("");
   if (name !== "draw" && !net.nodes.length) { tabs.draw.show(); wrong("Draw a network first."); return hooks.link(); }
-  Object.keys(tabs).forEach(other => { if (other !== name && tabs[other].leave) tabs[other].leave(); });
+  TABS.forEach(other => {
+    const {leave} = tabs[other];
+    if (other !== name && leave) leave();
+  });
   stage.fit();
   tabs[name].enter(more);
   hooks.show();
 }
 // A node that goes or comes back gives those after it other numbers: what is held, and the typed plan, go along.
+/** @param {Renumbering} numbers */
 function renumber({removed, restored}) {
-  if (!removed && !restored) return;
-  const now = v => removed ? (v === removed ? 0 : v - (v > removed)) : v + (v >= restored);
-  seen.slow = seen.slow.map(e => e.map(now)).filter(e => e.every(Boolean));
+  const from = removed || restored;
+  if (!from) return;
+  /** @param {number} v */
+  const now = v => removed ? (v === from ? 0 : v > from ? v - 1 : v) : v >= from ? v + 1 : v;
+  seen.slow = seen.slow.map(([v, w]) => /** @type {Edge} */ ([now(v), now(w)])).filter(e => e.every(Boolean));
   seen.lazy = seen.lazy.map(now).filter(Boolean);
   seen.node = seen.node && now(seen.node) || null;
-  if (removed) check.plan.splice(removed - 1, 1);
-  else check.plan.splice(restored - 1, 0, 0);
+  if (removed) check.plan.splice(from - 1, 1);
+  else check.plan.splice(from - 1, 0, 0);
+}
+// What isn't in the network any more isn't chosen, and doesn't wait.
+function leaveWhatIsGone() {
+  if (seen.node && seen.node > net.nodes.length) seen.node = null;
+  seen.edge = null;
+  seen.slow = seen.slow.filter(e => model.hasEdge(e[0], e[1]));
+  seen.lazy = seen.lazy.filter(v => v <= net.nodes.length);
 }
 model.onChange((what, numbers) => {
   renumber(numbers);
@@ -87,10 +103,7 @@ model.onChange((what, numbers) => {
   by("text").value = text();
   isReplaced = what === "load" && model.replaced;
   if (drawn.plan && (what !== "edit" || drawn.plan.plan.length > net.nodes.length)) drawn.plan = null;
-  if (seen.node > net.nodes.length) seen.node = null;
-  seen.edge = null;
-  seen.slow = seen.slow.filter(e => model.hasEdge(e[0], e[1]));
-  seen.lazy = seen.lazy.filter(v => v <= net.nodes.length);
+  leaveWhatIsGone();
   check.verdict = null;
   by("judgement").replaceChildren();
   steps.made = run.steps = [];
@@ -111,56 +124,75 @@ model.onChange((what, numbers) => {
 });
 
 // The mouse, a finger or a pen: a click, a drag of a node, a drag of the ground, two fingers.
-const svg = stage.svg, fingers = new Map();
-let drag = null, apart = null;
+/** @type {SVGSVGElement} */
+const svg = stage.svg;
+/** @type {Map<number, PointerEvent>} */
+const fingers = new Map();
+/** @type {Drag | null} */
+let drag = null;
+// How far two fingers are apart, and where their middle is.
+/** @type {[number, number, number] | null} */
+let apart = null;
+/** @returns {[number, number, number]} */
 function spread() {
   const [a, b] = Array.from(fingers.values()), wide = a.clientX - b.clientX, high = a.clientY - b.clientY;
   return [Math.hypot(wide, high), b.clientX + wide / 2, b.clientY + high / 2];
 }
 // The message under the pointer; a finger may miss it by a few pixels, so that each is 36 wide for it.
+/** @param {PointerEvent} event */
 function stepAt(event) {
-  const on = event.target.closest("[data-step]");
-  if (on || event.pointerType !== "touch") return on;
+  const on = targetOf(event).closest("[data-step]");
+  if (on || event.pointerType !== "touch") return stepOf(on);
+  /** @param {DOMRect} box */
   const off = ({left, right, top, bottom}) => Math.max(left - event.clientX, event.clientX - right, 0)
     + Math.max(top - event.clientY, event.clientY - bottom, 0);
-  const near = Array.from(svg.querySelectorAll("[data-step]"), one => [off(one.getBoundingClientRect()), one]);
-  const [far, found] = near.reduce((best, one) => one[0] < best[0] ? one : best, [11, null]);
-  return far < 11 ? found : null;
+  const steps = Array.from(svg.querySelectorAll("[data-step]"));
+  const far = steps.map(one => off(one.getBoundingClientRect())), least = Math.min(...far);
+  return least < 11 ? stepOf(steps[far.indexOf(least)]) : null;
 }
+/** @param {Element | null} message */
+function stepOf(message) { return message && message.getAttribute("data-step"); }
 svg.onmousedown = event => event.preventDefault();
 svg.onpointerdown = event => {
   if (event.button) return;
-  if (document.activeElement) document.activeElement.blur();
+  const on = document.activeElement;
+  if (on instanceof HTMLElement || on instanceof SVGElement) on.blur();
   fingers.set(event.pointerId, event);
   svg.setPointerCapture(event.pointerId);
   if (fingers.size > 1) { drag = null; apart = spread(); return; }
-  const v = stage.nodeAt(event, event.pointerType === "touch" ? 14 : 6), token = stepAt(event);
-  drag = {v, step: token && token.dataset.step, x: event.clientX, y: event.clientY, moved: false,
-    key: "drag " + Date.now()};
+  const v = stage.nodeAt(event, event.pointerType === "touch" ? 14 : 6);
+  drag = {v, step: stepAt(event), x: event.clientX, y: event.clientY, moved: null, key: "drag " + Date.now()};
 };
 svg.onpointermove = event => {
   if (fingers.has(event.pointerId)) fingers.set(event.pointerId, event);
-  if (fingers.size > 1 && apart) {
-    const now = spread(), box = svg.getBoundingClientRect();
-    stage.zoom(now[0] / (apart[0] || 1), now[1] - box.left, now[2] - box.top);
-    stage.pan(now[1] - apart[1], now[2] - apart[2]);
-    apart = now;
-    return show();
-  }
-  if (!drag || !drag.moved && Math.hypot(event.clientX - drag.x, event.clientY - drag.y) < 5) return;
-  if (drag.v && seen.tab === "draw") {
-    const {v, key} = drag;
+  if (fingers.size > 1 && apart) pinch(apart);
+  else if (drag && (drag.moved || Math.hypot(event.clientX - drag.x, event.clientY - drag.y) >= 5)) pull(drag, event);
+};
+// Two fingers: what is between them grows and goes along.
+/** @param {[number, number, number]} before */
+function pinch(before) {
+  const now = spread(), box = svg.getBoundingClientRect();
+  stage.zoom(now[0] / (before[0] || 1), now[1] - box.left, now[2] - box.top);
+  stage.pan(now[1] - before[1], now[2] - before[2]);
+  apart = now;
+  show();
+}
+// A drag: of a node in the tab Draw, or of the ground.
+/** @param {Drag} drag @param {PointerEvent} event */
+function pull(drag, event) {
+  const {v, key} = drag;
+  if (v && seen.tab === "draw") {
     // What is drawn for any other reason in the meantime is drawn whole.
     stage.dragged = v;
-    change(n => Object.assign(n.nodes[v - 1], stage.placeOf(event)), key, "move");
+    change(n => { Object.assign(n.nodes[v - 1], stage.placeOf(event)); }, key, "move");
     stage.dragged = 0;
-  } else if (!drag.v && net.nodes.length) {
+  } else if (!v && net.nodes.length) {
     const from = drag.moved || drag;
     stage.pan(event.clientX - from.x, event.clientY - from.y);
     show();
   }
   drag.moved = {x: event.clientX, y: event.clientY};
-};
+}
 svg.onpointerup = event => {
   const was = drag;
   drag = null;
@@ -178,6 +210,7 @@ svg.onwheel = event => {
   show();
 };
 // What is on the stage: the network, or a picture.
+/** @param {number} by_ */
 function zoom(by_) {
   if (!by("picture").hidden) return zoomPicture(by_);
   if (by_) stage.zoom(by_); else stage.fit();
@@ -189,7 +222,7 @@ by("zoomfit").onclick = () => zoom(0);
 new ResizeObserver(() => { if (!drag && seen.hello && !stage.isZoomed) zoom(0); }).observe(by("stage"));
 
 // The address. It is written a moment after the last change: browsers refuse many changes in a row.
-let linked = "", isFollowing = false, follows = 0, linking = null;
+let linked = "", isFollowing = false, follows = 0, linking = 0;
 hooks.link = () => { clearTimeout(linking); linking = setTimeout(link, 150); };
 function link() {
   clearTimeout(linking);
@@ -197,12 +230,13 @@ function link() {
   if (!seen.hello || isFollowing || time.timer || drag && drag.moved || location.hash !== linked) return;
   // The first screen is seen again when the page is.
   if (!by("welcome").hidden) return;
-  history.replaceState(null, "", "#" + written(stateSeen(), seen.hello.address));
+  history.replaceState(null, "", "#" + written(stateSeen(), hello().address));
   linked = location.hash;
   if (isMoved) by("text").value = text();
   isMoved = false;
 }
 // What the address says of all that is seen.
+/** @returns {State} */
 function stateSeen() {
   const {example} = net, {tab, program, passes, root, slow, lazy, lesson} = seen;
   const waits = tab === "run" || tab === "adversary" ? {slow, lazy} : {};
@@ -222,7 +256,9 @@ async function follow(place = location.hash) {
   time.stop();
   linked = location.hash;
   isFollowing = true;
-  let given = {}, unread = "";
+  /** @type {Values} */
+  let given = {};
+  let unread = "";
   const isRead = await tried("address", "opening", async () => {
     const got = await call("address", {place: place.slice(1), nodes: net.nodes.length, edges: net.edges});
     // Another address has been followed since.
@@ -235,17 +271,18 @@ async function follow(place = location.hash) {
   isFollowing = false;
   const why = by("wrong").textContent;
   enter({play: given.play});
-  if (!isRead) wrong(why);
+  if (!isRead) wrong(why || "");
   else if (unread) wrong(`This can’t be read in the address, and is left out: ${unread}.`);
 }
 // Shows what an address says: each value is of its kind, or isn't there.
+/** @param {FoundAddress} found @param {Values} given */
 function showPlaceOf({network}, given) {
   const {example = "", net: code, tab = "draw", program = "colouring", passes = 1, root = null, lesson = null, slow = [],
     lazy = [], node = null, at = 0} = given;
   const isHere = example ? example === net.example : code === undefined ? net.nodes.length > 0 : code === codeOf(net);
-  const found = isHere ? null : network || seen.hello.opened;
+  const found = isHere ? null : network || hello().opened;
   seen.lesson = lesson;
-  showLesson(seen.hello.lessons.find(one => one.number === lesson));
+  showLesson(hello().lessons.find(one => one.number === lesson));
   seen.tab = "draw";
   if (found) model.load(found, example);
   Object.assign(seen, {program, passes, root, slow, lazy, node});
@@ -253,6 +290,7 @@ function showPlaceOf({network}, given) {
   time.at = at;
   seen.tab = tab;
 }
+/** @param {Lesson | undefined} lesson */
 function showLesson(lesson) {
   const box = by("lesson");
   box.hidden = !lesson;
@@ -270,6 +308,7 @@ function showLesson(lesson) {
   box.replaceChildren(close, card);
 }
 // A text that is made when it is opened.
+/** @param {string} title @param {string} words */
 function folded(title, words) {
   const place = html("details");
   place.append(html("summary", title));
@@ -277,6 +316,7 @@ function folded(title, words) {
   return place;
 }
 // A place of the lecture, with what is to be said there.
+/** @param {Place} place */
 function showPlace(place) {
   const box = by("lesson"), close = html("button", "close", {class: "quiet"});
   close.onclick = () => { box.hidden = true; };
@@ -285,11 +325,13 @@ function showPlace(place) {
 }
 by("copy").onclick = async () => {
   link();
+  /** @param {string} words */
   const said = words => { by("copy").textContent = words; };
   try { await navigator.clipboard.writeText(location.href); said("copied"); } catch { said("see the address"); }
   setTimeout(() => said("link"), 2000);
 };
 // A menu has its title again once something is chosen. An arrow on a closed one opens it: it would choose at once.
+/** @param {"examples" | "lessons" | "save" | "lecture"} id @param {(value: string) => unknown} choose */
 function menu(id, choose) {
   const list = by(id);
   list.onchange = () => { const {value} = list; list.value = ""; if (value) choose(value); };
@@ -301,43 +343,72 @@ menu("examples", name => asks("example", {name}, "opening", found => model.load(
 menu("lessons", number => { location.hash = "lesson=" + number; });
 menu("save", what => net.nodes.length ? save(what) : wrong("Draw a network first."));
 menu("lecture", async number => {
-  const place = seen.hello.lecture[number];
+  const place = hello().lecture[+number];
   history.pushState(null, "", "#" + place.open);
   await follow();
   showPlace(place);
 });
-by("skip").onclick = () => { const first = stage.svg.querySelector("[data-node]"); if (first) first.focus(); };
-all("nav button").forEach(one => { one.onclick = () => hooks.go(one.dataset.tab); });
+by("skip").onclick = () => all("#net [data-node]").slice(0, 1).forEach(one => one.focus());
+all("nav button").forEach(one => { one.onclick = () => hooks.go(tabNamed(one.dataset.tab)); });
+// The tab of a name, which the page has.
+/** @param {string | undefined} name @returns {TabName} */
+function tabNamed(name) { return TABS.find(tab => tab === name) || "draw"; }
 
 document.onkeydown = event => {
-  const on = event.target.tagName, mod = event.ctrlKey || event.metaKey, key = event.key;
-  if (["INPUT", "TEXTAREA", "SELECT"].includes(on) && event.target.type !== "range") return;
-  const {node: v, edge} = event.target.dataset || {}, node = on === "g" && v ? +v : null;
-  if (mod && key.toLowerCase() === "z") { if (event.shiftKey) model.redo(); else model.undo(); }
-  else if (mod && key.toLowerCase() === "y") model.redo();
-  else if (mod || event.altKey) return;
-  else if ((node || edge) && (key === "Enter" || key === " ")) {
-    tabs[seen.tab].click(node, edge ? endsOf(edge) : null, event);
-  }
-  else if (event.target.role === "tab" && /^Arrow(Left|Right)$/.test(key)) nextTab(event.target, key);
-  else if (key === "c" && seen.tab === "rounds") by("change").click();
-  else if (key === "+" || key === "=") by("zoomin").click();
-  else if (key === "-") by("zoomout").click();
-  else if (TIMED.includes(seen.tab) && time.key(event)) return;
-  else if (!tabs[seen.tab].key || !tabs[seen.tab].key(event, node)) return;
-  event.preventDefault();
+  const on = targetOf(event);
+  if (["INPUT", "TEXTAREA", "SELECT"].includes(on.tagName) && on !== by("slider")) return;
+  const isUsed = event.ctrlKey || event.metaKey ? undoes(event) : !event.altKey && uses(event, on);
+  if (isUsed) event.preventDefault();
 };
+// Whether a key with Ctrl is one of those that undo a change or make it again.
+/** @param {KeyboardEvent} event */
+function undoes(event) {
+  const key = event.key.toLowerCase();
+  if (key === "y" || key === "z" && event.shiftKey) model.redo();
+  else if (key === "z") model.undo();
+  else return false;
+  return true;
+}
+// Whether a key that is pressed on an element of the page is one of the page's.
+/** @param {KeyboardEvent} event @param {HTMLElement} on */
+function uses(event, on) {
+  const {key} = event, {node: v, edge} = on.dataset || {}, node = on.tagName === "g" && v ? +v : null;
+  if ((node || edge) && (key === "Enter" || key === " ")) {
+    tabs[seen.tab].click(node, edge ? endsOf(edge) : null, event);
+  } else if (on.getAttribute("role") === "tab" && /^Arrow(Left|Right)$/.test(key)) nextTab(on, key);
+  else return pressed(key) || usedByTab(event, node);
+  return true;
+}
+// Whether a key presses a button of the page.
+/** @param {string} key */
+function pressed(key) {
+  /** @type {Record<string, HTMLElement | undefined>} */
+  const buttons = {"+": by("zoomin"), "=": by("zoomin"), "-": by("zoomout")};
+  const button = key === "c" && seen.tab === "rounds" ? by("change") : buttons[key];
+  if (button) button.click();
+  return Boolean(button);
+}
+// Whether the tab that is seen uses a key; the slider says of its own ones itself that they are used.
+/** @param {KeyboardEvent} event @param {number | null} node */
+function usedByTab(event, node) {
+  const {key} = tabs[seen.tab];
+  if (TIMED.includes(seen.tab) && time.key(event)) return false;
+  return key !== undefined && key(event, node);
+}
 // The arrows lead from tab to tab, and from the last one to the first.
+/** @param {HTMLElement} from @param {string} key */
 function nextTab(from, key) {
   const list = all("nav button"), next = list.indexOf(from) + (key === "ArrowRight" ? 1 : -1);
   const to = list[(next + list.length) % list.length];
   to.click();
   to.focus();
 }
+/** @param {DragEvent} event */
 function drop(event) {
   event.preventDefault();
   document.body.classList.toggle("drop", event.type === "dragover");
-  if (event.type === "drop" && event.dataTransfer.files[0]) openFile(event.dataTransfer.files[0]);
+  const [file] = event.type === "drop" && event.dataTransfer ? event.dataTransfer.files : [];
+  if (file) openFile(file);
 }
 document.ondragover = document.ondragleave = document.ondrop = drop;
 window.onhashchange = () => follow();
@@ -345,29 +416,33 @@ window.onhashchange = () => follow();
 // What there is to choose from; asked again when the programs are built.
 async function greet() {
   seen.hello = await greeted();
-  const threads = by("made").querySelector("[value=threads]");
-  threads.disabled = !seen.hello.proved;
-  threads.textContent = seen.hello.proved ? "by real threads" : "by real threads (not built)";
+  const threads = Array.from(by("made").options).filter(one => one.value === "threads");
+  threads.forEach(one => {
+    one.disabled = !hello().proved;
+    one.textContent = hello().proved ? "by real threads" : "by real threads (not built)";
+  });
 }
 async function begin() {
   if (!token) return wrong("This page has no token: open the address that the command studio has printed.");
   stage.fit();
   if (!await tried("hello", "beginning", greet)) return;
-  const {hello} = seen;
+  const {examples, lessons, dares, lecture, passes, programs, policies, opened} = hello();
   all("nav, .tools").forEach(one => { one.hidden = false; });
-  hello.examples.forEach(name => option(by("examples"), name));
-  hello.lessons.forEach(one => option(by("lessons"), one.number, `${one.number}. ${one.title}`));
-  Object.entries(hello.dares).forEach(([name, says]) => option(by("dare"), name, says));
-  hello.lecture.forEach((one, k) => option(by("lecture"), k, `${one.minutes}: ${one.title}`));
-  all(".passes").forEach(one => { one.max = hello.passes; });
-  ["program", "program2", "program3", "program4"].forEach(id => hello.programs.forEach(name => option(by(id), name)));
-  ["policy", "policy2"].forEach(id => Object.keys(hello.policies).forEach(name => {
-    option(by(id), name, name, hello.policies[name]);
-  }));
+  examples.forEach(name => option(by("examples"), name));
+  lessons.forEach(one => option(by("lessons"), one.number, `${one.number}. ${one.title}`));
+  Object.entries(dares).forEach(([name, says]) => option(by("dare"), name, says));
+  lecture.forEach((one, k) => option(by("lecture"), k, `${one.minutes}: ${one.title}`));
+  inputs(".passes").forEach(one => { one.max = String(passes); });
+  [by("program"), by("program2"), by("program3"), by("program4")].forEach(list => {
+    programs.forEach(name => option(list, name));
+  });
+  [by("policy"), by("policy2")].forEach(list => {
+    Object.entries(policies).forEach(([name, says]) => option(list, name, name, says));
+  });
   makeForm();
   watchOptions(() => { tabs[seen.tab].enter({fresh: true}); hooks.link(); });
   watchBuild(async () => { await greet(); run.key = rounds.of = null; enter(); askPlan(); });
-  await (location.hash || hello.opened ? follow() : welcome());
+  await (location.hash || opened ? follow() : welcome());
 }
 window.studio = {net, seen, time, drawn, run, rounds, check, steps, stage,
   isFollowing: () => isFollowing || location.hash !== linked};

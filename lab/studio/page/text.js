@@ -5,11 +5,14 @@ const INLINE = /`([^`]+)`|\*\*([^*]+)\*\*|\*([^*\s][^*]*)\*|!\[([^\]]*)\]\(([^)]
 const ITEM = /^(- |\d+\. )/, STUDIO = "http://127.0.0.1:8321/";
 
 // A link to a place of the studio leads there; one to another page has its words alone.
+/** @param {string} words @param {string} to */
 function link(words, to) {
-  const lesson = /^#(\d)-/.exec(to), place = lesson ? "#lesson=" + lesson[1] : to.startsWith(STUDIO + "#")
+  const lesson = /^#(\d)-/.exec(to);
+  const place = lesson ? "#lesson=" + lesson[1] : to.startsWith(STUDIO + "#")
     ? to.slice(STUDIO.length) : null;
   return place ? html("a", words, {href: place}) : words;
 }
+/** @param {RegExpMatchArray} found */
 function shown([whole, code, bold, italic, said, picture, words, to]) {
   if (code) return html("code", code);
   if (bold) return html("b", bold);
@@ -17,17 +20,21 @@ function shown([whole, code, bold, italic, said, picture, words, to]) {
   if (picture) return html("img", null, {alt: said, src: picture.replace(/^\.\.\//, "/")});
   return words ? link(words, to) : whole;
 }
+/** @param {"p" | "td" | "th"} name @param {string} said */
 function inline(name, said) {
   const place = html(name);
   let at = 0;
   for (const found of said.matchAll(INLINE)) {
-    place.append(said.slice(at, found.index), shown(found));
-    at = found.index + found[0].length;
+    const from = found.index || 0;
+    place.append(said.slice(at, from), shown(found));
+    at = from + found[0].length;
   }
   place.append(said.slice(at));
   return place;
 }
+/** @param {string[]} lines */
 function table(lines) {
+  /** @type {(line: string) => string[]} */
   const cells = line => line.split("|").slice(1, -1).map(cell => cell.trim()), place = html("table");
   lines.filter(line => !/^[|\- ]+$/.test(line)).forEach((line, k) => {
     const row = html("tr");
@@ -37,29 +44,37 @@ function table(lines) {
   return place;
 }
 // The lines of one block, taken from the front of `lines`: while `isOne` is true, or a line is empty and one follows.
+/** @param {string[]} lines @param {(line: string) => boolean} isOne */
 function taken(lines, isOne) {
   const block = [];
-  while (lines.length && (isOne(lines[0]) || !lines[0].trim() && lines.slice(1).find(line => line.trim())
-    && isOne(lines.slice(1).find(line => line.trim())))) block.push(lines.shift());
+  while (lines.length && goesOn(lines, isOne)) block.push(...lines.splice(0, 1));
   return block;
 }
+/** @param {string[]} lines @param {(line: string) => boolean} isOne */
+function goesOn(lines, isOne) {
+  const next = lines.find(line => line.trim());
+  return isOne(lines[0]) || !lines[0].trim() && next !== undefined && isOne(next);
+}
+/** @param {string[]} lines @returns {HTMLElement} */
 function blockOf(lines) {
   const [line] = lines;
-  if (line.startsWith("#")) return html("h3", lines.shift().replace(/^#+ /, ""));
+  if (line.startsWith("#")) return html("h3", lines.splice(0, 1)[0].replace(/^#+ /, ""));
   if (line.startsWith("    ")) {
     return html("pre", taken(lines, one => one.startsWith("    ")).map(one => one.slice(4)).join("\n"));
   }
   if (line.startsWith("|")) return table(taken(lines, one => one.startsWith("|")));
   if (!ITEM.test(line)) {
-    const words = [lines.shift()];
-    while (lines.length && lines[0].trim() && !ITEM.test(lines[0])) words.push(lines.shift());
-    return inline("p", words.join(" "));
+    const ends = lines.findIndex((one, k) => k > 0 && (!one.trim() || ITEM.test(one)));
+    return inline("p", lines.splice(0, ends < 0 ? lines.length : ends).join(" "));
   }
-  const first = lines.shift(), inside = taken(lines, one => /^ {2}/.test(one)), item = html("li");
-  const depth = ITEM.exec(first)[1].length, strip = one => one.slice(Math.min(depth, one.search(/\S|$/)));
-  item.append(...textOf([first.slice(depth), ...inside.map(strip)].join("\n")));
+  lines.shift();
+  const inside = taken(lines, one => /^ {2}/.test(one)), item = html("li"), [mark] = ITEM.exec(line) || [""];
+  /** @param {string} one */
+  const strip = one => one.slice(Math.min(mark.length, one.search(/\S|$/)));
+  item.append(...textOf([line.slice(mark.length), ...inside.map(strip)].join("\n")));
   return item;
 }
+/** @param {string} words */
 export function textOf(words) {
   const lines = words.split("\n"), blocks = [];
   while (lines.length) if (lines[0].trim()) blocks.push(blockOf(lines)); else lines.shift();
