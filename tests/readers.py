@@ -10,7 +10,6 @@ import sys
 import unittest.mock
 from collections.abc import Callable, Iterator
 from dataclasses import dataclass
-from typing import Any
 
 from lab.definitions.own_program import code_of
 from lab.networks import channels, network
@@ -200,10 +199,13 @@ OF_XML = (
     b"<node <edge <graph <data <key id='a' source='a' target='b' /> > </node> </graph> <!-- --> &lt; &a;"
     b" <![CDATA[ ]]>"
 )
-XML_SHAPES: dict[str, Any] = {
-    "comment": (b"<graphml>", b"<!-- x -->"),
-    "nested": (b"<graphml>", b"<a>"),
-}
+
+
+def read_as_xml(form: str, data: bytes) -> Reader:
+    shapes = (b"<graphml>", b"<!-- x -->"), (b"<graphml>", b"<a>")
+    return read_as(form, (data,), OF_XML, comment=shapes[0], nested=shapes[1])
+
+
 READERS = (
     Reader(
         "network",
@@ -217,8 +219,8 @@ READERS = (
     read_as("pairs", (PAIRS, b'from;to\n"a";b\n'), b"source target from to , ; a b"),
     read_as("edges", (b"# x\na b\nb c\n", b"a b {'w': 1}\nb c {}\n"), b"# a b { } 1.5 1e5 : ,"),
     read_as("adjacency", (b"#x\na b c\nb\nc\n", b"a: b\nb:\n"), b"# a b : ,"),
-    read_as("graphml", (GRAPHML,), OF_XML, **XML_SHAPES),
-    read_as("gexf", (GEXF,), OF_XML, **XML_SHAPES),
+    read_as_xml("graphml", GRAPHML),
+    read_as_xml("gexf", GEXF),
     read_as(
         "gml",
         (GML,),

@@ -292,24 +292,25 @@ def cut(words: str) -> str:
     return words if len(words) <= LONGEST_INBOX else f"{words[:LONGEST_INBOX]}.."
 
 
-def no_payload(slot: Any) -> str:
+def no_payload(slot: object) -> str:
     """Why something is no payload, or nothing."""
-    is_pair = isinstance(slot, tuple) and len(slot) == 2
-    if not is_pair or not is_word(slot[0]) or slot[1] is None or not is_below(slot[1], None):
+    pair = slot if isinstance(slot, tuple) and len(slot) == 2 else (None, None)
+    if not is_word(pair[0]) or pair[1] is None or not is_below(pair[1], None):
         return "a payload is a pair, a word of small letters and a number from 0"
-    return "" if slot[1] < 2**128 else "its number has to be below 2^128"
+    return "" if pair[1] < 2**128 else "its number has to be below 2^128"
 
 
-def is_word(word: Any) -> bool:
+def is_word(word: object) -> bool:
     return isinstance(word, str) and word.isascii() and word.isalpha() and word.islower()
 
 
-def is_below(number: Any, bound: int | None) -> bool:
+def is_below(number: object, bound: int | None) -> bool:
     """Whether something is a number from 0, below the bound if there is one, or None."""
     if number is None:
         return True
-    is_number = isinstance(number, int) and not isinstance(number, bool)
-    return is_number and number >= 0 and (bound is None or number < bound)
+    if not isinstance(number, int) or isinstance(number, bool):
+        return False
+    return number >= 0 and (bound is None or number < bound)
 
 
 # What a file has to keep to, and what has to hold.

@@ -3,28 +3,32 @@ keeps its name, or is named by its old number, and keeps its barred channels and
 import random
 from collections.abc import Mapping, Sequence
 from dataclasses import replace
-from typing import Any
+from typing import TypeVar
 
 from lab.network import Network
 from lab.networks.near import LARGE, near_order
 from lab.networks.network_text import checked
 from lab.networks.random_networks import shuffled
 
+Value = TypeVar("Value")
+
 
 def in_order(network: Network, order: Sequence[int], said: Mapping[int, int]) -> Network:
     """The network of the vertices of `order` alone, in this order. `said` has their identifiers."""
     number = {old: new for new, old in enumerate(order, 1)}
-    kept: tuple[Mapping[int, Any], ...] = (said, network.bars, network.places)
-    said, bars, places = ({number[v]: what for v, what in of.items() if v in number} for of in kept)
+
+    def kept(of: Mapping[int, Value]) -> dict[int, Value]:
+        return {number[v]: what for v, what in of.items() if v in number}
+
     left = [edge for edge in network.edges if number.keys() >= {*edge}]
     return replace(
         network,
         nodes=len(order),
         edges=[(number[v], number[w]) for v, w in left],
-        said=said,
-        bars=bars,
+        said=kept(said),
+        bars=kept(network.bars),
         names={new: network.names.get(old, str(old)) for old, new in number.items()},
-        places=places,
+        places=kept(network.places),
     )
 
 

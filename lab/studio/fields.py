@@ -12,7 +12,7 @@ from lab.networks.fields import shown
 from lab.wrong import Wrong
 
 # The value of a field, or what it has to be, as `Wrong` says it.
-Parse = Callable[[Any], Any]
+Parse = Callable[[object], Any]
 # A number of a call is no larger: no node, pulse or seed is.
 MOST_NUMBER = 10**9
 
@@ -26,7 +26,7 @@ class Field:
     default: Any = None
 
 
-def text(value: Any) -> str:
+def text(value: object) -> str:
     if not isinstance(value, str):
         raise Wrong("a text is asked for")
     if not value.isascii() and re.search("[\ud800-\udfff]", value):
@@ -34,7 +34,7 @@ def text(value: Any) -> str:
     return value
 
 
-def number(value: Any) -> int:
+def number(value: object) -> int:
     if isinstance(value, bool) or not isinstance(value, int):
         raise Wrong("a whole number is asked for")
     if abs(value) > MOST_NUMBER:
@@ -42,18 +42,18 @@ def number(value: Any) -> int:
     return value
 
 
-def truth(value: Any) -> bool:
+def truth(value: object) -> bool:
     if not isinstance(value, bool):
         raise Wrong("true or false is asked for")
     return value
 
 
-def word(value: Any) -> str:
+def word(value: object) -> str:
     """A text or a number, as the field of a form has it."""
     return text(value) if isinstance(value, str) else str(number(value))
 
 
-def data(value: Any) -> bytes:
+def data(value: object) -> bytes:
     """Bytes, in base 64."""
     try:
         return base64.b64decode(text(value), validate=True)
@@ -62,7 +62,7 @@ def data(value: Any) -> bytes:
 
 
 def list_of(parse: Parse, length: int | None = None) -> Parse:
-    def parse_list(value: Any) -> list[Any]:
+    def parse_list(value: object) -> list[Any]:
         if not isinstance(value, list) or length not in (None, len(value)):
             what = "a list" if length is None else f"a list of {length}"
             raise Wrong(f"{what} is asked for")
@@ -71,7 +71,7 @@ def list_of(parse: Parse, length: int | None = None) -> Parse:
     return parse_list
 
 
-def words_by_name(value: Any) -> dict[str, str]:
+def words_by_name(value: object) -> dict[str, str]:
     """An object of texts or numbers."""
     if not isinstance(value, dict):
         raise Wrong("an object is asked for")
@@ -79,10 +79,11 @@ def words_by_name(value: Any) -> dict[str, str]:
 
 
 def among(names: Collection[str]) -> Parse:
-    def parse_name(value: Any) -> str:
-        if text(value) not in names:
-            raise Wrong(f"there is no {shown(value)}: there are {', '.join(names)}")
-        return value
+    def parse_name(value: object) -> str:
+        name = text(value)
+        if name not in names:
+            raise Wrong(f"there is no {shown(name)}: there are {', '.join(names)}")
+        return name
 
     return parse_name
 
@@ -100,7 +101,7 @@ def fields_of(asked: dict[str, Any], fields: dict[str, Field]) -> dict[str, Any]
     return {name: value_of(name, asked.get(name), field) for name, field in fields.items()}
 
 
-def value_of(name: str, value: Any, field: Field) -> Any:
+def value_of(name: str, value: object, field: Field) -> Any:
     if value is None:
         if field.may_lack:
             return field.default
@@ -122,9 +123,9 @@ def object_of(body: bytes) -> dict[str, Any]:
     return found
 
 
-def once_each(pairs: list[tuple[str, Any]]) -> dict[str, Any]:
+def once_each(pairs: list[tuple[str, object]]) -> dict[str, object]:
     """An object each of whose names is there once."""
-    found: dict[str, Any] = {}
+    found: dict[str, object] = {}
     for name, value in pairs:
         if name in found:
             raise Wrong(f"the call has its field {shown(name)} twice")

@@ -1,0 +1,91 @@
+"""Where the checkers of types are told to look away, and why: each `Any`, `cast` and `type: ignore` of Python, and each
+`any` and `@ts-expect-error` of the pages' JavaScript. The list is whole, and it is to get shorter."""
+import ast
+import pathlib
+import re
+
+from tests import TOP
+from tests.cases import FilesCase
+
+FOLDERS = ("lab", "build", "tests")
+# By the file: how many places it has, and the reason.
+LOOSE = {
+    "lab/definitions/nodes.py": (
+        4,
+        "a program is a class of nodes; an entry comes from a package above",
+    ),
+    "lab/definitions/own_program.py": (2, "what a file's functions return, before it is looked at"),
+    "lab/definitions/sequel.py": (1, "the node of the colouring, which rules may change"),
+    "lab/definitions/values.py": (5, "keys of values of any kind"),
+    "lab/networks/command_line.py": (1, "the hints of argparse know no None for `nargs`"),
+    "lab/networks/describe.py": (
+        1,
+        "the rounds are looked for when they are needed: a class hasn't them",
+    ),
+    "lab/networks/foreign.py": (6, "networkx has no hints, and may not be there"),
+    "lab/networks/letters.py": (2, "networkx has no hints, and may not be there"),
+    "lab/pictures/page/marks.js": (
+        1,
+        "which element has a name is said by the page, not by the browser",
+    ),
+    "lab/pictures/picture.py": (1, "the network of a picture that may have none"),
+    "lab/python/forestplan/__init__.py": (
+        7,
+        "a graph of networkx, igraph or a dictionary, with nodes of any kind",
+    ),
+    "lab/python/forestplan/_graphs.py": (4, "the same"),
+    "lab/python/forestplan/_sites.py": (2, "places have names of any kind"),
+    "lab/schedules/ruled_node.py": (3, "the node of a program is of any class"),
+    "lab/schedules/ruled_rounds.py": (3, "rounds with rules left out are of two classes"),
+    "lab/studio/address.py": (3, "the values of an address, each of its own type"),
+    "lab/studio/asked.py": (5, "the fields of a call, each of its own type"),
+    "lab/studio/calls.py": (4, "the same, and the answers"),
+    "lab/studio/connections.py": (2, "an address and a place for bytes, as sockets have them"),
+    "lab/studio/drawn.py": (1, "a network as JSON has it"),
+    "lab/studio/fields.py": (8, "the fields of a call, each of its own type"),
+    "lab/studio/limits.py": (4, "an outcome as JSON has it"),
+    "lab/studio/networks.py": (2, "a network as JSON has it"),
+    "lab/studio/page/address.js": (1, "the values of an address, each of its own type"),
+    "lab/transcripts/convert.py": (1, "a row of JSON"),
+    "lab/workshop/cases.py": (1, "a run of any kind"),
+    "lab/workshop/guard.py": (1, "words for a process that is begun, each of its own type"),
+    "tests/pages/test_reads.py": (1, "one method stands for three of a visitor"),
+}
+
+
+def loose_in_python(text: str) -> list[str]:
+    """The words of a module by which a type is left open."""
+    tree = ast.parse(text)
+    names = [node.id for node in ast.walk(tree) if isinstance(node, ast.Name)]
+    return [
+        *(name for name in names if name in ("Any", "cast")),
+        *re.findall(r"# type:\s*ignore\b", text),
+    ]
+
+
+def loose_in_javascript(text: str) -> list[str]:
+    comments = re.findall(r"/\*\*.*?\*/", text, re.S)
+    return [
+        *re.findall(r"@ts-expect-error", text),
+        *(word for comment in comments for word in re.findall(r"\bany\b", comment)),
+    ]
+
+
+def loose_in_types(text: str) -> list[str]:
+    code = re.sub(r"//.*", "", text)
+    return re.findall(r"@ts-expect-error|: any\b|<any\b|\bany\[\]", code)
+
+
+FINDERS = {".py": loose_in_python, ".js": loose_in_javascript, ".ts": loose_in_types}
+
+
+class Loose(FilesCase):
+    def test_all_are_listed(self) -> None:
+        found = {}
+        for folder in FOLDERS:
+            for path in sorted(pathlib.Path(TOP, folder).rglob("*.*")):
+                if path.suffix in FINDERS:
+                    count = len(FINDERS[path.suffix](path.read_text(encoding="utf-8")))
+                    if count:
+                        found[str(path.relative_to(TOP))] = count
+        self.same("places", found, {file: count for file, (count, _) in LOOSE.items()})
