@@ -3,7 +3,7 @@ from math import cos, inf, pi, sin, sqrt
 
 from lab.pictures.layout import laid_out
 
-Place = tuple[float, float]
+Point = tuple[float, float]
 
 LARGEST_CIRCLE = 6
 # How far apart two vertices are at least, in radii: circles don't touch then; and neither do squares of twice that
@@ -148,8 +148,8 @@ def label_places(places, edges, bend, distance, boxes, radius):
     and of other texts, and among those alike the one with most room, upper ones first. `boxes[v]` is half the width and
     half the height of what is written."""
     drawn = {e: list(points_along(places, bend, *e)) for e in edges}
-    taken: list[tuple[Place, Place]] = []
-    found: dict[int, Place] = {}
+    taken: list[tuple[Point, Point]] = []
+    found: dict[int, Point] = {}
     near = 5 * distance
     for v, (x, y) in sorted(places.items()):
         half_wide, half_high = boxes[v]

@@ -45,11 +45,10 @@ from functools import cache
 
 from lab.definitions.nodes import Colouring, Refused, Wire, wire_words
 from lab.definitions.own_program import OwnNode, asks_for_messages, what_is_wrong
+from lab.network import Edge
 from lab.schedules.ruled_node import Rounds, RuledNode
 
 REFUSED = 2**32 - 1
-# (from, to).
-Link = tuple[int, int]
 
 Node = namedtuple("Node", "pulse stage waits wrong colour result")
 # An event that is possible: its number, the node's value after it or None, the link that it takes from or None, what
@@ -390,9 +389,9 @@ class Space:
 
     def with_puts(self, events):
         """The events with the puts between them, each only as a take needs its wire."""
-        sent: dict[Link, list[Wire]] = {link: [] for link in self.links}
-        held: dict[Link, list[int]] = {link: [] for link in self.links}
-        put: Counter[Link] = Counter()
+        sent: dict[Edge, list[Wire]] = {link: [] for link in self.links}
+        held: dict[Edge, list[int]] = {link: [] for link in self.links}
+        put: Counter[Edge] = Counter()
         state, gone, listed = self.states[0], self.first_puts, []
         for event in events:
             for slot, wires in gone:
