@@ -3,7 +3,8 @@ import os
 
 
 def usable() -> int:
-    """The processors that the system lets this process use, 1 or more: a class's machine may give it fewer than it has."""
+    """The processors that the system lets this process use, 1 or more: a class's machine may give it fewer than it
+    has."""
     if hasattr(os, "sched_getaffinity"):
         return len(os.sched_getaffinity(0))
     return os.cpu_count() or 1

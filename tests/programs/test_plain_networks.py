@@ -72,9 +72,9 @@ def reached(net, v):
 
 
 def payloads_of(net):
-    """How many payloads the rounds send, without their nodes. Each edge has a greeting both ways, a label, and ten colours
-    for the child. In the merge of a forest each node chooses once, and tells it by its edges of the forests so far; in
-    the last step of a merge nobody tells it any more."""
+    """How many payloads the rounds send, without their nodes. Each edge has a greeting both ways, a label, and ten
+    colours for the child. In the merge of a forest each node chooses once, and tells it by its edges of the forests
+    so far; in the last step of a merge nobody tells it any more."""
     forest_of = {}
     for v in net.vertices:
         higher = [w for w in net.neighbours[v] if net.identifiers[w] > net.identifiers[v]]
