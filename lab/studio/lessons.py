@@ -4,6 +4,7 @@ import os
 import re
 
 from lab.programs import TOP
+from lab.wrong import Wrong
 
 # Of a lesson's exercises those that are predictions, each with its place.
 QUESTIONS = {
@@ -88,7 +89,10 @@ def lesson_of(number):
     afterwards and without the kit, and where to go on. Links to lessons lead to those of the studio.
     """
     head, text, _ = page_of(f"LESSON_{number}.md").split("\n\n---\n\n")
-    title, ask = re.match(r"# \d\. ([^\n]*)\n\n\*(.*?)\*", head, re.S).groups()
+    found = re.match(r"# \d\. ([^\n]*)\n\n\*(.*?)\*", head, re.S)
+    if found is None:
+        raise Wrong(f"the page of lesson {number} has no title with its question")
+    title, ask = found.groups()
     return title, ask, re.sub(r"\]\(LESSON_(\d)\.md[^)]*\)", r"](#\1-)", text)
 
 

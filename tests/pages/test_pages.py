@@ -18,7 +18,7 @@ from lab.definitions.rounds import Rounds
 from lab.networks.network_text import network_of
 from lab.studio.lessons import lessons
 from tests import TOP
-from tests.cases import FilesCase, contents, text_in
+from tests.cases import FilesCase, contents, found_in, text_in
 
 PAGES = ["README.md"] + sorted(
     os.path.relpath(path, TOP)
@@ -245,8 +245,8 @@ class Pages(FilesCase):
         listed = text_in("docs/learn/TUTORIAL.md")
         for page in LESSONS[:-1]:
             head, text, foot = text_in(page).split("\n\n---\n\n")
-            title, minutes, exercise = re.match(
-                r"# (\d\. .*)\n\n\*[^*]*\*\s*\((\d+) minutes; the exercise (\d+);", head
+            title, minutes, exercise = found_in(
+                r"^# (\d\. .*)\n\n\*[^*]*\*\s*\((\d+) minutes; the exercise (\d+);", head
             ).groups()
             row = f"| [{title}]({os.path.basename(page)}) | {minutes} | {exercise} |"
             self.note(f"{page}: its row", row in listed, row)
