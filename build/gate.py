@@ -4,7 +4,8 @@ bodies are tried over.
 `rt ci NAME` works on a copy, and removes it with all that is built there. So the copy is made here, in the user's cache
 (`$XDG_CACHE_HOME`, else `~/.cache`): a repository of these crates alone, without their must-fail edits, on which no
 proof depends. What passes is kept by `rt` itself, beside the kit, crate by crate: so a call that was interrupted goes
-on where it was, another checkout proves nothing again, and the gate takes over what a first call has proved.
+on where it was, another checkout proves nothing again, and the gate takes over what a first call has proved. An older
+kit keeps nothing; `kit.keeps_proofs` says which.
 """
 import contextlib
 import fcntl
@@ -23,6 +24,9 @@ from lab.words import duration
 LEFT_OUT = ("out", "must-fail", "wrong-bodies")
 PROVED = re.compile(r"^rt: (\w+) (?:proved$|is kept: )", re.M)
 NOT_PROVED = re.compile(r"^rt: (\w+)(?:: its tests are)? NOT PROVED.*$", re.M)
+# What a call that is stopped says of the next one.
+KEPT = "what is proved is kept, so the next call goes on from here"
+NOT_KEPT = "this kit doesn't say that it keeps what is proved, so the next call may begin again"
 
 
 def is_taken(lock):
@@ -137,10 +141,8 @@ def run(name, crates, edits=None, take=None):
             if take:
                 take(room)
     except (KeyboardInterrupt, SystemExit):
-        tell(
-            name,
-            f"stopped after {since(start)}; what is proved is kept, so the next call goes on from here",
-        )
+        goes_on = KEPT if kit.keeps_proofs() else NOT_KEPT
+        tell(name, f"stopped after {since(start)}; {goes_on}")
         raise
     tell(name, f"{len(wanted)} crates proved in {since(start)}")
     return said

@@ -2,6 +2,7 @@
 import hashlib
 import os
 import shutil
+import subprocess
 import sys
 
 from build.crate_lists import TOP, lines_of, listed, with_below
@@ -47,6 +48,19 @@ def is_there(name):
             file=sys.stderr,
         )
     return True
+
+
+def keeps_proofs():
+    """Whether `rt ci` keeps what it has proved for the next call. The kit says so where it prints its commands: one that
+    keeps has an option to prove all again. It keeps beside itself, so a user who can't write there keeps nothing.
+    """
+    rt = command()
+    try:
+        done = subprocess.run([rt, "--help"], capture_output=True, timeout=60, check=False)
+    except (OSError, subprocess.TimeoutExpired):
+        return False
+    folder = os.path.dirname(os.path.dirname(os.path.dirname(rt)))
+    return b"--anew" in done.stdout and os.access(folder, os.W_OK)
 
 
 def in_cache(path):

@@ -96,6 +96,10 @@ def ci():
     return 1 if failed else 0
 
 
+if sys.argv[1:] == ["--help"]:
+    # A kit that keeps what is proved can prove it again; the file `older` makes it one that keeps nothing.
+    say("  rt ci    the gate" + ("" if os.path.exists(f"{CACHE}/older") else "; --anew proves all again"))
+    raise SystemExit
 raise SystemExit(ci())
 """
 CRATES = (
@@ -339,12 +343,17 @@ class FirstRun(Case):
                         self.same("and is stopped", second.wait(LIMIT), status)
                 os.killpg(first.pid, number)
                 self.same(f"the status by {number.name}", first.wait(LIMIT), status)
-                goes_on = "what is proved is kept, so the next call goes on from here"
+                keeps = number == signal.SIGINT
+                goes_on = (
+                    "the next call goes on from here" if keeps else "the next call may begin again"
+                )
                 self.note(
                     f"what it says at {number.name}",
                     number == signal.SIGKILL or wait_until(lambda: goes_on in said(), LIMIT),
                     said(),
                 )
+                # From now on the kit is one that keeps nothing.
+                write(os.path.join(tree.cache, "older"), "")
             self.note(
                 f"nothing goes on after {number.name}",
                 wait_until(lambda: not tree.at_work(), LIMIT),
