@@ -51,8 +51,8 @@ def is_there(name):
 
 
 def keeps_proofs():
-    """Whether `rt ci` keeps what it has proved for the next call. The kit says so where it prints its commands: one that
-    keeps has an option to prove all again. It keeps beside itself, so a user who can't write there keeps nothing.
+    """Whether `rt ci` keeps what it has proved for the next call. The kit says so where it prints its commands: one
+    that keeps has an option to prove all again. It keeps beside itself, so a user who can't write there keeps nothing.
     """
     rt = command()
     try:
