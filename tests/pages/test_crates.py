@@ -6,6 +6,7 @@
 - Each public constant with a number of its own has a line `prove!`, or a clause, that says the number: in its crate, or
   in one that takes it from there.
 - `main` of each program has the type that `serve_words` alone makes, of its own commands and the standard streams.
+- The only loops without a bound are in the files of the functions that wait for other threads.
 - No line is wider than 120 columns in src/ and specs/, and than 160 in proofs/.
 - Files of specs/ have definitions alone: those that import proofs or state a lemma are called `..Laws.antt`, or
   `Props.antt`, and neither another file of specs/ nor a clause takes a word from one of these.
@@ -34,6 +35,11 @@ CALLERS = (
 NUMBER = r"^pub const ([A-Z_]+): [iu]\w+ = ([\d_]+);"
 SAID = r"prove!\([^;]*\);|ensures \w+ \{ [A-Z_]+ ≡ \d+ \}"
 TESTS = ("checks", "worker_checks")
+WAITING = {
+    "crates/link_queue/src/link.rt",
+    "crates/pool/src/gathering.rt",
+    "crates/wired_nodes/src/turn.rt",
+}
 
 # A file of specs/ that has laws with their proofs, as a path or as a module.
 LAWS = r"specs[./](?:[A-Z]\w+Laws|Props)\b"
@@ -165,6 +171,11 @@ class Crates(FilesCase):
             )
         served = "".join(text for _, text in files_of("serving"))
         self.same("what makes one", re.findall(r"^ *Served \{", served, re.M), ["    Served {"])
+
+    def test_endless(self):
+        """No call that `serve_alone` makes has a runtime; what calls it has one, and has no loop without a bound."""
+        endless = {path for path, text in sources().items() if re.search(r"\bforever\b", text)}
+        self.same("files with a loop without a bound", endless, WAITING)
 
     def test_definitions(self):
         for path, text in sources().items():

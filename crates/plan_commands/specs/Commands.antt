@@ -1,5 +1,5 @@
 -- What a command of `forestplan` may answer to the bytes of its input.
-use Rattle.std.specs.Prelude.{◌≢◌, ℕ, List, Result, Ok, Err}
+use Rattle.std.specs.Prelude.{◌≢◌, Bool, ℕ, List, Result, Ok, Err, false, true}
 use Rattle.run_options.specs.declared.fault.PoolFault.TheVariants.{BadOptions}
 use Rattle.plan_answers.specs.Faults.{fault_text}
 use Rattle.plan_answers.specs.Answers.{IsFaultOfText, IsForestsAnswer, IsPlainAnswer}
@@ -39,10 +39,19 @@ abbrev pub MayAnswer : Request → List ℕ → Result (List ℕ) PlanFault → 
 MayAnswer request input (Ok answer) = IsGoodAnswer request input answer
 MayAnswer request input (Err fault) = IsFaultAnswer request input fault
 
+-- the commands that start worker threads, a line for each command
+abbrev pub starts_threads : Request → Bool
+starts_threads Forests = false
+starts_threads Plain = false
+starts_threads (Plan options) = true
+starts_threads (Transcript options edition) = true
+starts_threads Check = false
+
 abbrev pub forestplan_commands : CommandSet Request PlanFault
 forestplan_commands = record {
   executable = Forestplan;
   request_of = request_of;
+  starts_threads = starts_threads;
   MayAnswer = MayAnswer;
   fault_text = fault_text;
 }

@@ -10,7 +10,7 @@ use std::sync::Wait;
 use std::thread::Threads;
 use wired_nodes::OpenGate;
 
-/// The commands of `forestplan`; each is a line of `answer_bytes`. `Plan` and `Transcript` start threads.
+/// The commands of `forestplan`; each is a line of `answer_alone` or, if it starts threads, of `answer_by_threads`.
 pub struct ForestplanCommands;
 
 impl Commands for ForestplanCommands {
@@ -41,20 +41,34 @@ impl Commands for ForestplanCommands {
         fault_report(alloc, name, fault)
     }
 
-    fn answer_bytes<T: Threads + Wait + Sync>(
+    fn starts_threads(request: Request) -> bool {
+        match request {
+            Request::Plan(_) | Request::Transcript(_, _) => true,
+            Request::Forests | Request::Plain | Request::Check => false,
+        }
+    }
+
+    fn answer_alone(alloc: Global, request: Request, input: &[u8]) -> Result<Vec<u8>, PlanFault> {
+        match request {
+            Request::Forests => forest_bytes(alloc, input),
+            Request::Plain => plain_bytes(alloc, input),
+            Request::Check => check_bytes(alloc, input),
+            Request::Plan(_) | Request::Transcript(_, _) => unreachable!(),
+        }
+    }
+
+    fn answer_by_threads<T: Threads + Wait + Sync>(
         rt: &T,
         alloc: Global,
         request: Request,
         input: &[u8],
     ) -> Result<Vec<u8>, PlanFault> {
         match request {
-            Request::Forests => forest_bytes(alloc, input),
-            Request::Plain => plain_bytes(alloc, input),
             Request::Plan(options) => plan_bytes(rt, alloc, input, options, &OpenGate),
             Request::Transcript(options, edition) => {
                 transcript_bytes(rt, alloc, input, options, edition, &OpenGate)
             }
-            Request::Check => check_bytes(alloc, input),
+            Request::Forests | Request::Plain | Request::Check => unreachable!(),
         }
     }
 }

@@ -7,5 +7,6 @@
 #![tactic(auto)]
 
 mod answer;
+pub mod laws;
 
 pub use answer::ForestplanCommands;

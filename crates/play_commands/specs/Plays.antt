@@ -1,5 +1,5 @@
 -- What may be answered to an input by nodes of a program.
-use Rattle.std.specs.Prelude.{◌≢◌, ℕ, List, None, Some, Result, Ok, Err}
+use Rattle.std.specs.Prelude.{◌≢◌, Bool, ℕ, List, None, Some, Result, Ok, Err, false, true}
 use Rattle.program_texts.specs.Texts.{ProgramTexts}
 use Rattle.node_api.specs.Program.{Program}
 use Rattle.run_options.specs.declared.Edition.TheVariants as edition
@@ -39,6 +39,15 @@ use Rattle.recolouring.specs.Knowing.{recolouring}
 use Rattle.recolouring.specs.Texts.{recolouring_texts}
 use Rattle.play_commands.specs.Payloads.{independent_set_payloads, layers_payloads, leader_payloads, matching_payloads}
 use Rattle.play_commands.specs.Payloads.{recolouring_payloads}
+
+-- what starts worker threads, a line for each that nodes may be asked for
+abbrev pub starts_threads : Play → Bool
+starts_threads Events = false
+starts_threads Replay = false
+starts_threads Rounds = false
+starts_threads (Run options show) = true
+starts_threads (Alone show) = false
+starts_threads Ends = false
 
 -- A program, its texts and those of its payloads, and what is set about its network.
 module _ {S M E : Type 0} (program : Program S M E) (texts : ProgramTexts S) (payloads : PayloadTexts M)

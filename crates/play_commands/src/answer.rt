@@ -1,7 +1,8 @@
 //! The commands of `forestplay`.
 
 use crate::playing::named_bytes;
-use command_line::{Declined, Executable, PlayRequest, parse_play};
+use crate::running::named_run_bytes;
+use command_line::{Declined, Executable, Play, PlayRequest, parse_play};
 use play_inputs::{PlayFault, fault_report};
 use reports::FaultReport;
 use serving::Commands;
@@ -40,12 +41,34 @@ impl Commands for ForestplayCommands {
         fault_report(alloc, name, fault)
     }
 
-    fn answer_bytes<T: Threads + Wait + Sync>(
+    fn starts_threads(request: PlayRequest) -> bool {
+        match request.play {
+            Play::Run(_, _) => true,
+            Play::Events | Play::Replay | Play::Rounds | Play::Alone(_) | Play::Ends => false,
+        }
+    }
+
+    fn answer_alone(
+        alloc: Global,
+        request: PlayRequest,
+        input: &[u8],
+    ) -> Result<Vec<u8>, PlayFault> {
+        named_bytes(alloc, request.program, request.play, input)
+    }
+
+    fn answer_by_threads<T: Threads + Wait + Sync>(
         rt: &T,
         alloc: Global,
         request: PlayRequest,
         input: &[u8],
     ) -> Result<Vec<u8>, PlayFault> {
-        named_bytes(rt, alloc, request.program, request.play, input)
+        match request.play {
+            Play::Run(options, shown) => {
+                named_run_bytes(rt, alloc, request.program, options, shown, input)
+            }
+            Play::Events | Play::Replay | Play::Rounds | Play::Alone(_) | Play::Ends => {
+                unreachable!()
+            }
+        }
     }
 }

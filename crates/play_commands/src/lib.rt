@@ -15,6 +15,8 @@
 #![tactic(auto)]
 
 mod answer;
+pub mod laws;
 mod playing;
+mod running;
 
 pub use answer::ForestplayCommands;

@@ -1,5 +1,5 @@
 -- The commands of an executable.
-use Rattle.std.specs.Prelude.{ℕ, List, Option, Result}
+use Rattle.std.specs.Prelude.{Bool, ℕ, List, Option, Result}
 use Rattle.command_line.specs.declared.executable.Executable.{Executable}
 use Rattle.reports.specs.Lines.{line_with}
 
@@ -8,6 +8,8 @@ pub record CommandSet (A F : Type 0) : Type 1 where
   pub executable : Executable
   -- what its words ask for
   pub request_of : List (List ℕ) → Option A
+  -- whether this starts worker threads; what starts none is proved to return
+  pub starts_threads : A → Bool
   -- the bytes that may be answered to the bytes of an input, or the fault
   pub MayAnswer : A → List ℕ → Result (List ℕ) F → Type 0
   -- the text of a fault, and the status of the program

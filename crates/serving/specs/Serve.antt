@@ -20,6 +20,11 @@ stream_line executable = line_with (name_of executable) (codes "stream")
 abbrev pub memory_line : Executable → List ℕ
 memory_line executable = line_with (name_of executable) (codes "memory")
 
+-- its line if an input couldn't be read
+abbrev pub unread_line : Executable → ReadFault → List ℕ
+unread_line executable Stream = stream_line executable
+unread_line executable Memory = memory_line executable
+
 -- the text is written to errors, or a beginning of it, and then a write there failed
 abbrev pub IsReported : Written → List ℕ → Type 0
 IsReported errors text = IsWritten errors text ⊎ IsCutOff errors text
@@ -38,11 +43,6 @@ Puts executable output errors text status =
     (IsWritten output text × errors.IsUntouched × (status ≡ 0))
     ⊎ (IsCutOff output text × IsReported errors (stream_line executable) × (status ≡ 4))
 
--- why an input isn't read: a read failed; or memory ran out, and no read failed
-abbrev pub IsUnread : Taken → ReadFault → Type 0
-IsUnread input Stream = HasFailed input
-IsUnread input Memory = HasNotFailed input
-
 module _ {A F : Type 0} (commands : CommandSet A F) where
   -- the bytes of an answer go to output, and its fault is reported
   abbrev pub Gives : Executable → Written → Written → Result (List ℕ) F → ℕ → Type 0
@@ -55,16 +55,6 @@ module _ {A F : Type 0} (commands : CommandSet A F) where
   GivesAnswer executable output errors (Ok bytes) status = Gives executable output errors (Ok bytes.items) status
   GivesAnswer executable output errors (Err fault) status =
       Gives executable output errors (Err fault) status ⊎ Refuses output errors (memory_line executable) 4 status
-
-  -- the command may answer so to the bytes
-  abbrev pub MayReturn : A → List ℕ → Result (Vec ℕ Global) F → Type 0
-  MayReturn request bytes (Ok answer) = commands.MayAnswer request bytes (Ok answer.items)
-  MayReturn request bytes (Err fault) = commands.MayAnswer request bytes (Err fault)
-
-  -- the input ends, and the command may answer so to its bytes
-  abbrev pub IsAnswered : A → Taken → Result (Vec ℕ Global) F → Type 0
-  IsAnswered request input answer = (bytes : List ℕ) × EndsAfter input.before input.after bytes × HasNotFailed input
-      × MayReturn request bytes answer
 
   -- the command may answer so to the bytes, and that is given
   abbrev pub Answers : A → List ℕ → Written → Written → ℕ → Type 0

@@ -1,6 +1,6 @@
 //! What the commands of an executable are to `serve`.
 
-ghost use Rattle.std.specs.Prelude.{◌≡◌, Some, IfOk, IfErr, Ok, Err, map};
+ghost use Rattle.std.specs.Prelude.{◌≡◌, Some, IfOk, IfErr, Ok, Err, false, map, true};
 ghost use denote.Param.Send.{IsSync};
 ghost use Rattle.command_line.specs.Asked.{MayDecline};
 ghost use Rattle.serving.specs.CommandSet.{CommandSet, fault_line, fault_status};
@@ -52,18 +52,37 @@ pub trait Commands {
         ensures line { IfOk result (λ report. report.line.items ≡ fault_line commands name.now fault) }
         ensures status { IfOk result (λ report. report.status ≡ fault_status commands fault) };
 
-    /// The answer of a command to its input. A command that runs worker threads isn't promised to return. The clause
+    /// Whether what is asked for starts worker threads.
+    fn starts_threads(request: Self::Request) -> bool
+        ensures { result ≡ commands.starts_threads request };
+
+    /// The answer of a command that starts no threads to its input. The call returns: it has no runtime to wait with.
+    ///
+    /// # Errors
+    /// The fault of the input, or of memory.
+    fn answer_alone(
+        alloc: Global,
+        request: Self::Request,
+        input: &[u8],
+    ) -> Result<Vec<u8>, Self::Fault>
+        requires in_range { can_answer request }
+        requires alone { commands.starts_threads request ≡ false }
+        ensures ok { IfOk result (λ bytes. commands.MayAnswer request input.now (Ok bytes.items)) }
+        ensures fault { IfErr result (λ fault. commands.MayAnswer request input.now (Err fault)) };
+
+    /// The answer of a command that starts threads to its input. It isn't promised that the call returns. The clause
     /// `shared` says of `rt` what the bound `Sync` does, since an `impl` doesn't know that bound of its method.
     ///
     /// # Errors
     /// The fault of the input, of the run, or of memory.
-    fn answer_bytes<T: Threads + Wait + Sync>(
+    fn answer_by_threads<T: Threads + Wait + Sync>(
         rt: &T,
         alloc: Global,
         request: Self::Request,
         input: &[u8],
     ) -> Result<Vec<u8>, Self::Fault>
         requires in_range { can_answer request }
+        requires threads { commands.starts_threads request ≡ true }
         requires shared { IsSync T.row }
         ensures ok { IfOk result (λ bytes. commands.MayAnswer request input.now (Ok bytes.items)) }
         ensures fault { IfErr result (λ fault. commands.MayAnswer request input.now (Err fault)) };

@@ -21,6 +21,7 @@
 #![tactic(auto)]
 
 mod commands;
+mod giving;
 mod process;
 mod served;
 mod serving;
@@ -29,4 +30,4 @@ mod words;
 pub use commands::Commands;
 pub use process::arguments;
 pub use served::{Served, serve_words};
-pub use serving::serve;
+pub use serving::{serve, serve_alone};

@@ -5,7 +5,8 @@ ghost use Rattle.serving.specs.Serve.{ServesWords, no_text_of};
 ghost use Rattle.serving.specs.Streams.{reading, writing};
 
 use crate::commands::Commands;
-use crate::serving::{refuse_memory, serve};
+use crate::giving::refuse_memory;
+use crate::serving::serve;
 use crate::words::borrowed;
 use std::env::Env;
 use std::io;

@@ -1,7 +1,7 @@
 use Rattle.std.proofs.Common.{inl, inr, refl, subst, ⊎_elim}
 use Rattle.serving.specs.Serve.{Puts}
 use Rattle.serving.specs.Streams.{writing}
-use Rattle.serving.proofs.serving.give.Goals as goal
+use Rattle.serving.proofs.giving.give.Goals as goal
 
 pub returns-in-Ok : goal.returns-in-Ok
 returns-in-Ok g c = rw c.in-Ok.is (

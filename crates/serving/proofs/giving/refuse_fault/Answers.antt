@@ -2,7 +2,7 @@ use Rattle.std.proofs.Common.{◌∙◌, ap, inl, subst}
 use Rattle.serving.specs.CommandSet.{fault_line}
 use Rattle.serving.specs.Serve.{IsReported}
 use Rattle.serving.specs.Streams.{writing}
-use Rattle.serving.proofs.serving.refuse_fault.Goals as goal
+use Rattle.serving.proofs.giving.refuse_fault.Goals as goal
 
 pub returns-in-Ok : goal.returns-in-Ok
 returns-in-Ok g c = inl (

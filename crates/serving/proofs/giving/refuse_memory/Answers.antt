@@ -1,4 +1,4 @@
-use Rattle.serving.proofs.serving.refuse_memory.Goals as goal
+use Rattle.serving.proofs.giving.refuse_memory.Goals as goal
 
 pub returns-in-Forestplan-clause-reported : goal.returns-in-Forestplan-clause-reported
 returns-in-Forestplan-clause-reported g c = rw c.in-Forestplan.is c.refuse.ensures.reported
