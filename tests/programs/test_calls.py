@@ -79,6 +79,12 @@ VALUES: tuple[object, ...] = (
 )
 # What a field may be that isn't of the type of its good value.
 ALSO = {"seed": (str, int), "said": (str, int)}
+# What a field means that isn't there, in every call that has it and may lack it.
+DEFAULTS = {
+    **{"nodes": 0, "edges": [], "stated": [], "program": "colouring", "slow": [], "lazy": []},
+    **{"steps": "", "without": "", "forest": 0, "how": "seed", "workers": 4, "capacity": 4},
+    **{"pulses": [], "by": 0, "in_step": False, "dare": None, "policy": None, "list": None},
+}
 
 
 def text_of(asked):
@@ -127,6 +133,17 @@ class Calls(FilesCase):
                     self.is_no_fault(row, found)
                 else:
                     self.names_it(row, field, found)
+
+    def test_defaults(self):
+        """A field that isn't there means the same as its default, where both are answered or refused."""
+        for name, asked in GOOD:
+            for field in DEFAULTS.keys() & asked:
+                less = {other: value for other, value in asked.items() if other != field}
+                found, wanted = (
+                    self.outcome(name, text_of(words))
+                    for words in (less, less | {field: DEFAULTS[field]})
+                )
+                self.same(f"{name} without {field}", found, wanted)
 
     def test_of_another_type(self):
         """A value of another type is refused by the name of its field, and no value is a fault."""
