@@ -12,7 +12,8 @@ MEMORY, SECONDS = 400 << 20, 20
 NO_LETTERS = b":\xe2\x80\xa8An>>sparse6<<\n\r"
 MORE = f"more than {MAX_NODES} nodes"
 # The words of a command of which one is the file, the text, and a part of what is said.
-HUGE: tuple[tuple[str, str | bytes, str], ...] = (
+Rows = tuple[tuple[str, str | bytes, str], ...]
+BY_NETWORKX: Rows = (
     ("network read net.s6", NO_LETTERS, "line 1: no sparse6: `\\u2028` isn't one of the letters"),
     ("network read net.s6", ":~~~~~~~~~", MORE),
     ("network read net.s6", ":~}??", MORE),
@@ -21,6 +22,8 @@ HUGE: tuple[tuple[str, str | bytes, str], ...] = (
     ("network read net.g6", NO_LETTERS[1:-13], "no graph6: `\\u2028` isn't one of the letters"),
     ("network read net.g6", "~~~~~~~~~", MORE),
     ("network read net.g6", "~C??", "no graph6: the bits of 16,384 nodes take 22,368,256 letters"),
+)
+BY_US: Rows = (
     ("network tell net.col", "p edge 4294967296 0\n", f"{MORE} (F7)"),
     ("network tell net.col", f"p edge {'9' * 6000} 0\n", f"{MORE} (F7)"),
     ("transcript check two net.txt", "transcript 2 4294967295\n", "Nodes"),
@@ -36,16 +39,21 @@ def limited() -> None:
 
 
 class Declared(Case):
-    def test_huge_numbers_are_refused(self) -> None:
-        for command, text, said in HUGE:
+    def refused(self, rows: Rows) -> None:
+        for command, text, said in rows:
             name = next(word for word in command.split() if word.startswith("net."))
-            if name.endswith("6"):
-                need(self, "networkx")
             path = self.file(name, text)
             words = [path if word == name else word for word in command.split()]
             done = forestlab(*words, preexec_fn=limited, limit=100)
             self.refusal(f"{command}: {text[:40]!r}", done, 1, said.encode())
             self.same(f"{command}: {text[:40]!r}, lines", done[2].count(b"\n"), 1)
+
+    def test_huge_numbers_are_refused(self) -> None:
+        self.refused(BY_US)
+
+    def test_huge_numbers_of_letters_are_refused(self) -> None:
+        need(self, "networkx")
+        self.refused(BY_NETWORKX)
 
     def test_the_largest_graph6_is_read(self) -> None:
         """Few edges of as many nodes as a network may have, as bits of all pairs: 33 MB of letters."""
