@@ -100,7 +100,7 @@ class Theorems(FilesCase):
         first = " ".join(text_in(PAGE).split()).partition("It proves the ")[2]
         self.same("crates of a first call", first.split()[0], str(len(below)))
         left = re.findall(
-            r"`(\w+)`", first.partition("The laws of the crates ")[2].partition(" are left")[0]
+            r"`(\w+)`", first.partition(" theorems in the crates ")[2].partition(" are left")[0]
         )
         laws = {path.split("::")[0] for path, _ in named_clauses(text_in(PAGE))} - set(below)
         self.same("crates of theorems that it leaves", sorted(left), sorted(laws))
