@@ -66,7 +66,7 @@ fn run_nodes<
 
 /// Starts a node for each vertex over the links that were made, whose queues the run has picked, and runs the nodes by
 /// `options.workers` workers, each of which makes at most `options.turns` looks. None of the nodes remembers that
-/// memory was refused to a turn; that no stamp was, `outcomes::gathered` shows.
+/// memory was refused to a turn, as `outcomes::gathered` requires; that no stamp was, it shows.
 ///
 /// # Errors
 ///

@@ -1,5 +1,5 @@
 -- What nodes whose stamps are few have set aside, and what they remember.
-use Rattle.std.proofs.Common.{◌≡◌, ℕ, ◌+◌, ◌^◌, ◌<◌, ◌≤◌, List, Some, refl, ap, ◌∙◌, arith, get_or}
+use Rattle.std.proofs.Common.{◌≡◌, ℕ, ◌+◌, ◌^◌, ◌<◌, ◌≤◌, List, None, Some, refl, ap, ◌∙◌, arith, get_or}
 use Rattle.std.specs.Prelude.{All, Option, max}
 use Rattle.wired_nodes.specs.declared.aside.Aside.{Aside}
 use Rattle.wired_nodes.specs.declared.aside.WhyAside.{WhyAside}
@@ -22,6 +22,12 @@ not_for_its_stamp counter aside x left e full = by_why x.why refl
         let past = full s same in
         absurd (omega (arith, left, came, past))
 
+-- a turn can be refused memory or a stamp, and nothing else
+neither : (refusal : Option TurnRefused) → (refusal ≡ Some refused.Memory → ⊥) → (refusal ≡ Some refused.StampFull → ⊥) → refusal ≡ None
+neither None memory full = refl
+neither (Some refused.Memory) memory full = absurd (memory refl)
+neither (Some refused.StampFull) memory full = absurd (full refl)
+
 module _ {A M : Type 0} (counter : A → ℕ) (aside : A → Option (Aside M)) (nodes : List A) where
   pub all_left : (most : ℕ) → most < 2 ^ 60 → All (λ a. max (counter a) (aside_stamp (aside a)) ≤ most) nodes
       → All (λ a. HasStampLeft (counter a) (aside a)) nodes
@@ -35,10 +41,10 @@ module _ {A M : Type 0} (counter : A → ℕ) (aside : A → Option (Aside M)) (
         let a = get_or nodes k d in
         not_for_its_stamp (counter a) (aside a) x (left k d lt) e (λ s why. full a x e s why)
 
-    -- and no node remembers a stamp that would be too great
-    pub none_remembered : (refusal : A → Option TurnRefused) → ((a : A) → RemembersFull (refusal a) (counter a) (aside a))
-        → All (λ a. refusal a ≡ Some refused.StampFull → ⊥) nodes
-    none_remembered refusal remembers k d lt e =
+    -- and no node remembers a stamp that would be too great; so none remembers a refusal if none remembers memory's
+    pub none_refused : (refusal : A → Option TurnRefused) → ((a : A) → RemembersFull (refusal a) (counter a) (aside a))
+        → All (λ a. refusal a ≡ Some refused.Memory → ⊥) nodes → All (λ a. refusal a ≡ None) nodes
+    none_refused refusal remembers memory k d lt =
         let some = left k d lt in
-        let past = remembers (get_or nodes k d) e in
-        omega (arith, some, past)
+        neither (refusal (get_or nodes k d)) (memory k d lt)
+        (λ e. let past = remembers (get_or nodes k d) e in omega (arith, some, past))

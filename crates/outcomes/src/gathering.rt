@@ -1,13 +1,12 @@
 //! The nodes and links of a run become its outcome.
 
-ghost use Rattle.std.specs.Prelude.{◌≡◌, ◌≢◌, ◌<◌, ◌^◌, ℕ, All, IfOk, Some, map};
+ghost use Rattle.std.specs.Prelude.{◌≡◌, ◌<◌, ◌^◌, ℕ, All, IfOk, None, map};
 ghost use Rattle.interference.specs.Net.{vertices};
 ghost use Rattle.node_api.specs.Program.{last_pulse_on};
-ghost use Rattle.wired_nodes.specs.declared.refused.TurnRefused.TheVariants.{StampFull};
 ghost use Rattle.wired_nodes.specs.Links.{HoldAtMost};
 ghost use Rattle.wired_nodes.specs.Stepped.{refusal_of};
 ghost use Rattle.outcomes.specs.Outcome.{IsOutcome};
-ghost use Rattle.outcomes.specs.Full.{HasStampLeft};
+ghost use Rattle.outcomes.specs.Full.{HadMemory, HasStampLeft};
 
 use crate::meeting::meet_rows;
 use crate::outcome::Outcome;
@@ -27,8 +26,9 @@ fn last_pulse_of<P: NodeProgram>(net: &Network) -> u32
 }
 
 /// What the nodes of a run, ascending, and its links leave, once all threads are joined. The outcome holds for every
-/// capacity that no link's own capacity exceeds. No node has come to its greatest stamp, since a whole run has fewer
-/// events than that; so no turn of one was refused a stamp.
+/// capacity that no link's own capacity exceeds. No node remembers that a turn was refused memory, and none has come to
+/// its greatest stamp, since a whole run has fewer events than that. So no turn of one was refused anything, and the
+/// refusals that are dropped with the nodes are `None`.
 ///
 /// # Errors
 ///
@@ -42,10 +42,11 @@ pub fn gathered<J: Wiring, P: NodeProgram, R: Wait>(
 ) -> Result<Outcome<P>, Memory>
     requires network { J.net ≡ net.now }
     requires nodes { map (λ b. b.value.vertex) nodes.items ≡ vertices J.net }
+    requires none_refused { All (λ b. HadMemory (refusal_of b.value)) nodes.items }
     ensures outcome { IfOk result (λ outcome. (capacity : ℕ)
         → HoldAtMost links.now capacity → IsOutcome P.program net.now capacity J.transcript outcome) }
     ensures stamps { IfOk result (λ _. All (λ b. HasStampLeft b.value.counter b.value.aside) nodes.items) }
-    ensures remembered { IfOk result (λ _. All (λ b. refusal_of b.value ≢ Some StampFull) nodes.items) }
+    ensures none_refused { IfOk result (λ _. All (λ b. refusal_of b.value ≡ None) nodes.items) }
 {
     // So a run has fewer than 2^60 events, by a clause of this call.
     let _last = last_pulse_of::<P>(net);

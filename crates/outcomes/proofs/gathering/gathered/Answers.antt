@@ -13,7 +13,7 @@ use Rattle.link_queue.specs.Ends.{held_stamped, put_list, put_stamped, taken_lis
 use Rattle.node_api.specs.Program.{last_pulse_on}
 use Rattle.event_rule.proofs.Short.{few-events}
 use Rattle.outcomes.proofs.Fits.{none_full}
-use Rattle.outcomes.proofs.Full.{all_left, all_refused, none_remembered}
+use Rattle.outcomes.proofs.Full.{all_left, all_refused, none_refused}
 use Rattle.port_rows.proofs.Sides.{all_by}
 use Rattle.outcomes.specs.Meets.{history_of_met, put_of, taken_of}
 use Rattle.outcomes.specs.Outcome.{IsOutcome, Outcome}
@@ -104,5 +104,6 @@ returns g c =
           (all_rows (λ row. row.items) mets (λ h. length h.held ≤ capacity) history_of_met (c.in_ok-links.ensures.room capacity below))
           (ran gathered (λ b. b.value.kept.did) refused));
       stamps = left;
-      remembered = none_remembered (λ b. b.value.counter) (λ b. b.value.aside) nodes left (λ b. b.value.refusal) (λ b. b.value.remembers);
+      none_refused = none_refused (λ b. b.value.counter) (λ b. b.value.aside) nodes left (λ b. b.value.refusal) (λ b. b.value.remembers)
+          c.requires.none_refused;
     }
