@@ -29,9 +29,10 @@ IsGoodAnswer Check input answer = IsCheckAnswer input answer
 abbrev pub IsFaultAnswer : Request → List ℕ → PlanFault → Type 0
 IsFaultAnswer Forests input fault = IsFaultOfText input fault
 IsFaultAnswer Plain input fault = IsFaultOfText input fault
-IsFaultAnswer (Plan options) input fault = IsFaultOfWorkers options input fault × (fault ≢ Pool BadOptions)
+IsFaultAnswer (Plan options) input fault =
+    IsFaultOfWorkers colouring options false input fault × (fault ≢ Pool BadOptions)
 IsFaultAnswer (Transcript options edition) input fault =
-    IsFaultOfWorkers options input fault × (fault ≢ Pool BadOptions)
+    IsFaultOfWorkers colouring options true input fault × (fault ≢ Pool BadOptions)
 IsFaultAnswer Check input fault = IsFaultOfCheck input fault
 
 -- the bytes that a command may answer, or its fault

@@ -29,11 +29,6 @@ is-whole : {S M : Type 0} (outcome : Outcome S M) (whole : Bool) → is_whole ou
 is-whole outcome true is = is
 is-whole outcome false is = tt
 
-if-stopped : {S M : Type 0} (o : Options) (outcome : Outcome S M) (whole : Bool) → AreInRange o
-    → IfErr (if whole then Ok outcome else Err run.Stopped) (IsFaultOfRun o)
-if-stopped o outcome true range = tt
-if-stopped o outcome false range = range
-
 -- what is returned of an outcome, by whether it is whole
 pub kept : {S M : Type 0} (outcome : Outcome S M) → is_whole outcome ≡ true → whole_after (Ok outcome) ≡ Ok outcome
 kept outcome whole = ap (λ b. if b then Ok outcome else Err run.Stopped) whole
@@ -61,6 +56,12 @@ module _ {S M E : Type 0} (program : Program S M E) (net : Net) (o : Options) (t
   whole-range (Ok outcome) may = if-whole (λ _. AreInRange o) outcome (is_whole outcome) may.0
   whole-range (Err fault) may = tt
 
-  pub whole-fault : (ran : Ran S M) → MayRun program net o t ran → IfErr (whole_after ran) (IsFaultOfRun o)
-  whole-fault (Ok outcome) may = if-stopped o outcome (is_whole outcome) may.0
+  if-stopped : (outcome : Outcome S M) (whole : Bool) → is_whole outcome ≡ whole → AreInRange o
+      → IsOutcome program net o.capacity t outcome
+      → IfErr (if whole then Ok outcome else Err run.Stopped) (IsFaultOfRun program net o t)
+  if-stopped outcome true e range is = tt
+  if-stopped outcome false e range is = record { in_range = range; outcome = outcome; is_outcome = is; not_whole = e }
+
+  pub whole-fault : (ran : Ran S M) → MayRun program net o t ran → IfErr (whole_after ran) (IsFaultOfRun program net o t)
+  whole-fault (Ok outcome) may = if-stopped outcome (is_whole outcome) refl may.0 may.1
   whole-fault (Err fault) may = may

@@ -1,5 +1,5 @@
 -- The plan and the faults of a run of workers.
-use Rattle.std.proofs.Common.{◌≡◌, ◌≢◌, Bool, ℕ, suc, ◌-◌, ◌<◌, ◌≤◌, List, map, length, get_or, refl, sym, ap, ◌∙◌, arith, ⊎_elim, inl, inr}
+use Rattle.std.proofs.Common.{◌≡◌, ◌≢◌, Bool, true, ℕ, suc, ◌-◌, ◌<◌, ◌≤◌, List, map, length, get_or, refl, sym, ap, ◌∙◌, arith, ⊎_elim, inl, inr}
 use Rattle.std.specs.Prelude.{◌⊎◌}
 use Rattle.std.proofs.lemmas.Bool.{cases_lt}
 use Rattle.std.proofs.lemmas.List.{get_or-map, length-map, same_lists}
@@ -14,6 +14,7 @@ use Rattle.run_options.specs.declared.fault.PoolFault.TheVariants as pool
 use Rattle.run_options.specs.declared.fault.RunFault.{RunFault}
 use Rattle.run_options.specs.declared.fault.RunFault.TheVariants as run
 use Rattle.outcomes.specs.Outcome.{Outcome, node_in, start_of}
+use Rattle.node_api.specs.Program.{Program}
 use Rattle.alpha_core.specs.View.{Alpha}
 use Rattle.channel_plan.specs.PlanText.{plan_of}
 use Rattle.colour_rules.specs.declared.payload.Payload.{Payload}
@@ -24,7 +25,8 @@ use Rattle.plan_answers.specs.Answers.{IsPlainAnswer, ReadsAs}
 use Rattle.plan_answers.specs.RunFaults.{fault_of_run}
 use Rattle.plan_answers.proofs.Plain.{plain}
 use Rattle.plan_runs.specs.Colours.{merged_of}
-use Rattle.plan_runs.specs.Workers.{IsFaultOfPool, IsFaultOfRun, IsFaultOfTranscript, IsFaultOfWorkers}
+use Rattle.plan_runs.specs.Workers.{HasStopped, IsFaultOfPool, IsFaultOfRun, IsFaultOfTranscript, IsFaultOfWorkers}
+use Rattle.plan_runs.proofs.Recording.{read-as}
 
 -- ---- the faults
 ranges : (o : Options) → AreInRange o ⊎ (AreInRange o → ⊥)
@@ -62,20 +64,29 @@ without_transcript o transcript is =
     record { some_worker = is.some_worker; workers = is.workers; some_capacity = is.some_capacity; capacity = is.capacity }
 
 -- a fault of the run is one of its transcript
-pub transcript-fault : (o : Options) (fault : RunFault) → IsFaultOfRun o fault → IsFaultOfTranscript o fault
-transcript-fault o (run.Pool fault) is = is
-transcript-fault o run.Stopped is = is
-transcript-fault o run.Memory is = tt
+pub transcript-fault : {S M E : Type 0} (program : Program S M E) (net : Net) (o : Options) (fault : RunFault)
+    → IsFaultOfRun program net o true fault → IsFaultOfTranscript program net o fault
+transcript-fault program net o (run.Pool fault) is = is
+transcript-fault program net o run.Stopped is = is
+transcript-fault program net o run.Memory is = tt
 
 -- a network was read, and the fault of its run, or of the transcript, is that of the input
 only-network : (input : List ℕ) (net : Net) → ReadsAs input (λ read. IsNetwork read × (net ≡ read)) → ReadsAs input IsNetwork
 only-network input net (graph, reads, is) = (graph, reads, is.0)
 
-pub recorders-fault : (input : List ℕ) (net : Net) (o : Options) (fault : RunFault) → ReadsAs input (λ read. IsNetwork read × (net ≡ read))
-    → IsFaultOfTranscript o fault → IsFaultOfWorkers o input (fault_of_run fault)
-recorders-fault input net o (run.Pool fault) read is = (only-network input net read, is)
-recorders-fault input net o run.Stopped read is = (only-network input net read, is)
-recorders-fault input net o run.Memory read is = tt
+pub workers-fault : {S M E : Type 0} (program : Program S M E) (input : List ℕ) (net : Net) (o : Options) (t : Bool) (fault : RunFault)
+    → ReadsAs input (λ read. IsNetwork read × (net ≡ read)) → IsFaultOfRun program net o t fault
+    → IsFaultOfWorkers program o t input (fault_of_run fault)
+workers-fault program input net o t (run.Pool fault) read is = (only-network input net read, is)
+workers-fault program input net o t run.Stopped read is = read-as input net (λ read. HasStopped program read o t) read is
+workers-fault program input net o t run.Memory read is = absurd is
+
+pub recorders-fault : {S M E : Type 0} (program : Program S M E) (input : List ℕ) (net : Net) (o : Options) (fault : RunFault)
+    → ReadsAs input (λ read. IsNetwork read × (net ≡ read)) → IsFaultOfTranscript program net o fault
+    → IsFaultOfWorkers program o true input (fault_of_run fault)
+recorders-fault program input net o (run.Pool fault) read is = workers-fault program input net o true (run.Pool fault) read is
+recorders-fault program input net o run.Stopped read is = workers-fault program input net o true run.Stopped read is
+recorders-fault program input net o run.Memory read is = tt
 
 -- ---- the plan
 abbrev Left : Type 0

@@ -1,5 +1,5 @@
 -- The faults of runs of worker threads.
-use Rattle.std.specs.Prelude.{ℕ, Bool, List, Result, Ok, Err, if◌then◌else◌}
+use Rattle.std.specs.Prelude.{◌≡◌, ℕ, Bool, false, true, List, Result, Ok, Err, if◌then◌else◌}
 use Rattle.interference.specs.Net.{Net, IsNetwork}
 use Rattle.run_options.specs.Ranges.{AreInRange}
 use Rattle.run_options.specs.declared.Options.{Options}
@@ -36,19 +36,30 @@ abbrev pub whole_after : {S M : Type 0} → Ran S M → Result (Outcome S M) Run
 whole_after (Err fault) = Err (run.Pool fault)
 whole_after (Ok outcome) = if is_whole outcome then Ok outcome else Err run.Stopped
 
--- The fault of a run in which not every node was done. When a run is stopped isn't promised.
-abbrev pub IsFaultOfRun : Options → RunFault → Type 0
-IsFaultOfRun options (run.Pool fault) = IsFaultOfPool options fault
-IsFaultOfRun options run.Stopped = AreInRange options
-IsFaultOfRun options run.Memory = ⊥
+-- What a run left that stopped before all was done: an outcome that isn't whole.
+pub record HasStopped {S M E : Type 0} (program : Program S M E) (net : Net) (options : Options) (transcript : Bool)
+    : Type 0 where
+  pub in_range : AreInRange options
+  pub outcome : Outcome S M
+  pub is_outcome : IsOutcome program net options.capacity transcript outcome
+  pub not_whole : is_whole outcome ≡ false
+
+-- The fault of a run in which not every node was done. How many looks are enough isn't promised.
+abbrev pub IsFaultOfRun : {S M E : Type 0} → Program S M E → Net → Options → Bool → RunFault → Type 0
+IsFaultOfRun program net options transcript (run.Pool fault) = IsFaultOfPool options fault
+IsFaultOfRun program net options transcript run.Stopped = HasStopped program net options transcript
+IsFaultOfRun program net options transcript run.Memory = ⊥
 
 -- The fault of the transcript of a run: that of the run, or that memory ran out for the text.
-abbrev pub IsFaultOfTranscript : Options → RunFault → Type 0
-IsFaultOfTranscript options run.Memory = Unit {0}
-IsFaultOfTranscript options fault = IsFaultOfRun options fault
+abbrev pub IsFaultOfTranscript : {S M E : Type 0} → Program S M E → Net → Options → RunFault → Type 0
+IsFaultOfTranscript program net options run.Memory = Unit {0}
+IsFaultOfTranscript program net options fault = IsFaultOfRun program net options true fault
 
--- The fault of an input of `plan` and of `transcript`: that of the text, or else that of the run on its network.
-abbrev pub IsFaultOfWorkers : Options → List ℕ → PlanFault → Type 0
-IsFaultOfWorkers options input (plan.Pool fault) = ReadsAs input IsNetwork × IsFaultOfPool options fault
-IsFaultOfWorkers options input plan.Stopped = ReadsAs input IsNetwork × AreInRange options
-IsFaultOfWorkers options input fault = IsFaultOfText input fault
+-- The fault of an input of `plan`, without a transcript, and of `transcript`, with one: that of the text, or else that
+-- of the run of the program on its network.
+abbrev pub IsFaultOfWorkers : {S M E : Type 0} → Program S M E → Options → Bool → List ℕ → PlanFault → Type 0
+IsFaultOfWorkers program options transcript input (plan.Pool fault) =
+    ReadsAs input IsNetwork × IsFaultOfPool options fault
+IsFaultOfWorkers program options transcript input plan.Stopped =
+    ReadsAs input (λ net. IsNetwork net × HasStopped program net options transcript)
+IsFaultOfWorkers program options transcript input fault = IsFaultOfText input fault

@@ -1,6 +1,6 @@
 //! The transcript of a run of worker threads.
 
-ghost use Rattle.std.specs.Prelude.{◌≡◌, All, IfOk, IfErr, length, map};
+ghost use Rattle.std.specs.Prelude.{◌≡◌, All, IfOk, IfErr, length, map, true};
 ghost use Rattle.colour_rules.specs.Program.{colouring};
 ghost use Rattle.run_options.specs.Ranges.{AreInRange};
 ghost use Rattle.outcomes.specs.Gathers.{gathered_of};
@@ -87,7 +87,7 @@ pub fn run_transcript<P: ProgramText, G: Gate + Sync, R: Threads + Wait + Sync>(
     ensures ok { IfOk result (λ text. IsTranscriptOn P.program (payload_texts P.Payload.PayloadText.own)
         (stamped_edition P.texts) edition network text.items) }
     ensures in_range { IfOk result (λ _. AreInRange options) }
-    ensures fault { IfErr result (IsFaultOfTranscript options) }
+    ensures fault { IfErr result (IsFaultOfTranscript P.program network options) }
 {
     whole_outcomes_replay::<P, P::Payload, Refused>();
     let outcome = whole_run::<P, G, R>(rt, alloc, &network, options, true, gate)?;
@@ -114,7 +114,7 @@ pub fn transcript_bytes<G: Gate + Sync, R: Threads + Wait + Sync>(
 ) -> Result<Vec<u8>, PlanFault>
     ensures ok { IfOk result (λ text. IsTranscriptAnswer colouring colouring_payloads edition input.now text.items) }
     ensures in_range { IfOk result (λ _. AreInRange options) }
-    ensures fault { IfErr result (IsFaultOfWorkers options input.now) }
+    ensures fault { IfErr result (IsFaultOfWorkers colouring options true input.now) }
 {
     let network = network_of_text(alloc, input)?;
     Ok(run_transcript::<Colouring, G, R>(rt, alloc, network, options, edition, gate)?)

@@ -1,6 +1,7 @@
 //! Runs of worker threads, and the channel plan that they find.
 
-ghost use Rattle.std.specs.Prelude.{◌≡◌, true, IfOk, IfErr};
+ghost use Rattle.std.specs.Prelude.{◌≡◌, false, true, IfOk, IfErr};
+ghost use Rattle.colour_rules.specs.Program.{colouring};
 ghost use Rattle.run_options.specs.Ranges.{AreInRange};
 ghost use Rattle.outcomes.specs.Outcome.{IsOutcome, is_whole};
 ghost use Rattle.plan_answers.specs.Answers.{IsPlainAnswer};
@@ -45,7 +46,8 @@ fn unless_stopped<P: NodeProgram>(
 /// the options say of it.
 ///
 /// # Errors
-/// `Pool` with the fault of the run; `Stopped` if not every node was done within the looks.
+/// `Pool` with the fault of the run; `Stopped` only of an outcome that isn't whole, since not every node was done
+/// within the looks.
 pub fn whole_run<P: NodeProgram, G: Gate + Sync, R: Threads + Wait + Sync>(
     rt: &R,
     alloc: Global,
@@ -58,7 +60,7 @@ pub fn whole_run<P: NodeProgram, G: Gate + Sync, R: Threads + Wait + Sync>(
         (λ outcome. IsOutcome P.program network.now options.capacity transcript outcome) }
     ensures whole { IfOk result (λ outcome. is_whole outcome ≡ true) }
     ensures in_range { IfOk result (λ _. AreInRange options) }
-    ensures fault { IfErr result (IsFaultOfRun options) }
+    ensures fault { IfErr result (IsFaultOfRun P.program network.now options transcript) }
     ensures of_run { (ran : Ran P P.Payload)
         × MayRun P.program network.now options transcript ran × (result ≡ whole_after ran) }
 {
@@ -79,7 +81,8 @@ pub fn whole_run<P: NodeProgram, G: Gate + Sync, R: Threads + Wait + Sync>(
 ///
 /// # Errors
 /// As of `forest_bytes`; else `Pool` with the fault of the run, `BadOptions` only if the options are out of range; else
-/// `Stopped` if not every node was done within the looks; then `Memory` if there is no memory for the text.
+/// `Stopped` only of an outcome that isn't whole, since not every node was done within the looks; then `Memory` if the
+/// text is refused memory.
 pub fn plan_bytes<G: Gate + Sync, R: Threads + Wait + Sync>(
     rt: &R,
     alloc: Global,
@@ -89,7 +92,7 @@ pub fn plan_bytes<G: Gate + Sync, R: Threads + Wait + Sync>(
 ) -> Result<Vec<u8>, PlanFault>
     ensures ok { IfOk result (λ text. IsPlainAnswer input.now text.items) }
     ensures in_range { IfOk result (λ _. AreInRange options) }
-    ensures fault { IfErr result (IsFaultOfWorkers options input.now) }
+    ensures fault { IfErr result (IsFaultOfWorkers colouring options false input.now) }
 {
     colours_are_proper();
     whole_outcomes_are_complete::<Colouring, Payload, Refused>();

@@ -71,7 +71,10 @@ module _ {S M E : Type 0} (program : Program S M E) (texts : ProgramTexts S) (pa
   IsFaultPlay Rounds input fault = IsFaultOfText setting input fault
   IsFaultPlay (Alone show) input fault = IsFaultOfText setting input fault
   IsFaultPlay Ends input fault = IsFaultOfText setting input fault
-  IsFaultPlay (Run options show) input fault = IsFaultOfWorkers setting options input fault × (fault ≢ Pool BadOptions)
+  IsFaultPlay (Run options shown.States) input fault =
+      IsFaultOfWorkers program setting options false input fault × (fault ≢ Pool BadOptions)
+  IsFaultPlay (Run options shown.Transcript) input fault =
+      IsFaultOfWorkers program setting options true input fault × (fault ≢ Pool BadOptions)
 
   -- the bytes that nodes may answer, or the fault
   abbrev pub MayPlay : Play → List ℕ → Result (List ℕ) PlayFault → Type 0

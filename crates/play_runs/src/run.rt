@@ -1,6 +1,6 @@
 //! Runs of worker threads, and the last states of their nodes.
 
-ghost use Rattle.std.specs.Prelude.{◌≡◌, All, IfOk, IfErr, flat_map, map};
+ghost use Rattle.std.specs.Prelude.{◌≡◌, All, IfOk, IfErr, false, flat_map, map};
 ghost use Rattle.interference.specs.Net.{IsVertex};
 ghost use Rattle.run_options.specs.Ranges.{AreInRange};
 ghost use Rattle.outcomes.specs.Gathers.{gathered_of};
@@ -64,7 +64,7 @@ pub fn run_bytes<P: ProgramText, G: Gate + Sync, R: Threads + Wait + Sync>(
 ) -> Result<Vec<u8>, PlayFault>
     ensures ok { IfOk result (λ text. IsEndsAnswer P.program P.texts setting input.now text.items) }
     ensures in_range { IfOk result (λ _. AreInRange options) }
-    ensures fault { IfErr result (IsFaultOfWorkers setting options input.now) }
+    ensures fault { IfErr result (IsFaultOfWorkers P.program setting options false input.now) }
 {
     whole_outcomes_have_ended::<P, P::Payload, Refused>();
     P::rounds_solve();

@@ -1,6 +1,6 @@
 //! The transcript of nodes that worker threads ran, or one thread.
 
-ghost use Rattle.std.specs.Prelude.{◌≡◌, IfOk, IfErr};
+ghost use Rattle.std.specs.Prelude.{◌≡◌, IfOk, IfErr, true};
 ghost use Rattle.run_options.specs.Ranges.{AreInRange};
 ghost use Rattle.transcripts.specs.TranscriptText.{stamped_row_text, text_of};
 ghost use Rattle.program_texts.specs.PayloadTexts.{payload_texts};
@@ -79,7 +79,7 @@ pub fn run_transcript_bytes<P: ProgramText, G: Gate + Sync, R: Threads + Wait + 
     ensures ok { IfOk result (λ text. IsProgramTranscript P.program (payload_texts P.Payload.PayloadText.own) P.texts
         edition setting input.now text.items) }
     ensures in_range { IfOk result (λ _. AreInRange options) }
-    ensures fault { IfErr result (IsFaultOfWorkers setting options input.now) }
+    ensures fault { IfErr result (IsFaultOfWorkers P.program setting options true input.now) }
 {
     let network = network_of_text(alloc, input, setting)?;
     Ok(run_transcript::<P, G, R>(rt, alloc, network, options, edition, gate)?)

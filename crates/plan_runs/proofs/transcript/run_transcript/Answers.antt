@@ -43,4 +43,5 @@ returns-in-Ok-clause-ok g c =
 pub returns-in_err-outcome-clause-fault : goal.returns-in_err-outcome-clause-fault
 returns-in_err-outcome-clause-fault g c =
     let p = err_from_is_err_and c.from_residual.result c.from_residual.ensures.1 in
-    rw (p.1, p.2) (transcript-fault c.args.options c.in_err-outcome.field-0.0 c.in_err-outcome.ensures.fault)
+    rw (p.1, p.2) (transcript-fault g.P.NodeProgram.program c.args.network c.args.options c.in_err-outcome.field-0.0
+    c.in_err-outcome.ensures.fault)

@@ -38,7 +38,8 @@ returns-clause-in_range g c =
 
 pub returns-clause-fault : goal.returns-clause-fault
 returns-clause-fault g c =
-    subst (λ r. IfErr r (IsFaultOfRun c.args.options)) (sym c.unless_stopped.ensures.whole)
+    subst (λ r. IfErr r (IsFaultOfRun g.P.NodeProgram.program c.args.network.now c.args.options c.args.transcript))
+    (sym c.unless_stopped.ensures.whole)
     (whole-fault g.P.NodeProgram.program c.args.network.now c.args.options c.args.transcript c.run_workers.result (may g c))
 
 pub returns-clause-of_run : goal.returns-clause-of_run

@@ -34,5 +34,6 @@ returns-clause-ok g c =
 pub returns-in_err-outcome-clause-fault : goal.returns-in_err-outcome-clause-fault
 returns-in_err-outcome-clause-fault g c =
     let p = err_from_is_err_and c.from_residual-in_err-outcome.result c.from_residual-in_err-outcome.ensures.1 in
-    rw (p.1, p.2) (workers-fault c.args.setting c.args.input.now c.in_ok-network.network c.args.options c.in_err-outcome.field-0.0
+    rw (p.1, p.2) (workers-fault g.P.NodeProgram.program c.args.setting c.args.input.now c.in_ok-network.network c.args.options false
+    c.in_err-outcome.field-0.0
     c.in_ok-network.ensures.ok c.in_err-outcome.ensures.fault)

@@ -24,5 +24,5 @@ returns-clause-ok g c =
 pub returns-in_err-run_transcript-clause-fault : goal.returns-in_err-run_transcript-clause-fault
 returns-in_err-run_transcript-clause-fault g c =
     let p = err_from_is_err_and c.from_residual-in_err-run_transcript.result c.from_residual-in_err-run_transcript.ensures.1 in
-    rw (p.1, p.2) (recorders-fault c.args.setting c.args.input.now c.in_ok-network.network c.args.options c.in_err-run_transcript.field-0.0
-    c.in_ok-network.ensures.ok c.in_err-run_transcript.ensures.fault)
+    rw (p.1, p.2) (recorders-fault g.P.NodeProgram.program c.args.setting c.args.input.now c.in_ok-network.network c.args.options
+    c.in_err-run_transcript.field-0.0 c.in_ok-network.ensures.ok c.in_err-run_transcript.ensures.fault)
