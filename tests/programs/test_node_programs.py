@@ -200,6 +200,19 @@ class Programs(Case):
             replayed = (status, nodes, errors)
             self.same(f"{asked} on {net} replayed", replayed, (0, text(wanted), b""))
 
+    def test_long_transcript(self, leaves=24):
+        """Stamps pass 65,535. The node in the middle of a star makes R = 12 + 3·24·25 pulses, and by each port it puts
+        and takes a safe for each of them; each of these events has a stamp of its own."""
+        edges = "".join(f"e 1 {leaf}|" for leaf in range(2, leaves + 2))
+        net = f"p edge {leaves + 1} {leaves}|{edges}"
+        least = (12 + 3 * leaves * (leaves + 1)) * (1 + 2 * leaves)
+        status, run, errors = play("alone", "colouring", "--transcript", data=net)
+        self.same("a long run", (status, errors), (0, b""))
+        last = int(run.splitlines()[-1].split()[0]) if run else 0
+        self.note(f"its last stamp is at least {least}", last >= least > 65_535, last)
+        replayed = play("replay", "colouring", data=text(net) + run)
+        self.same("replayed", replayed[::2], (0, b""))
+
     def test_texts(self):
         for asked, net, wanted in ROUNDS:
             self.same(

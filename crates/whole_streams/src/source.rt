@@ -41,7 +41,10 @@ pub const READ_LIMIT: u32 = 1_073_741_824;
 
 const _: () = prove!(READ_LIMIT == 1_073_741_824);
 
+// A piece lies on the stack, which may be smaller in a thread of a caller's.
 const PIECE: usize = 65_536;
+
+const _: () = prove!(PIECE == 65_536);
 
 /// Why an input was not read whole.
 #[derive(Clone, Copy, Debug, Drop, PartialEq, Eq, thiserror::Error)]

@@ -1,4 +1,4 @@
-use Rattle.std.proofs.Common.{◌≡◌, ◌-◌}
+use Rattle.std.proofs.Common.{◌≡◌, ◌≤◌, ◌+◌, ◌-◌}
 use Rattle.alpha_laws.specs.Counts.{events_of_run}
 use Rattle.event_rule.specs.Progress.{events_in}
 use Rattle.lone_runs.specs.Recorded.{IsRecorded}
@@ -13,6 +13,7 @@ invariant-loop-did g l =
       recorded : IsRecorded m.program at l.recording.rows.items l.recording.table;
       net : at.net ≡ l.fn.recording.state.net;
       tick : IsBeforeTick m.program at.net at.state l.recording.rows.items l.stamp;
+      low : l.stamp ≤ events_in m.program at.net at.state + 1;
     }
 
 abbrev pub decreases-loop-did : goal.decreases-loop-did
