@@ -62,7 +62,7 @@ SAID_OF_LIMITS = {
         "| 0 | {MAX_TURNS} |",
         "| `--edition` | 1 | {MAX_EDITION} |",
         "a vertex, from 1 to {MAX_NODES:,}",
-        "anew, from 1 to {MAX_PASSES};",
+        "again, from 1 to {MAX_PASSES};",
         "from 1 to {MAX_CHANNEL:,}, up to {MAX_BARS:,} of them at one vertex",
     ),
     "docs/claim/PROMISES.md": (
