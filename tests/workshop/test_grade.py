@@ -27,6 +27,7 @@ class Grades(Submitted):
         """Right and wrong submissions, and strange ones: what is no file is no program, and a name that is no text, or
         is too long for a report, is its student's alone. No letter is printed that a terminal obeys.
         """
+        need(self, "bwrap", "libseccomp")
         shutil.copytree(RIGHT, os.path.join(self.subs, "anna"))
         self.submit(
             "anna",
@@ -70,7 +71,7 @@ class Grades(Submitted):
     def test_what_tries_to_reach_out(self):
         """A node of each kind that fails, and what it starts; all that is left is the table, and submissions as they
         were."""
-        need(self, "bwrap")
+        need(self, "bwrap", "libseccomp")
         other = os.path.join(self.subs, "ben", "rounds_node.py")
         attacks = {
             "another": f"open({other!r}).read()",
@@ -103,6 +104,7 @@ class Grades(Submitted):
 
     @needs("bin/forestplan", "bin/forestplay")
     def test_if_the_one_that_grades_is_killed(self):
+        need(self, "bwrap", "libseccomp")
         self.submit("anna", rounds_node_py=f"import os\nos.execvp('sleep', ['sleep', '{MARK}'])\n")
         given = {**os.environ, "TMPDIR": self.folder}  # what it leaves goes with the test
         words = [*DOOR, "grade", self.subs]
@@ -115,6 +117,7 @@ class Grades(Submitted):
     @needs("bin/forestplan", "bin/forestplay")
     def test_where_bubblewrap_isnt_there(self):
         """It says what to do; without grading nothing needs it."""
+        need(self, "libseccomp")
         tools = os.path.join(self.folder, "tools")
         os.makedirs(tools)
         for name in ("bash", "python3", "readlink", "dirname", "chmod", "rm"):
@@ -178,6 +181,7 @@ class Grades(Submitted):
     @needs("bin/forestplan", "bin/forestplay")
     def test_a_limit(self):
         """Whatever a program does with its time, a part ends, and says so."""
+        need(self, "bwrap", "libseccomp")
         slow = (
             "import sys, time\nfor line in sys.stdin:\n    if line == 'end\\n':\n        time.sleep(0.7)\n"
             "        print('put 0 x' if 0 else 'end', flush=True)\n"
