@@ -18,7 +18,7 @@ READERS = {
             "draws plans, rounds and runs, and makes pages that play them",
         ),
         "network": ("lab.networks.network", "makes networks, reads other forms, says what one is"),
-        "channels": ("lab.networks.channels", "puts real channel numbers in place of a plan's"),
+        "channels": ("lab.networks.channels", "replaces a plan's channels by real ones"),
     },
     "To run": {
         "simulate": (

@@ -154,7 +154,7 @@ def add_output(words) -> None:
     )
 
 
-def add_seed(words, what="whatever is by chance comes from it") -> None:
+def add_seed(words, what="whatever is random comes from it") -> None:
     words.add_argument(
         "--seed", default="1", metavar="WORD", help=f"any word or number; {what}; default: 1"
     )

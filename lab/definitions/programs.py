@@ -90,7 +90,7 @@ def add_program(words: ArgumentParser) -> None:
         "--passes",
         type=partial(count, most=MAX_PASSES),
         metavar="N",
-        help=f"how often recolouring chooses anew, 1 to {MAX_PASSES}; default: once",
+        help=f"how often recolouring chooses again, 1 to {MAX_PASSES}; default: once",
     )
     words.add_argument(
         "--lots", default="1", metavar="WORD", help="the seed of a file's `me.random`; default: 1"

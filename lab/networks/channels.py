@@ -14,7 +14,7 @@ from lab.words import add_output, bytes_at, one_line, parser_of, text_at, write
 from lab.wrong import Wrong, wrong_line
 
 HELP = """\
-Puts real channel numbers in place of a plan's channels, or the other way round.
+Replaces a plan's channels by real channel numbers, or the other way round.
 
 A plan counts channels from 1. TABLE has the real number of channel 1, then of channel
 2, and so on: `36 40 44 48`, or `1-13`, or `36-64/4` for each fourth; or it is a file, CSV

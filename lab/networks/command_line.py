@@ -11,7 +11,7 @@ Makes networks, reads them in other forms, and says what they are.
 {kinds}
   read FILE           another form of a network: pairs (CSV), edges, adjacency, and by
                       networkx GraphML, GML, JSON, ..; or sites and a reach
-  number FILE         the same network, with other numbers by chance
+  number FILE         the same network, with random numbers
   tell FILE           what a network is, what a run on it costs, or what is wrong with it;
                       or of a code of the programs, as C8, what it means and what to do
   names FILE          a plan on standard input, with the names of a network that was read
@@ -58,7 +58,7 @@ are named by their label, if each has one of its own, or by their name, or by th
 With a table of sites the nodes are its sites, in its order, and each end of a pair has to
 be one of them.
 
-A network of 1,000 nodes or more is numbered anew by breadth first search, from a node with
+A network of 1,000 nodes or more is numbered again by breadth first search, from a node with
 the fewest neighbours, so that a run takes less time. Lines `i V NUMBER` keep identifiers:
 each node has the same channel. What the programs write has the new numbers, and `names`
 puts names in their place. --keep-order leaves the numbers, for plans that have them.""",
@@ -67,11 +67,11 @@ puts names in their place. --keep-order leaves the numbers, for plans that have 
     ),
     "number": (
         "FILE [options]",
-        "Numbers the nodes of a network anew, by chance.",
+        "Gives the nodes of a network random numbers.",
         """\
 A node keeps its name; one without a name gets its old number as name. Identifiers and
 barred channels of lines `i` and `b` go with their nodes. The forests depend on the
-identifiers, and so does the plan. Of 1,000 nodes or more these are the numbers by chance,
+identifiers, and so does the plan. Of 1,000 nodes or more these are the random numbers,
 and the nodes are numbered once more, as by `read`; --keep-order leaves that out.""",
         "forestlab network number examples/petersen.col --seed 2 | forestplan forests",
     ),

@@ -171,15 +171,15 @@ KINDS = {
     "queen": Kind(
         queen, "squares of a board that a queen joins in one move", "They are numbered row by row."
     ),
-    "tree": Kind(tree, "each node but the first is joined to one before it, by chance"),
+    "tree": Kind(tree, "each node but the first is joined to a random one before it"),
     "disk": Kind(
         disk,
-        "places by chance in a square, joined if they are near",
+        "random places in a square, joined if they are near",
         "So transmitters interfere that are near each other (a unit-disk graph).",
     ),
     "random": Kind(
         any_edges,
-        "that many edges, by chance",
+        "that many random edges",
         "Each choice of edges is as likely as any other. With wishes, as --connected --neighbours 3\n"
         "--forests 2, it isn't, but the networks of all seeds are equally hard: with --neighbours D\n"
         "and --forests U the last pulse of each is 12 + 3·U·(D + 1).",

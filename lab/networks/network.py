@@ -28,7 +28,7 @@ from lab.wrong import Wrong
 # Kilometres: less than that no two sites are apart, and numbers of places have no such digits.
 LEAST_REACH = 1e-6
 # What is said of a large network.
-NEAR = "numbered anew by breadth first search; nodes keep their identifiers, and so their channels"
+NEAR = "numbered again by breadth first search; nodes keep their identifiers, and so their channels"
 
 
 def say(what: str) -> None:

@@ -35,7 +35,7 @@ def in_order(network: Network, order: Sequence[int], said: Mapping[int, int]) ->
 def renumbered(network: Network, seed: str | int) -> Network:
     """The vertices in an order by chance. An identifier that a line gives stays; another one is the new number."""
     order = shuffled(random.Random(seed), network.vertices)
-    return checked(in_order(network, order, network.said), f"{network.name}, numbered anew")
+    return checked(in_order(network, order, network.said), f"{network.name}, numbered again")
 
 
 def near_each_other(network: Network) -> Network:

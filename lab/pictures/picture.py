@@ -390,7 +390,7 @@ def command_line():
         kind.add_argument(
             "--title",
             metavar="NAME",
-            help="what the picture calls the network, in place of its file",
+            help="what the picture calls the network, instead of its file",
         )
         if does.of_programs:
             add_program(kind)

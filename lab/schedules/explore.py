@@ -39,7 +39,7 @@ possible unless all nodes are at the end and all links are empty.
 
 Of a file of your own whose `right` says that the rounds already end wrong, it writes
 these rounds, pulse by pulse, and of a larger network how the rounds end. With
---networks it plays the rounds on networks by chance, and writes a smallest one on
+--networks it plays the rounds on random networks, and writes a smallest one on
 which they end wrong.
 
 With --without it leaves rules out, and writes a list of events that goes wrong, with
@@ -59,7 +59,7 @@ nodes have fewer.
 
 With --reduce a safe or a close that comes next on its link is taken at once, and
 nothing else is tried in that state: it neither helps nor hinders what could come
-before it. Three nodes that are all neighbours then have 4,620 states in place of
+before it. Three nodes that are all neighbours then have 4,620 states instead of
 16,473. What goes wrong and all ends are found; shortest lists, the number of
 schedules, how far neighbours are apart and how much a link holds are not. It is
 refused without the rules safes and fifo, on which it rests.
@@ -129,7 +129,7 @@ def command_line() -> ArgumentParser:
         "--networks",
         type=partial(count, most=MOST_NETWORKS),
         metavar="N",
-        help="play the rounds of a file on N networks by chance, and ask its `right`",
+        help="play the rounds of a file on N random networks, and ask its `right`",
     )
     words.add_argument(
         "--connected", action="store_true", help="of --networks, connected networks alone"
@@ -162,7 +162,7 @@ def refused_together(given: Namespace) -> str:
     """Why these options don't go together, in words."""
     if given.networks:
         is_alone = not (given.network or given.without or given.list)
-        why = "--networks makes networks by chance: without NETWORK, --without and --list"
+        why = "--networks makes random networks: without NETWORK, --without and --list"
         return "" if is_alone else why
     if given.connected:
         return "--connected is for --networks"

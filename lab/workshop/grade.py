@@ -139,7 +139,7 @@ def command_line() -> argparse.ArgumentParser:
     words = parser_of("workshop grade", "FOLDER [options] [-- WORDS ..]", HELP, MORE_HELP)
     words.add_argument("folder", metavar="FOLDER", help="has a folder for each student")
     words.add_argument(
-        "--seed", metavar="S", help="of the runs; without it one by chance, which is printed"
+        "--seed", metavar="S", help="of the runs; without it a random one, which is printed"
     )
     words.add_argument(
         "--runs", type=count, metavar="N", help="of each assignment, to try it; default: as above"

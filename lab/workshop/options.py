@@ -23,7 +23,7 @@ input and writes its answers on standard output; docs/learn/PROTOCOL.md is the p
 for students. If there are several commands, the nodes get them in turn.
 
 NETWORK is a file, - for standard input, a name, as petersen or path5, or randomN, a
-network of N nodes by chance. Without one there are 100 runs on twelve small networks,
+random network of N nodes. Without one there are 100 runs on twelve small networks,
 with varied identifiers and bars, under the ten policies. Ten runs for each network play
 it once under each policy.
 """

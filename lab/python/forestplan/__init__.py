@@ -2,7 +2,7 @@
 
     plan = forestplan.plan(G)                                     # a dict {node: channel}; in a notebook its picture
     forestplan.plan(G, bars={"Hof": {6}}, licence=[1, 6, 11])     # channels of the licence, and none that is barred
-    forestplan.plan(G, passes=8)                                  # chosen anew eight times, mostly fewer channels
+    forestplan.plan(G, passes=8)                                  # chosen again eight times, usually fewer channels
     forestplan.check(G, {"Ulm": 1, "Hof": 2})                     # has anybody's plan judged: its greatest channel
     forestplan.sites({"Ulm": (48.4, 10)}, reach=5.5)              # the graph of sites that are near each other
 
@@ -165,7 +165,7 @@ def plan(
     """A plan, in which neighbours have different channels.
 
     `bars` is a dict with the channels barred at a node, and `licence` has the channels that all may use, in order of
-    preference; without it channels count from 1. In each of so many `passes` the nodes choose their channels anew,
+    preference; without it channels count from 1. In each of so many `passes` the nodes choose their channels again,
     which mostly takes fewer channels, and never more. With `workers`, 1 to 64, it is found by that many
     threads without a clock, but by no more than this process may use processors; else on one thread, much
     sooner. The plan is the same.
