@@ -12,6 +12,7 @@ from lab.definitions.nodes import NetState, last_pulse
 from lab.network import Network
 from lab.networks.network_text import network_of
 from lab.schedules import ruled_rounds, rules
+from lab.schedules.explore import rounded
 from lab.schedules.space import Space
 from tests import TOP
 from tests.cases import Case, called, found_in, said_by, text_in
@@ -307,6 +308,15 @@ class Schedules(Case):
                 path for path in paths if os.path.exists(os.path.join(path, rule.edit + ".edit"))
             ]
             self.note(f"the wrong body of {word}", len(found) == 1, rule)
+
+    def test_rounded(self):
+        """Two digits of a large number, rounded half up."""
+        for number, words in (
+            *((0, "0"), (999_999, "999,999"), (1_000_000, "1.0e6"), (1_249_999, "1.2e6")),
+            *((1_250_000, "1.3e6"), (9_949_999, "9.9e6"), (9_950_000, "1.0e7")),
+            *((99_499_999, "9.9e7"), (23 * 10**187, "2.3e188"), (10**189 - 1, "1.0e189")),
+        ):
+            self.same(f"{number:.9e}" if number else "0", rounded(number), words)
 
     def test_words(self):
         for words, status, fault in FAULTS:
