@@ -60,6 +60,12 @@ def changed(file: str, data: bytes, line: int, begin: int, end: int, new: str) -
     return Change(file, line, begin, end, new, *lines)
 
 
+def package_of(file: str) -> str:
+    """`networks` of lab/networks/near.py; a module of lab/ itself is of `lab`."""
+    folders = file.split("/")[1:-1]
+    return folders[0] if folders else "lab"
+
+
 class Changes(ast.NodeVisitor):
     """The changes of a file, in the order of its text. Sentences and constants of looks stay as they are."""
 

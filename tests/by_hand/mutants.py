@@ -4,14 +4,16 @@ whether that is noticed.
   python3 -m tests.by_hand.mutants nodes
       The right nodes of the workshop, minutes with the built programs: a change that no command of the pages shows is
       played in many runs, and printed. There it has to be right, too.
-  python3 -m tests.by_hand.mutants lab [--seed 2026] [--count 300] [--package NAME ..] [--jobs 2] [--minutes 600]
-      lab/: so many changes by chance, as many of each package as its share of lines. All tests run once in a copy of
-      the tree, where they say which of these places they reach. Then each change is made in a copy, and the tests that
-      reach it run up to the first that fails twice: those that take least come first, up to a minute of them.
+  python3 -m tests.by_hand.mutants lab [--seed 2026] [--count 300] [--package NAME ..]
+                                       [--jobs 2] [--seconds 3] [--minutes 600]
+      lab/: so many changes by chance, as many of each package as its share of lines, some at a time. Each is made in
+      a copy of the tree, where tests of its package run (tests/by_hand/trials.py) up to the first that fails and
+      passes without the change; they may take so many seconds of processors. After so many minutes none is begun.
       Tests that need the built programs run if TESTS_PLAN and TESTS_PLAY name them. It needs root, or another user who
       may make namespaces of processes. Each change is printed with the test that noticed it, and last how many were
       noticed, survived and are equal, by package: those that are equal stand in tests/by_hand/equal.txt, each as it is
-      printed, with the reason in the next line.
+      printed, with the reason in the next line, and aren't tried. One that survived may be noticed by a test that
+      wasn't asked, if not all were: look, and call that test.
   python3 -m tests.by_hand.mutants lab --list
       The changes that it would try."""
 import argparse
@@ -28,19 +30,13 @@ from collections import Counter, defaultdict
 from collections.abc import Iterator
 
 from tests import TOP
-from tests.by_hand.changes import TURNED, Change, changes_of, lines_left_out
+from tests.by_hand.changes import TURNED, Change, changes_of, lines_left_out, package_of
 from tests.by_hand.trials import Outcome, Trial
 
 EQUAL = os.path.join(TOP, "tests", "by_hand", "equal.txt")
 
 
 # The changes of lab/.
-
-
-def package_of(file: str) -> str:
-    """`networks` of lab/networks/near.py; a module of lab/ itself is of `lab`."""
-    folders = file.split("/")[1:-1]
-    return folders[0] if folders else "lab"
 
 
 def files_of_lab() -> list[str]:
@@ -99,15 +95,22 @@ def try_lab(given: argparse.Namespace) -> None:
         return
     found: dict[str, Counter[str]] = defaultdict(Counter)
 
-    def tell(change: Change, outcome: Outcome) -> None:
-        kind = "noticed" if outcome.by else "equal" if change.name in known else "survived"
+    def tell(change: Change, kind: str, how: str) -> None:
         found[package_of(change.file)][kind] += 1
-        by = f"by {outcome.by}" if outcome.by else f"{outcome.tests} of {outcome.reach} tests"
-        print(f"{kind} {change.place} in {outcome.seconds:.0f} s, {by}\n{change.name}", flush=True)
+        print(f"{kind} {change.place}{how}\n{change.name}", flush=True)
 
+    def tried(change: Change, outcome: Outcome) -> None:
+        which = f"all {outcome.tests}" if outcome.is_whole else f"{outcome.tests}"
+        how = f"by {outcome.by}" if outcome.by else f"{which} tests in {outcome.seconds:.1f} s"
+        tell(change, "noticed" if outcome.by else "survived", f", {how}")
+
+    for change in changes:
+        if change.name in known:
+            tell(change, "equal", "")
     with tempfile.TemporaryDirectory(prefix="mutants-") as room:
         os.chmod(room, 0o755)
-        Trial(room, given.jobs, changes, given.tests).run(tell, until)
+        trial = Trial(room, given.jobs, until, given.seconds)
+        trial.run([change for change in changes if change.name not in known], tried)
     whole = sum(found.values(), Counter[str]())
     print(f"seed {given.seed}: {whole.total()} of {len(changes)} changes were tried")
     for package, kinds in sorted(found.items()):
@@ -194,8 +197,8 @@ def main() -> None:
     words.add_argument("--seed", default="2026")
     words.add_argument("--count", type=int, default=300)
     words.add_argument("--package", action="append", default=[])
-    words.add_argument("--tests", action="append", default=[], metavar="MODULE")
     words.add_argument("--jobs", type=int, default=2)
+    words.add_argument("--seconds", type=float, default=3)
     words.add_argument("--minutes", type=float, default=600)
     words.add_argument("--list", action="store_true")
     given = words.parse_args()

@@ -1,6 +1,6 @@
 """Which payloads a transcript of each program may have: the words of docs/claim/FORMATS.md (the table of results and
 words), each with a number below a power of two, as wide as the crates' own payloads have it (`Hello(u128)`,
-`Label(u16)`, `Hops(u32)` and so on). It needs no built program; tests/programs/test_hostile.py has the same beside one."""
+`Hops(u32)` and so on). tests/programs/test_hostile.py has the same beside a built program."""
 from lab.transcripts.reading import read
 from lab.wrong import Wrong
 from tests.cases import Case

@@ -5,6 +5,7 @@ from random import Random
 
 from lab.definitions.colours import bit, three
 from lab.workshop.cases import KEPT, NETWORKS, cases_of, network_of, varied
+from lab.workshop.clock_run import OpenRun
 from tests.cases import Case
 from tests.workshop.base import options_of
 
@@ -114,6 +115,12 @@ class Networks(Case):
             pairs = nodes * (nodes - 1) // 2
             wanted = {min(pairs, count) for count in range(nodes - 1, 2 * nodes + 1)}
             self.same(f"numbers of edges of {nodes} nodes", counts, wanted)
+
+    def test_how_long_an_own_algorithm_may_take(self):
+        """20 pulses for each node and each pulse of the lessons' algorithm, by the greatest number of neighbours."""
+        # The row of three has 12 + 3·2·3 = 30 pulses, and the star of four 12 + 3·3·4 = 48.
+        for name, most in (("path3", 20 * (3 + 30)), ("star4", 20 * (4 + 48))):
+            self.same(name, OpenRun(network_of(name, Random("1"))).most_pulses, most)
 
 
 class Cases(Case):
