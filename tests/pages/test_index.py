@@ -254,6 +254,14 @@ class Index(FilesCase):
         for row in rows[2:]:
             self.note(row[0], re.fullmatch(r"\[.*\]\(#.*\)", row[0]) and len(row) == 5, row)
 
+    def test_gallery(self):
+        """GALLERY's table has each rule of the page, in the order of the page, with what it asks."""
+        text = text_in("docs", "learn", "GALLERY.md")
+        wanted = re.findall(r"^### `(\w+)`: (.*)$", text, re.M)
+        rows = re.findall(r"^\| \[`(\w+)`\]\(#[^)]*\) \| (.*?) \|", text, re.M)
+        self.same("rules of the table", rows, wanted)
+        self.note("there are such rules", len(wanted) > 10, len(wanted))
+
     def test_changes(self):
         """Each version of CHANGELOG has some of these kinds of changes, in this order, at most three lines for each."""
         kinds = ["Breaking", "Added", "Changed", "Fixed", "Removed"]
