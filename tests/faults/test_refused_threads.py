@@ -97,6 +97,29 @@ class RefusedThreads(Case):
             answer, _, threads = self.run_of(program, words)
             self.same(f"threads of {words}", (answer[0], threads), (0, [workers] * 3))
 
+    def test_others_stop(self):
+        """A worker makes no turn if it begins after a thread was refused, or after memory was refused to a turn of
+        another worker: with a transcript the first turn that does something asks for memory. The workers run one by
+        one. Each takes the nodes of its own deque first, so none can end the run without the other; after 1,000 looks
+        it stops."""
+        front = build_front(self.folder, "one_by_one")
+
+        def run_of(workers, **refused):
+            words = [PLAN, "transcript", "--turns", "1000", "--workers", str(workers)]
+            return under(front, words, TRIANGLE, **refused)
+
+        answer, (grown, late) = run_of(2)
+        self.same(
+            "two workers, one by one", (answer, late), ((3, b"", b"forestplan: stopped\n"), 0)
+        )
+        self.note("each of them asks for memory", grown > 4, grown)
+        for workers, thread in ((2, 2), (5, 2), (5, 5), (MOST_WORKERS, MOST_WORKERS)):
+            got = run_of(workers, REFUSE_THREAD=thread)
+            self.same(f"thread {thread} of {workers} is refused", got, (THREADS, [0, 0]))
+        got = [run_of(2, REFUSE=growth) for growth in range(1, grown + 1)]
+        wanted = [(MEMORY, [growth, 0]) for growth in range(1, grown + 1)]
+        self.same("each growth of a worker is refused in turn", got, wanted)
+
     def test_growths_of_workers(self):
         """With several workers a growth of one number is another one in each run. Each is refused, up to twenty more
         than there were in a run without refusals, and that twice for each number of workers."""

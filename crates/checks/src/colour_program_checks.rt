@@ -4,4 +4,5 @@ mod asked;
 mod cells;
 mod fed;
 mod refusals;
+mod rests;
 mod twins;

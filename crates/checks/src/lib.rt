@@ -47,6 +47,8 @@ mod pausing;
 #[cfg(test)]
 mod pool_checks;
 #[cfg(test)]
+mod resting;
+#[cfg(test)]
 mod samples;
 #[cfg(test)]
 mod shift_down_checks;

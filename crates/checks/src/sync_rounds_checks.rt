@@ -2,6 +2,7 @@
 
 use crate::counted::Counted;
 use crate::networks::network;
+use crate::resting::Resting;
 use interference::Network;
 use node_api::PayloadText;
 use std::alloc::Global;
@@ -107,4 +108,29 @@ fn every_pulse_makes_its_three_calls_in_order(rt: HostRuntime) {
     assert!(rt; make_calls::<0>(rt.alloc(), &net, 0));
     assert!(rt; make_calls::<1>(rt.alloc(), &net, 3));
     assert!(rt; make_calls::<7>(rt.alloc(), &net, 21));
+}
+
+// Whether the first node was called at each of three pulses, and each other at one at most.
+fn were_passed_over(nodes: &[Resting]) -> bool {
+    for i in 0..nodes.len() {
+        let calls = nodes[i].calls();
+        if calls > 1 && i > 0 || calls != 3 && i == 0 {
+            return false;
+        }
+    }
+    nodes.len() == 3
+}
+
+fn passes_over(alloc: Global, net: &Network) -> bool {
+    match run_rounds::<Resting>(alloc, net) {
+        Ok(nodes) => were_passed_over(nodes.as_slice()),
+        Err(_) => false,
+    }
+}
+
+// The path of three nodes has three pulses. An engine doesn't know of the first that nodes rest.
+#[test]
+fn a_node_that_rests_is_passed_over(rt: HostRuntime) {
+    let net = network(rt.alloc(), &[1, 2, 3], &PATH).expect(&rt, "network");
+    assert!(rt; passes_over(rt.alloc(), &net));
 }
