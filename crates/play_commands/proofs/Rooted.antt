@@ -46,8 +46,7 @@ module _ {S M E : Type 0} (program : Program S M E) (texts : ProgramTexts S) (pa
   plays Events input (Err fault) may = may
   plays Replay input (Err fault) may = may
   plays Rounds input (Err fault) may = may
-  plays (Run options shown.States) input (Err fault) may = may
-  plays (Run options shown.Transcript) input (Err fault) may = may
+  plays (Run options show) input (Err fault) may = may
   plays (Alone show) input (Err fault) may = may
   plays Ends input (Err fault) may = may
 
