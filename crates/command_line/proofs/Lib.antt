@@ -1,6 +1,7 @@
 mod Declining
 mod Defaults
 mod Entered
+mod Folding
 mod KnownPlays
 mod KnownRequests
 mod Lines

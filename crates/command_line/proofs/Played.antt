@@ -7,7 +7,8 @@ use Rattle.clap.specs.Simple.{Shape, filled, filled_from, help_rule}
 use Rattle.clap.specs.Walk.{Row, Rule, Text, first_of, has_row, nothing_held, rows_after, settled, walk, with_default}
 use Rattle.run_options.specs.Ranges.{AreInRange}
 use Rattle.run_options.specs.declared.Options.{Options}
-use Rattle.command_line.specs.Line.{alone_command, play_command, run_command}
+use Rattle.command_line.specs.declared.command_options.CommandOption.TheVariants.{Transcript}
+use Rattle.command_line.specs.Line.{command_of, program_options, run_options}
 use Rattle.command_line.specs.NodePrograms.{passes_rule, program_rule, root_rule, transcript_rule}
 use Rattle.command_line.specs.RunOptions.{options_of}
 use Rattle.command_line.proofs.Defaults.{default_comes, default_keeps, row_found}
@@ -17,13 +18,13 @@ use Rattle.command_line.proofs.Walked.{level_all}
 
 -- the rules of a command that plays a program, once it is built; and those of the two that run it
 abbrev pub play_rules : List Rule
-play_rules = filled_from 1 ((play_command (codes "events")).top.rules ++ help_rule ∷ [])
+play_rules = filled_from 1 ((command_of (codes "events") program_options).top.rules ++ help_rule ∷ [])
 
 abbrev pub run_rules : List Rule
-run_rules = filled_from 1 (run_command.top.rules ++ help_rule ∷ [])
+run_rules = filled_from 1 ((command_of (codes "run") (program_options ++ run_options ++ Transcript ∷ [])).top.rules ++ help_rule ∷ [])
 
 abbrev pub alone_rules : List Rule
-alone_rules = filled_from 1 (alone_command.top.rules ++ help_rule ∷ [])
+alone_rules = filled_from 1 ((command_of (codes "alone") (program_options ++ Transcript ∷ [])).top.rules ++ help_rule ∷ [])
 
 play_expected : AllByRecursion (Expected parser_at) play_rules
 play_expected = ((refl, refl, inl (refl, refl)), ((refl, refl, inl (refl, refl)), ((refl, refl, inl (refl, refl)), ((refl, refl, inr (inl refl)), tt))))

@@ -3,7 +3,7 @@ use Rattle.std.proofs.Common.{◌≡◌, ◌^◌, true, false, List, [], ◌∷�
 use Rattle.std.specs.List.{AllByRecursion}
 use Rattle.std.specs.Str.{bytes_eq}
 use Rattle.clap.specs.Faults.{level_fault}
-use Rattle.clap.specs.Simple.{Shape, filled, filled_from, help_rule, new_app}
+use Rattle.clap.specs.Simple.{Shape, filled, filled_from, help_rule}
 use Rattle.clap.specs.Walk.{Row, Rule, Text, has_row, nothing_held, rows_after, settled, walk, with_default}
 use Rattle.clap.specs.declared.builder.value_parser.ValueParser.{ValueParser}
 use Rattle.clap.specs.declared.builder.value_parser.ValueParser.TheVariants as vp
@@ -12,9 +12,10 @@ use Rattle.run_options.specs.Ranges.{AreInRange}
 use Rattle.run_options.specs.declared.Options.{Options}
 use Rattle.run_options.specs.declared.TheConstants.{MAX_CAPACITY, MAX_EDITION, MAX_TURNS, MAX_WORKERS}
 use Rattle.run_options.specs.declared.Edition.{Edition}
+use Rattle.command_line.specs.declared.command_options.CommandOption.TheVariants as option
 use Rattle.command_line.specs.declared.programs.TheConstants.{MAX_PASSES}
-use Rattle.command_line.specs.RunOptions.{capacity_rule, edition_of, edition_rule, edition_with, options_of, turns_rule, with_edition, with_run_options}
-use Rattle.command_line.specs.RunOptions.{workers_rule}
+use Rattle.command_line.specs.Line.{command_of, run_options}
+use Rattle.command_line.specs.RunOptions.{capacity_rule, edition_of, edition_rule, edition_with, options_of, turns_rule, workers_rule}
 use Rattle.command_line.proofs.Defaults.{default_comes, default_keeps, number_found}
 use Rattle.command_line.proofs.Passing.{AllPassed, Expected}
 use Rattle.command_line.proofs.Walked.{level_all}
@@ -32,10 +33,10 @@ parser_at id =
 
 -- the rules of a command with the options of a run, once it is built; and those of a transcript
 abbrev pub run_rules : List Rule
-run_rules = filled_from 1 ((with_run_options (new_app (codes "plan"))).top.rules ++ help_rule ∷ [])
+run_rules = filled_from 1 ((command_of (codes "plan") run_options).top.rules ++ help_rule ∷ [])
 
 abbrev pub transcript_rules : List Rule
-transcript_rules = filled_from 1 ((with_edition (with_run_options (new_app (codes "transcript")))).top.rules ++ help_rule ∷ [])
+transcript_rules = filled_from 1 ((command_of (codes "transcript") (run_options ++ option.Edition ∷ [])).top.rules ++ help_rule ∷ [])
 
 run_expected : AllByRecursion (Expected parser_at) run_rules
 run_expected = ((refl, refl, inl (refl, refl)), ((refl, refl, inl (refl, refl)), ((refl, refl, inl (refl, refl)), ((refl, refl, inr (inl refl)), tt))))

@@ -1,10 +1,15 @@
--- The command lines in clap's own words: an executable, and its commands.
-use Rattle.std.specs.Prelude.{◌≡◌, false, true, codes}
-use Rattle.clap.specs.Words.{App, Text, new_app, with_subcommand}
+-- The command lines in clap's own words: an executable, and its commands with their options.
+use Rattle.std.specs.Prelude.{◌≡◌, ◌∷◌, ◌++◌, List, [], false, true, codes}
+use Rattle.std.specs.List.{fold}
+use Rattle.clap.specs.Words.{App, Rule, Text, new_app, with_rule, with_subcommand}
 use Rattle.clap.specs.declared.builder.command.Command.{Command}
 use Rattle.clap.specs.declared.builder.command.Command.TheViews.{out-Command}
-use Rattle.command_line.specs.NodePrograms.{with_passes, with_program, with_root, with_transcript}
-use Rattle.command_line.specs.RunOptions.{with_edition, with_run_options}
+use Rattle.command_line.specs.NodePrograms.{passes_rule, program_rule, root_rule, transcript_rule}
+use Rattle.command_line.specs.RunOptions.{capacity_rule, edition_rule, turns_rule, workers_rule}
+use Rattle.command_line.specs.declared.commands.CommandRow.{CommandRow}
+use Rattle.command_line.specs.declared.command_options.CommandOption.{CommandOption}
+use Rattle.command_line.specs.declared.command_options.CommandOption.TheVariants.{Capacity, Edition, Passes, Program}
+use Rattle.command_line.specs.declared.command_options.CommandOption.TheVariants.{Root, Transcript, Turns, Workers}
 use Rattle.command_line.specs.declared.executable.Executable.{Executable}
 use Rattle.command_line.specs.declared.executable.Executable.TheVariants.{Forestplan, Forestplay}
 
@@ -25,55 +30,58 @@ without_commands name = record (new_app name) {
   };
 }
 
--- the commands that make something of a network in rounds, each a line; none has options
-abbrev pub with_network_commands : App → App
-with_network_commands program =
-    let with_forests : App = with_subcommand program (new_app (codes "forests")).top in
-    with_subcommand with_forests (new_app (codes "plain")).top
+-- an option
+abbrev pub rule_for : CommandOption → Rule
+rule_for Workers = workers_rule
+rule_for Capacity = capacity_rule
+rule_for Turns = turns_rule
+rule_for Edition = edition_rule
+rule_for Program = program_rule
+rule_for Root = root_rule
+rule_for Passes = passes_rule
+rule_for Transcript = transcript_rule
 
--- the commands that run workers, which have options
-abbrev pub plan_command : App
-plan_command = with_run_options (new_app (codes "plan"))
+-- a command with one option more
+abbrev pub with_option : App → CommandOption → App
+with_option command option = with_rule command (rule_for option)
 
-abbrev pub transcript_command : App
-transcript_command = with_edition (with_run_options (new_app (codes "transcript")))
+-- the command of a name with these options
+abbrev pub command_of : Text → List CommandOption → App
+command_of name options = fold with_option (new_app name) options
 
-abbrev pub with_worker_commands : App → App
-with_worker_commands program = with_subcommand (with_subcommand program plan_command.top) transcript_command.top
+-- a program with one command more
+abbrev pub with_command : App → Text × List CommandOption → App
+with_command program command = with_subcommand program (command_of command.0 command.1).top
 
--- all of these, and the one that checks a plan
-abbrev pub with_plan_commands : App → App
-with_plan_commands program =
-    with_subcommand (with_worker_commands (with_network_commands program)) (new_app (codes "check")).top
+-- the same with a row of the code
+abbrev pub with_row : App → CommandRow → App
+with_row program row = with_command program (row.name.now, row.options.now)
 
--- a command for lessons, which plays a program
-abbrev pub play_command : Text → App
-play_command name = with_passes (with_root (with_program (new_app name)))
+-- the options of a run of workers, and those that say what nodes run
+abbrev pub run_options : List CommandOption
+run_options = Workers ∷ Capacity ∷ Turns ∷ []
 
--- the command for lessons that runs workers, which has their options too
-abbrev pub run_command : App
-run_command = with_transcript (with_run_options (play_command (codes "run")))
+abbrev pub program_options : List CommandOption
+program_options = Program ∷ Root ∷ Passes ∷ []
 
--- the one that runs the nodes on one thread, which has none of those
-abbrev pub alone_command : App
-alone_command = with_transcript (play_command (codes "alone"))
-
--- the commands for lessons that print where nodes end, each a line
-abbrev pub with_run_commands : App → App
-with_run_commands program =
-    let with_run : App = with_subcommand program run_command.top in
-    let with_alone : App = with_subcommand with_run alone_command.top in
-    with_subcommand with_alone (play_command (codes "ends")).top
-
--- the commands for lessons, each a line
-abbrev pub with_play_commands : App → App
-with_play_commands program =
-    let with_events : App = with_subcommand program (play_command (codes "events")).top in
-    let with_replay : App = with_subcommand with_events (play_command (codes "replay")).top in
-    let with_rounds : App = with_subcommand with_replay (play_command (codes "rounds")).top in
-    with_run_commands with_rounds
+-- the commands of an executable, each a line: its name and its options
+abbrev pub commands_of : Executable → List (Text × List CommandOption)
+commands_of Forestplan =
+    (codes "forests", [])
+    ∷ (codes "plain", [])
+    ∷ (codes "plan", run_options)
+    ∷ (codes "transcript", run_options ++ Edition ∷ [])
+    ∷ (codes "check", [])
+    ∷ []
+commands_of Forestplay =
+    (codes "events", program_options)
+    ∷ (codes "replay", program_options)
+    ∷ (codes "rounds", program_options)
+    ∷ (codes "run", program_options ++ run_options ++ Transcript ∷ [])
+    ∷ (codes "alone", program_options ++ Transcript ∷ [])
+    ∷ (codes "ends", program_options)
+    ∷ []
 
 -- the whole command line of an executable
 abbrev pub line : Executable → App
-line Forestplan = with_plan_commands (without_commands (name_of Forestplan))
-line Forestplay = with_play_commands (without_commands (name_of Forestplay))
+line executable = fold with_command (without_commands (name_of executable)) (commands_of executable)

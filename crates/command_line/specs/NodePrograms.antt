@@ -3,7 +3,7 @@
 use Rattle.std.specs.Prelude.{◌≡◌, ◌-◌, ◌^◌, ◌&&◌, ℕ, List, [], ◌∷◌, Option, Some, None, if◌then◌else◌, codes, nat_le}
 use Rattle.std.specs.Prelude.{option_and_then, option_map}
 use Rattle.std.specs.Str.{bytes_eq}
-use Rattle.clap.specs.Words.{App, Row, Rule, Text, first_of, new_rule, with_rule}
+use Rattle.clap.specs.Words.{Row, Rule, Text, first_of, new_rule}
 use Rattle.clap.specs.declared.builder.action.ArgAction.TheVariants.{SetTrue}
 use Rattle.clap.specs.declared.builder.value_parser.ValueParser.TheVariants.{Unsigned}
 use Rattle.graph_limits.specs.declared.limits.TheConstants.{MAX_NODES}
@@ -45,22 +45,6 @@ transcript_rule = record (new_rule (codes "transcript")) {
   long = Some (codes "transcript");
   action = Some SetTrue;
 }
-
--- a command with the option that names a program
-abbrev pub with_program : App → App
-with_program command = with_rule command program_rule
-
--- a command with the option that gives a root
-abbrev pub with_root : App → App
-with_root command = with_rule command root_rule
-
--- a command with the option that gives a number of passes
-abbrev pub with_passes : App → App
-with_passes command = with_rule command passes_rule
-
--- a command with the option that asks for a transcript, after its others
-abbrev pub with_transcript : App → App
-with_transcript command = with_rule command transcript_rule
 
 -- the program that a word names, each a line
 abbrev pub program_with : Text → Option NodeProgramName

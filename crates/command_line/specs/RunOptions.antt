@@ -2,7 +2,7 @@
 use Rattle.std.specs.Prelude.{◌&&◌, ◌==◌, ◌^◌, ◌∷◌, [], ℕ, false, List, Option, Some, None, if◌then◌else◌, nat_lt}
 use Rattle.std.specs.Prelude.{codes, option_and_then, option_map}
 use Rattle.std.specs.Str.Parse.{digits_value, without_leading_plus}
-use Rattle.clap.specs.Words.{App, Row, Rule, Text, new_rule, one_of, with_rule}
+use Rattle.clap.specs.Words.{Row, Rule, Text, new_rule, one_of}
 use Rattle.clap.specs.ValueTests.{is_numeral}
 use Rattle.clap.specs.declared.builder.value_parser.ValueParser.TheVariants.{Unsigned}
 use Rattle.run_options.specs.declared.TheConstants.{MAX_CAPACITY, MAX_EDITION, MAX_TURNS, MAX_WORKERS}
@@ -32,14 +32,6 @@ turns_rule = number_rule (codes "turns") 0 MAX_TURNS (codes "1000000000")
 -- the option of a transcript
 abbrev pub edition_rule : Rule
 edition_rule = number_rule (codes "edition") 1 MAX_EDITION (codes "2")
-
--- a command with the options of a run
-abbrev pub with_run_options : App → App
-with_run_options command = with_rule (with_rule (with_rule command workers_rule) capacity_rule) turns_rule
-
--- a command with the option of a transcript behind its others
-abbrev pub with_edition : App → App
-with_edition command = with_rule command edition_rule
 
 -- the number below a bound that a text is; a plus may stand before it
 abbrev pub number_below : ℕ → Text → Option ℕ

@@ -22,6 +22,8 @@
 //! There is no `--version` and no command `help`. Limits: those of `run_options`.
 #![tactic(auto)]
 
+mod command_options;
+mod commands;
 mod declined;
 mod executable;
 mod help;

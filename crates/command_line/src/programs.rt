@@ -1,19 +1,12 @@
-//! The programs of nodes that a command can run, in `clap`'s builders and as what its words name.
+//! The programs of nodes that a command can run, as its words name them.
 
-ghost use Rattle.std.specs.Prelude.{◌≡◌, [], IfOk, codes, false, is_some, option_map, unwrap_or};
-ghost use Rattle.clap.specs.Words.{app_of, first_of, found_of, rows_of, rule_of};
-ghost use Rattle.command_line.specs.Line.{IsLocal};
-ghost use Rattle.command_line.specs.NodePrograms.{again_for, passed_program, passes_of, passes_rule, program_of};
-ghost use Rattle.command_line.specs.NodePrograms.{program_rule, program_with, root_of, root_rule, rooted_of};
-ghost use Rattle.command_line.specs.NodePrograms.{rooted_program, shown_of, transcript_rule, with_passes, with_program};
-ghost use Rattle.command_line.specs.NodePrograms.{with_root, with_transcript};
+ghost use Rattle.std.specs.Prelude.{◌≡◌, [], codes, is_some, option_map, unwrap_or};
+ghost use Rattle.clap.specs.Words.{first_of, found_of, rows_of};
+ghost use Rattle.command_line.specs.NodePrograms.{again_for, passed_program, passes_of, program_of, program_with};
+ghost use Rattle.command_line.specs.NodePrograms.{root_of, rooted_of, rooted_program, shown_of};
 
-use crate::help::{PASSES, PROGRAM, ROOT, SHOW_TRANSCRIPT};
 use crate::options::small_number;
-use clap::builder::ValueParser;
-use clap::{Arg, ArgAction, ArgMatches, Command};
-use graph_limits::MAX_NODES;
-use std::alloc::{AllocError, Global};
+use clap::ArgMatches;
 
 /// The most passes of the recolouring.
 pub const MAX_PASSES: u32 = 64;
@@ -44,101 +37,6 @@ pub enum Shown {
     States,
     /// What each node put, took and did.
     Transcript,
-}
-
-// The option that names a program.
-fn program<'a>(alloc: Global) -> Arg<'a>
-    ensures rule { rule_of result ≡ program_rule }
-    ensures local { result.global ≡ false }
-{
-    Arg::new(alloc, "program")
-        .long("program")
-        .value_name("NAME")
-        .default_value("colouring")
-        .help(PROGRAM)
-}
-
-// The option that gives a root.
-fn root<'a>(alloc: Global) -> Arg<'a>
-    ensures rule { rule_of result ≡ root_rule }
-    ensures local { result.global ≡ false }
-{
-    Arg::new(alloc, "root")
-        .long("root")
-        .value_name("V")
-        .value_parser(ValueParser::unsigned(1, u64::from(MAX_NODES)))
-        .help(ROOT)
-}
-
-// The option that gives a number of passes.
-fn number_of_passes<'a>(alloc: Global) -> Arg<'a>
-    ensures rule { rule_of result ≡ passes_rule }
-    ensures local { result.global ≡ false }
-{
-    Arg::new(alloc, "passes")
-        .long("passes")
-        .value_name("N")
-        .value_parser(ValueParser::unsigned(1, u64::from(MAX_PASSES)))
-        .help(PASSES)
-}
-
-// The option that asks for a transcript.
-fn transcript<'a>(alloc: Global) -> Arg<'a>
-    ensures rule { rule_of result ≡ transcript_rule }
-    ensures local { result.global ≡ false }
-{
-    Arg::new(alloc, "transcript")
-        .long("transcript")
-        .action(ArgAction::SetTrue)
-        .help(SHOW_TRANSCRIPT)
-}
-
-/// A command with the option `--program`.
-///
-/// # Errors
-/// If memory ran out.
-pub fn with_program<'a>(alloc: Global, command: Command<'a>) -> Result<Command<'a>, AllocError>
-    requires { IsLocal command }
-    ensures shape { IfOk result (λ c. app_of c ≡ with_program (app_of command.entry)) }
-    ensures local { IfOk result IsLocal }
-{
-    command.arg(program(alloc))
-}
-
-/// A command with the option `--root`.
-///
-/// # Errors
-/// If memory ran out.
-pub fn with_root<'a>(alloc: Global, command: Command<'a>) -> Result<Command<'a>, AllocError>
-    requires { IsLocal command }
-    ensures shape { IfOk result (λ c. app_of c ≡ with_root (app_of command.entry)) }
-    ensures local { IfOk result IsLocal }
-{
-    command.arg(root(alloc))
-}
-
-/// A command with the option `--passes`.
-///
-/// # Errors
-/// If memory ran out.
-pub fn with_passes<'a>(alloc: Global, command: Command<'a>) -> Result<Command<'a>, AllocError>
-    requires { IsLocal command }
-    ensures shape { IfOk result (λ c. app_of c ≡ with_passes (app_of command.entry)) }
-    ensures local { IfOk result IsLocal }
-{
-    command.arg(number_of_passes(alloc))
-}
-
-/// A command with the option `--transcript` after its others.
-///
-/// # Errors
-/// If memory ran out.
-pub fn with_transcript<'a>(alloc: Global, command: Command<'a>) -> Result<Command<'a>, AllocError>
-    requires { IsLocal command }
-    ensures shape { IfOk result (λ c. app_of c ≡ with_transcript (app_of command.entry)) }
-    ensures local { IfOk result IsLocal }
-{
-    command.arg(transcript(alloc))
 }
 
 // The first value of an option.
