@@ -7,6 +7,7 @@ import sys
 MODULES = {
     "completion": "completion",
     "crate-tables": "crate_tables",
+    "help-texts": "help_texts",
     "install": "install",
     "new-program": "new_program",
     "program": "program",

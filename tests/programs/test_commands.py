@@ -6,7 +6,7 @@ import re
 import subprocess
 import sys
 
-from build import completion
+from build import completion, help_texts
 from build.__main__ import MODULES
 from lab.__main__ import COMMANDS as OF_LAB
 from tests import TOP
@@ -107,8 +107,8 @@ def completed(script: str, line: str) -> tuple[set[str], bytes]:
 
 class Commands(Case):
     def test_help_texts(self):
-        """The table has each command of a program, and lab/help/ their texts; test_black_box.py compares these with the
-        programs'."""
+        """The table has each command of a program, and lab/help/ their texts as `python3 build help-texts` writes them;
+        test_black_box.py compares these with the programs'."""
         for program in PATHS:
             listed = completion.commands_in((program,), text_in("lab", "help", f"{program}.txt"))
             self.same(
@@ -121,6 +121,12 @@ class Commands(Case):
             {f"{name}.txt" for _, name in HELPS},
             set(os.listdir(os.path.join(TOP, "lab", "help"))),
         )
+        written = help_texts.help_texts()
+        self.same(
+            "the texts that help-texts writes", {f"{name}.txt" for _, name in HELPS}, set(written)
+        )
+        for name, text in written.items():
+            self.same(f"lab/help/{name} as its source has it", text_in("lab", "help", name), text)
 
     def test_scripts(self):
         """The table has each command of forestlab, and each command below one has an example in its help."""
