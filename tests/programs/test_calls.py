@@ -3,6 +3,7 @@ has a field that it doesn't know. Every malformed call gets a refusal that names
 
 import base64
 import json
+import os
 from unittest import mock
 
 from lab.definitions.nodes import Colouring
@@ -158,6 +159,18 @@ class Calls(FilesCase):
                         self.is_no_fault(row, found)
                     else:
                         self.names_it(row, field, found)
+
+    def test_a_fault_of_the_studio_says_its_place(self):
+        """The file and the line of the fault itself, and not of what has called it."""
+
+        def fault():
+            raise KeyError("nodes")
+
+        line, code = fault.__code__.co_firstlineno + 1, os.path.basename(fault.__code__.co_filename)
+        found = limits.outcome(lambda: fault())
+        self.assertTrue(found["fault"])
+        self.assertIn("KeyError", found["wrong"])
+        self.assertIn(f"({code} line {line})", found["wrong"])
 
     def test_twice(self):
         """A field that is there twice is named, and one whose value is doubled is no fault."""

@@ -157,6 +157,8 @@ class Endings(Case):
                 done.returncode == status
                 and done.stderr.count("\n") == 1
                 and done.stderr.startswith(said)
+                # The place is that of the fault itself, and not of what has called it.
+                and (status != 70 or done.stderr.endswith("(<string> line 1)\n"))
             )
             self.note(f"a command that fails by {fault}", good, done)
 

@@ -3,6 +3,7 @@
 import itertools
 import math
 import random
+import re
 
 from lab.networks import tables
 from lab.networks.network_text import MAX_NODES, network_of
@@ -75,6 +76,11 @@ class Sites(Case):
             (status, net.names, net.edges, net.bars),
             (0, {1: "Ulm", 2: "Aue", 3: "Hof"}, [(1, 2)], {3: [2]}),
         )
+        comments = [re.findall(rb"[0-9]+", line) for line in text.split(b"\n") if line[:2] == b"c "]
+        for pair in ([b"1", b"1"], [b"2", b"6"], [b"3", b"11"]):
+            self.note(
+                f"which number of the licence channel {pair[0]} is", pair in comments, comments
+            )
         self.same(
             "what is said",
             [line.partition(f"{sites}: ")[2] for line in said.decode().split("\n")[1:-1]],
