@@ -10,12 +10,12 @@ def rows_of(
     text: str, name: str, least: int = 1, below: int = 2**32
 ) -> list[tuple[int, int, int]]:
     """(line, vertex, channel) of the lines of a plan, with numbers in these bounds."""
-    rows = list(fields_by_line(text))
-    line, fields = rows[0] if rows else (1, [])
+    rows = fields_by_line(text)
+    line, fields = next(rows, (1, []))
     if fields != ["plan"]:
         raise wrong_line(name, line, "no line `plan` (C6)")
     found = []
-    for line, fields in rows[1:]:
+    for line, fields in rows:
         numbers = [number for number in map(whole, fields) if number is not None and number < below]
         if not len(numbers) == len(fields) == 2 or numbers[1] < least:
             what = f"no vertex and its channel: `{shown(' '.join(fields))}` (C6)"
