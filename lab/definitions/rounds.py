@@ -73,6 +73,12 @@ class Pulse:
     results: dict[int, str] = field(default_factory=dict)
     drawn: dict[int, tuple] = field(default_factory=dict)
 
+    def turn(self) -> tuple[int, int, int]:
+        """The step of a pulse of a merge."""
+        if self.step is None:
+            raise ValueError(f"pulse {self.number} is of no merge")
+        return self.step
+
     def lines(self, what_for: str, own: Iterable[tuple[int, str]]) -> Iterator[str]:
         """Its line of a text of rounds, and after it the lines of each vertex: its `own`, and its puts."""
         yield f"pulse {self.number} {what_for}".rstrip()

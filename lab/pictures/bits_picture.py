@@ -1,5 +1,6 @@
 """The bit lens: one node above its parent, digit by digit, over the four bit steps."""
 from lab.definitions.nodes import bit_step
+from lab.definitions.rounds import Rounds
 from lab.pictures.marks import colour_square
 from lab.pictures.palette import INK, PAPER, digits
 from lab.pictures.svg import Svg
@@ -13,7 +14,7 @@ LEFT, TOP, STEP = 150, 106, 84
 CELLS = ((80, 7), (40, 11), (8, 18), (0, 26))
 
 
-def child_asked(rounds, forest, vertex):
+def child_asked(rounds: Rounds, forest: int, vertex: int | None) -> int:
     """The vertex that is asked for, or else the first one that has a parent in a forest."""
     network = rounds.network
     children = [v for v in network.vertices if (v, forest) in rounds.parents]
@@ -25,7 +26,7 @@ def child_asked(rounds, forest, vertex):
     return vertex
 
 
-def draw(rounds, forest=0, vertex=None):
+def draw(rounds: Rounds, forest: int = 0, vertex: int | None = None) -> str:
     network = rounds.network
     rounds.asked_forests((forest, forest))
     vertex = child_asked(rounds, forest, vertex)
@@ -62,11 +63,19 @@ def draw(rounds, forest=0, vertex=None):
     return svg.document()
 
 
-def draw_pair(svg, top, pulse, child, parent, most, cell):
+def draw_pair(
+    svg: Svg,
+    top: float,
+    pulse: int,
+    child: tuple[int, int],
+    parent: tuple[int, int],
+    most: int,
+    cell: int,
+) -> None:
     """The two numbers after a pulse, and what the child makes of them in the next."""
     (_, own), (_, above) = child, parent
     is_last = pulse == LAST
-    place = None if is_last else bit_step(own, above) // 2
+    place = -1 if is_last else bit_step(own, above) // 2
     length = max(digits(own), digits(above))
     svg.text(20, top + 13, f"pulse {pulse}", 12, INK, bold=True)
     for row, (words, (node, number)) in enumerate((("node", child), ("parent", parent))):

@@ -2,38 +2,74 @@
 of a node and of those above it, pulse by pulse; in a merge, the network with what each node has; of a program that goes
 on where the colouring ends, what its nodes have found at their last pulse. What goes wrong is red."""
 from functools import partial
+from typing import Protocol
 
-from lab.definitions.nodes import Colouring
+from lab.definitions.nodes import Colouring, Program
+from lab.network import Network
 from lab.pictures.map_picture import box_of, draw_map
-from lab.pictures.marks import colour_square
+from lab.pictures.marks import Map, colour_square
 from lab.pictures.palette import INK, PAPER, SOFT, WRONG
 from lab.pictures.panel import PANEL, Panel
 from lab.pictures.program_rounds import ProgramRounds
-from lab.pictures.results_picture import draw_chosen, found_in, legend
+from lab.pictures.results_picture import Found, draw_chosen, found_in, legend
 from lab.pictures.rounds_picture import COLUMN, LEFT, ROW, SQUARE, draw_rows, place_of
 from lab.pictures.schedules_space import left_out_words
 from lab.pictures.svg import Svg, text_width, wrapped
-from lab.schedules.ruled_rounds import RuledSequel, looked_at, ruled
+from lab.schedules.ruled_rounds import Clash, Fault, RuledRounds, RuledSequel, looked_at, ruled
 from lab.words import in_words
 from lab.wrong import Wrong, at_most
 
 MOST_DRAWN, OVER, LEAST_WIDTH = 40, 48, 620
 
 
-def kind_of(rounds):
-    """What draws where rounds go wrong: the end of a sequel, a forest or a merge."""
-    if isinstance(rounds, RuledSequel):
-        return OfEnd
-    return OfForest if rounds.clash.pulse else OfMerge
+def drawn_by(rounds: RuledRounds | RuledSequel, right: RuledRounds | RuledSequel) -> "BrokenPicture":
+    """What draws where rounds go wrong, beside those with all rules: the end of a sequel, a forest or a merge."""
+    if isinstance(rounds, RuledSequel) and isinstance(right, RuledSequel):
+        return OfEnd(rounds, right)
+    if not isinstance(rounds, RuledRounds) or not isinstance(right, RuledRounds):
+        raise TypeError("both rounds are of one program")
+    if clash_of(rounds).pulse:
+        return OfForest(rounds, right)
+    return OfMerge(rounds, right)
 
 
-def draw(network, without, program=Colouring):
+def clash_of(rounds: RuledRounds) -> Clash:
+    """The clash of rounds that go wrong."""
+    if rounds.clash is None:
+        raise ValueError("these rounds go right")
+    return rounds.clash
+
+
+class BrokenPicture(Protocol):
+    """What draws both rounds: `step` is how far the second ones are from the first."""
+
+    @property
+    def width(self) -> float:
+        ...
+
+    @property
+    def height(self) -> float:
+        ...
+
+    @property
+    def step(self) -> tuple[float, float]:
+        ...
+
+    @property
+    def legend(self) -> str:
+        ...
+
+    def draw(self, svg: Svg, left: float, top: float, number: int) -> None:
+        ...
+
+
+def draw(network: Network | None, without: tuple[str, ...], program: Program = Colouring) -> str:
     """Of a network, or of a smallest one on which the rounds of a program go wrong."""
     rounds, where = looked_at(network, without, program)
     left_out = " and ".join(f"‘{rule}’" for rule in without)
     if rounds is None:
         raise Wrong(f"{where} without {','.join(without)}")
-    picture = kind_of(rounds)(rounds, ruled(program)(rounds.net, ()))
+    picture = drawn_by(rounds, ruled(program)(rounds.net, ()))
     width, (right, down) = max(picture.width, LEAST_WIDTH), picture.step
     said = [
         f"{line[0].upper()}{line[1:]}.".replace("'", "’")
@@ -62,18 +98,15 @@ def draw(network, without, program=Colouring):
     return svg.document()
 
 
-def title(rounds):
-    clash = rounds.clash
-    if not isinstance(rounds, RuledSequel):
+def title(rounds: RuledRounds | RuledSequel) -> str:
+    if isinstance(rounds, RuledRounds):
+        clash = clash_of(rounds)
         return f"nodes {clash.v} and {clash.w} get the same colour"
-    return (
-        f"node {clash.nodes[0]} goes wrong"
-        if len(clash.nodes) == 1
-        else f"nodes {in_words(clash.nodes)} go wrong"
-    )
+    nodes = rounds.faults[0].nodes
+    return f"node {nodes[0]} goes wrong" if len(nodes) == 1 else f"nodes {in_words(nodes)} go wrong"
 
 
-def check_size(rounds):
+def check_size(rounds: RuledRounds | RuledSequel) -> None:
     at_most(
         "broken",
         rounds.net.nodes,
@@ -90,8 +123,8 @@ def check_size(rounds):
 class OfForest:
     """A row for the node that goes wrong and for each one above it, the highest on top; a column for each pulse."""
 
-    def __init__(self, *both):
-        self.both, self.clash, net = both, both[0].clash, both[0].net
+    def __init__(self, *both: RuledRounds) -> None:
+        self.both, self.clash, net = both, clash_of(both[0]), both[0].net
         v = self.clash.v
         above: list[tuple[int, int | None]] = []
         # A colour after pulse P hangs on P - 2 nodes above it.
@@ -106,10 +139,10 @@ class OfForest:
             "An arrow leads to the parent."
         )
 
-    def draw(self, svg, left, top, number):
+    def draw(self, svg: Svg, left: float, top: float, number: int) -> None:
         lists = self.both[number].colours[self.clash.forest]
 
-        def square(v, pulse, x, y):
+        def square(v: int, pulse: int, x: float, y: float) -> None:
             colour_square(svg, x, y, SQUARE, lists[pulse - 2][v], is_name=pulse == 2)
 
         draw_rows(svg, left, top, self.parents, self.clash.pulse, square)
@@ -138,9 +171,9 @@ class OfMerge:
         "with all rules the colour so far, too, which is the channel less 1."
     )
 
-    def __init__(self, *both):
+    def __init__(self, *both: RuledRounds) -> None:
         check_size(both[0])
-        self.both, self.clash, self.net = both, both[0].clash, both[0].net
+        self.both, self.clash, self.net = both, clash_of(both[0]), both[0].net
         self.panel = Panel(self.net)
         self.forest_of = {e: self.net.number[frozenset(e)] for e in self.net.edges}
         words = (
@@ -150,7 +183,7 @@ class OfMerge:
         block = self.panel.height + OVER
         self.width, self.height, self.step = 40 + 3 * PANEL + words, 2 * block, (0, block)
 
-    def draw(self, svg, left, top, number):
+    def draw(self, svg: Svg, left: float, top: float, number: int) -> None:
         rounds, f, left = self.both[number], self.clash.forest, left + 20
         parents = {v: parent for v in self.net.vertices if (parent := self.net.parent(f, v))}
         titles = "channels before this merge", f"colours in forest {f}", "channels after this merge"
@@ -169,7 +202,7 @@ class OfMerge:
                 mark="chooses",
             )
 
-    def chooses(self, rounds):
+    def chooses(self, rounds: RuledRounds) -> list[str]:
         """How the two nodes that go wrong choose: in words, two lines for each."""
         f, without = self.clash.forest, rounds.without
         three, old, new = rounds.colours[f][-1], rounds.merged[f], rounds.merged[f + 1]
@@ -192,7 +225,7 @@ class OfMerge:
 class OfEnd:
     """Maps: what the nodes of a program have found at the end."""
 
-    def __init__(self, *both):
+    def __init__(self, *both: RuledSequel) -> None:
         check_size(both[0])
         self.net, self.faults = both[0].net, [rounds.faults for rounds in both]
         self.found = [found_in(ProgramRounds(self.net, rounds.program)) for rounds in both]
@@ -204,7 +237,7 @@ class OfEnd:
             f"What each node has found at the end{legend(self.found[1])}. Red: what isn’t right."
         )
 
-    def draw(self, svg, left, top, number):
+    def draw(self, svg: Svg, left: float, top: float, number: int) -> None:
         width, height, beside, _ = self.box
         draw_map(
             svg,
@@ -217,12 +250,13 @@ class OfEnd:
         )
 
 
-def draw_end(svg, found, faults, drawn):
+def draw_end(svg: Svg, found: dict[int, Found], faults: list[Fault], drawn: Map) -> None:
     """The edges that nodes have chosen, and below them a red one for each pair that isn't right; a node that isn't has
     a red ring."""
     for fault in faults:
         if len(fault.nodes) == 2:
-            drawn.edge(svg, *fault.nodes, WRONG, 8, mark="wrong")
+            v, w = fault.nodes
+            drawn.edge(svg, v, w, WRONG, 8, mark="wrong")
     draw_chosen(svg, drawn, found)
     for v in sorted({v for fault in faults for v in fault.nodes}):
         svg.circle(*drawn.places[v], drawn.radius + 4, PAPER, WRONG, 2.2, mark="wrong-node")

@@ -8,6 +8,7 @@ from lab.network import Network
 from lab.pictures.map_picture import EDGE, Vertex, begun, draw_map
 from lab.pictures.marks import Map, short_name
 from lab.pictures.palette import INK, PAPER, WIRES
+from lab.pictures.places import Point
 from lab.pictures.player_page import caption
 from lab.pictures.svg import Svg, text_width, wrapped
 from lab.words import counted
@@ -25,7 +26,7 @@ class Film:
     """The rounds that are shown, which are those in which something is sent or chosen, and when each of them begins.
     After them comes the end, which is shown like one more round."""
 
-    def __init__(self, rounds: Rounds):
+    def __init__(self, rounds: Rounds) -> None:
         self.rounds = rounds
         self.pulses = [pulse for pulse in rounds.pulses if pulse.puts or pulse.chosen]
         self.scenes = len(self.pulses) + 1
@@ -89,13 +90,13 @@ class Film:
 class Changing(Vertex):
     """A vertex with the channel that it has so far, and its number beside it."""
 
-    def __init__(self, network: Network, v: int, film: Film, channels: list[int | None]):
+    def __init__(self, network: Network, v: int, film: Film, channels: list[int | None]) -> None:
         super().__init__(network, v)
         self.film = film
         self.channels = channels
         self.words = f"{v} {short_name(network, v)}".rstrip()
 
-    def draw(self, svg: Svg, x: float, y: float, radius: float, spot: tuple[float, float]) -> None:
+    def draw(self, svg: Svg, x: float, y: float, radius: float, spot: Point) -> None:
         for channel, first, end in intervals(self.channels):
             self.channel = channel
             with svg.group(self.film.shown(first, end)):

@@ -4,6 +4,8 @@ Places are complex numbers while they are sought. No random number is used, and 
 network has one drawing on every machine."""
 from math import sqrt
 
+from lab.network import Network
+
 # Each vertex pays attention to those near to it, and to some that are far apart.
 NEAR, LANDMARKS = 3, 32
 SWEEPS, STILL = 200, 0.001
@@ -12,14 +14,14 @@ MOST_PULLS, LEAST_SWEEPS = 2_000_000, 20
 SPACE = 1.0
 
 
-def laid_out(network):
+def laid_out(network: Network) -> dict[int, tuple[float, float]]:
     """{vertex: (x, y)}, an edge being about 1 long: the connected parts one by one, the largest first, in rows."""
     parts = sorted(parts_of(network), key=lambda part: (-len(part), part[0]))
     places = in_rows([upright(network, placed(network, part)) for part in parts])
     return {v: (round(place.real, 6), round(place.imag, 6)) for v, place in places.items()}
 
 
-def parts_of(network):
+def parts_of(network: Network) -> list[list[int]]:
     """The vertices of each connected part, ascending."""
     seen, parts = set(), []
     for v in network.vertices:
@@ -30,7 +32,9 @@ def parts_of(network):
     return parts
 
 
-def distances(neighbours, start, most=None):
+def distances(
+    neighbours: dict[int, list[int]], start: int, most: int | None = None
+) -> dict[int, int]:
     """{vertex: edges on a shortest way to it}, up to a number of edges."""
     found, layer, far = {start: 0}, [start], 0
     while layer and far != most:
@@ -40,7 +44,7 @@ def distances(neighbours, start, most=None):
     return found
 
 
-def landmarks_of(network, part):
+def landmarks_of(network: Network, part: list[int]) -> list[tuple[int, dict[int, int]]]:
     """Vertices that are far from each other, with the distances from each: the next is always one farthest from those
     before."""
     nearest = dict.fromkeys(part, len(part))
@@ -55,7 +59,7 @@ def landmarks_of(network, part):
     return found
 
 
-def placed(network, part):
+def placed(network: Network, part: list[int]) -> dict[int, complex]:
     """The places of one part."""
     landmarks, pulls = landmarks_of(network, part), {
         v: distances(network.neighbours, v, NEAR) for v in part
@@ -69,7 +73,9 @@ def placed(network, part):
     )
 
 
-def first_places(part, landmarks):
+def first_places(
+    part: list[int], landmarks: list[tuple[int, dict[int, int]]]
+) -> dict[int, complex]:
     """By how much nearer each is to one landmark than to another: the first two give x, the next two y."""
     (_, left), (_, right), (_, above), (_, below) = (landmarks * 4)[:4]
     # A little of the number keeps apart vertices that all landmarks see alike.
@@ -82,7 +88,9 @@ def first_places(part, landmarks):
     }
 
 
-def relaxed(places, pulls):
+def relaxed(
+    places: dict[int, complex], pulls: dict[int, list[tuple[int, int]]]
+) -> dict[int, complex]:
     """Moves each vertex in turn to the mean of where the others want it, until all stay."""
     count = sum(map(len, pulls.values()))
     for _ in range(min(SWEEPS, max(LEAST_SWEEPS, MOST_PULLS // max(1, count)))):
@@ -100,7 +108,7 @@ def relaxed(places, pulls):
     return places
 
 
-def upright(network, places):
+def upright(network: Network, places: dict[int, complex]) -> dict[int, complex]:
     """Turned so that as many edges as can be are level or upright, and the whole is wider than high; its least vertex
     is in the upper left quarter."""
     edges = [places[w] - places[v] for v in places for w in network.neighbours[v]]
@@ -115,7 +123,7 @@ def upright(network, places):
     return {v: complex(across * place.real, down * place.imag) for v, place in turned.items()}
 
 
-def in_rows(parts):
+def in_rows(parts: list[dict[int, complex]]) -> dict[int, complex]:
     """Parts side by side from left to right, in rows about as wide as all of them are high."""
     boxes = [box_of(places) for places in parts]
     row = max(
@@ -132,7 +140,7 @@ def in_rows(parts):
     return found
 
 
-def box_of(places):
+def box_of(places: dict[int, complex]) -> tuple[complex, float, float]:
     """The upper left corner of places, their width and their height."""
     xs, ys = [place.real for place in places.values()], [place.imag for place in places.values()]
     return complex(min(xs), min(ys)), max(xs) - min(xs), max(ys) - min(ys)

@@ -1,23 +1,30 @@
 """The network alone: numbers in circles, joined where they interfere. What a question sheet shows; and the map of other
 pictures that have words beside the circles."""
+from collections.abc import Callable, Iterable, Mapping
+
+from lab.network import Network
 from lab.pictures.marks import (
     LARGE,
-    by_size,
     Map,
     bar_row,
     bars_width,
+    by_size,
     channel_circle,
     short_name,
     width_of_map,
 )
 from lab.pictures.palette import INK, PAPER, SOFT, text_on
-from lab.pictures.places import box_height, places_of
+from lab.pictures.places import Point, box_height, places_of
 from lab.pictures.svg import Svg, text_width
 from lab.words import counted
 
 MARGIN, BAR, GAP = 48, 9, 3
 # The colour and the width of an edge.
 EDGE = SOFT, 1.4
+
+
+# Width, height, how much of the width is beside the circles on each side, and the upper edge.
+Box = tuple[float, float, float, float]
 
 
 class Vertex:
@@ -28,7 +35,7 @@ class Vertex:
     channel: int | None = None
     fill = PAPER
 
-    def __init__(self, network, v):
+    def __init__(self, network: Network, v: int) -> None:
         number = str(network.identifiers[v]) if network.identifiers[v] != v else ""
         self.v, self.bars = v, network.bars.get(v, [])
         self.title = f"node {v}" + (f", identifier {number}" if number else "")
@@ -36,18 +43,18 @@ class Vertex:
         number = number if len(number) <= 12 else number[:5] + "…" + number[-5:]
         self.words = " ".join(filter(None, [number, short_name(network, v)]))
 
-    def room(self):
+    def room(self) -> float:
         """How wide its words and bars are."""
         return text_width(self.words, self.size) + (
             GAP + bars_width(self.bars, BAR) if self.bars else 0
         )
 
-    def draw(self, svg, x, y, radius, spot):
+    def draw(self, svg: Svg, x: float, y: float, radius: float, spot: Point) -> None:
         with svg.group("vertex", self.title):
             self.draw_circle(svg, x, y, radius)
         self.draw_beside(svg, spot)
 
-    def draw_circle(self, svg, x, y, radius):
+    def draw_circle(self, svg: Svg, x: float, y: float, radius: float) -> None:
         if self.channel:
             svg.circle(x, y, radius + 1.6, PAPER)
             channel_circle(svg, x, y, radius, self.channel)
@@ -56,7 +63,7 @@ class Vertex:
             svg.circle(x, y, radius, self.fill, INK, 1.6, mark=mark)
             svg.label(x, y + 0.36 * radius, self.v, round(0.95 * radius, 1), text_on(self.fill))
 
-    def draw_beside(self, svg, spot):
+    def draw_beside(self, svg: Svg, spot: Point) -> None:
         """Its words, and its barred channels."""
         left, width = spot[0] - self.room() / 2, text_width(self.words, self.size)
         if self.words:
@@ -73,7 +80,7 @@ class Vertex:
         bar_row(svg, left + width + GAP, spot[1], self.bars, BAR)
 
 
-def draw(network):
+def draw(network: Network) -> str:
     said = f"{counted(network.nodes, 'node')}, {counted(len(network.edges), 'edge')}"
     vertices = {v: Vertex(network, v) for v in network.vertices}
     svg, box = begun(network, vertices, f"Map of {network.name}", network.name, said)
@@ -81,7 +88,9 @@ def draw(network):
     return svg.document()
 
 
-def begun(network, vertices, title, *heading):
+def begun(
+    network: Network, vertices: Mapping[int, Vertex], title: str, *heading: str
+) -> tuple[Svg, Box]:
     """A picture with its heading, as wide as that and the map need; and the map's box."""
     svg, top = Svg(0, 0, title), 26 + 16 * len(heading)
     svg.heading(*heading)
@@ -90,7 +99,7 @@ def begun(network, vertices, title, *heading):
     return svg, box
 
 
-def box_of(network, vertices, least, top):
+def box_of(network: Network, vertices: Iterable[Vertex], least: float, top: float) -> Box:
     """The box of a map, at least so wide: width, height, how much of the width is for what is beside the circles on
     each side, and its upper edge."""
     beside, width = max(one.room() for one in vertices), width_of_map(network)
@@ -98,7 +107,15 @@ def box_of(network, vertices, least, top):
     return max(width + 2 * beside, least), height, beside, top
 
 
-def draw_map(svg, network, vertices, box, edge, draw_more=None, left=0):
+def draw_map(
+    svg: Svg,
+    network: Network,
+    vertices: Mapping[int, Vertex],
+    box: Box,
+    edge: tuple[str, float],
+    draw_more: Callable[[Map], None] | None = None,
+    left: float = 0,
+) -> None:
     """The map in a box: its edges in a colour and a width, on them what else is drawn, and the vertices."""
     width, height, beside, top = box
     radius, least = by_size(network, (8.5, 6.5), (14, 9), (17, 11))

@@ -1,7 +1,10 @@
 """The marks that the pictures share: vertices by their channel or colour, edges and arrows between them, legends."""
+from collections.abc import Collection
 from copy import copy
 from math import sqrt
+from typing import TypeVar
 
+from lab.network import Edge, Network
 from lab.pictures.palette import (
     FOREST_COLOURS,
     INK,
@@ -14,24 +17,31 @@ from lab.pictures.palette import (
     short,
     text_on,
 )
-from lab.pictures.places import OF_CIRCLES, bends, label_places, middle, moved, spaced
+from lab.pictures.places import OF_CIRCLES, Places, bends, label_places, middle, moved, spaced
+from lab.pictures.svg import Svg
 
 # Maps of more nodes than these are wider, and of more than the second have smaller circles and straight edges.
 SMALL, LARGE = 12, 40
 
 
-def by_size(network, large, middling, small):
+Value = TypeVar("Value")
+Drawing = TypeVar("Drawing", bound="Map")
+
+
+def by_size(network: Network, large: Value, middling: Value, small: Value) -> Value:
     """What is chosen for a network of so many nodes."""
     if network.nodes > LARGE:
         return large
     return middling if network.nodes > SMALL else small
 
 
-def width_of_map(network):
+def width_of_map(network: Network) -> int:
     return by_size(network, 900, 560, 420)
 
 
-def channel_circle(svg, x, y, radius, channel, mark="channel"):
+def channel_circle(
+    svg: Svg, x: float, y: float, radius: float, channel: int, mark: str = "channel"
+) -> None:
     """A channel: its hue, full or as a ring on white, and its number."""
     hue = channel_hue(channel)
     if is_ring(channel):
@@ -48,7 +58,7 @@ def channel_circle(svg, x, y, radius, channel, mark="channel"):
 MOST_BARS = 4
 
 
-def bars_width(channels, radius):
+def bars_width(channels: Collection[int], radius: float) -> float:
     """How much room a row of barred channels takes."""
     return (
         min(len(channels), MOST_BARS) * (2 * radius + 2)
@@ -56,10 +66,10 @@ def bars_width(channels, radius):
     )
 
 
-def bar_row(svg, x, y, channels, radius):
+def bar_row(svg: Svg, x: float, y: float, channels: Collection[int], radius: float) -> None:
     """The barred channels of a vertex, lowest first, to the right of a place: each in a ring of its hue, crossed
     out."""
-    for at, channel in enumerate(channels[:MOST_BARS]):
+    for at, channel in enumerate(list(channels)[:MOST_BARS]):
         middle_x = x + radius + at * (2 * radius + 2)
         svg.circle(middle_x, y, radius, PAPER, channel_hue(channel), 1, mark="bar")
         size = round(radius * (1.2, 1.0, 0.8, 0.62)[len(str(channel)) - 1], 1)
@@ -84,7 +94,16 @@ def bar_row(svg, x, y, channels, radius):
         )
 
 
-def colour_square(svg, x, y, half, colour, mark="colour", is_name=False, opacity=None):
+def colour_square(
+    svg: Svg,
+    x: float,
+    y: float,
+    half: float,
+    colour: int,
+    mark: str = "colour",
+    is_name: bool = False,
+    opacity: str | None = None,
+) -> None:
     """A colour of 0 to 5 in one forest; or a name, or another number that is no such colour yet: grey, darker the
     longer it is."""
     is_grey, text = is_name or colour >= len(FOREST_COLOURS), short(colour)
@@ -112,7 +131,7 @@ def colour_square(svg, x, y, half, colour, mark="colour", is_name=False, opacity
     )
 
 
-def alone_chip(svg, x, y, half, colour):
+def alone_chip(svg: Svg, x: float, y: float, half: float, colour: int) -> None:
     """The square of a vertex at which no edge of the forest ends: pale."""
     colour_square(svg, x, y, half, colour, "alone", opacity="0.3")
 
@@ -122,26 +141,47 @@ class Map:
     network not at all; and where `label` has put the vertices' numbers beside them."""
 
     def __init__(
-        self, network, places, width, height, margin, radius, least, apart=OF_CIRCLES, left=0, top=0
-    ):
+        self,
+        network: Network,
+        places: Places,
+        width: float,
+        height: float,
+        margin: float,
+        radius: float,
+        least: float,
+        apart: float = OF_CIRCLES,
+        left: float = 0,
+        top: float = 0,
+    ) -> None:
         places, self.radius = spaced(places, width, height, margin, radius, least, apart)
-        self.network, self.places, self.labels = network, moved(places, left, top), {}
-        self.bend = (
-            {} if network.nodes > LARGE else bends(self.places, network.edges, self.radius + 1)
-        )
+        self.network, self.places = network, moved(places, left, top)
+        self.labels: Places = {}
+        self.bend: dict[Edge, float] = {}
+        if network.nodes <= LARGE:
+            self.bend = bends(self.places, network.edges, self.radius + 1)
 
-    def label(self, distance, boxes):
+    def label(self, distance: float, boxes: Places) -> None:
         self.labels = label_places(
             self.places, self.network.edges, self.bend, distance, boxes, self.radius + 2
         )
 
-    def at(self, left, top):
+    def at(self: Drawing, left: float, top: float) -> Drawing:
         """The same map elsewhere."""
         other = copy(self)
         other.places, other.labels = moved(self.places, left, top), moved(self.labels, left, top)
         return other
 
-    def edge(self, svg, a, b, colour, width, head=0, distance=0, mark="edge"):
+    def edge(
+        self,
+        svg: Svg,
+        a: int,
+        b: int,
+        colour: str,
+        width: float,
+        head: float = 0,
+        distance: float = 0,
+        mark: str = "edge",
+    ) -> None:
         """An edge from a to b; with a head, an arrow whose tip is at this distance of b."""
         (x1, y1), (x2, y2), (mx, my) = (
             self.places[a],
@@ -160,13 +200,13 @@ class Map:
         if head:
             svg.head(tip_x, tip_y, ex, ey, head, colour)
 
-    def numbers(self, svg, size, down):
+    def numbers(self, svg: Svg, size: float, down: float) -> None:
         """The vertices' numbers at their places, whose middle is so far above the ground line."""
         for v, (x, y) in self.labels.items():
             svg.note(x, y + down, v, size, "middle", halo=2.5, mark="number")
 
 
-def wire_arrow(svg, x1, y1, x2, y2, kind):
+def wire_arrow(svg: Svg, x1: float, y1: float, x2: float, y2: float, kind: str) -> None:
     """A wire from where it was put to where it was taken."""
     size, width, dot = (9, 2.1, 2.2) if kind == "payload" else (6, 1.1, 1.6)
     svg.arrow(x1, y1, x2, y2, WIRES[kind], width, size, dash_of(kind), hollow=kind == "ack")
@@ -177,7 +217,7 @@ def wire_arrow(svg, x1, y1, x2, y2, kind):
 LONGEST_NAME = 12
 
 
-def short_name(network, v):
+def short_name(network: Network, v: int) -> str:
     """The name that the network's text gives a vertex, as there is room for it; `` if it gives none."""
     name = "".join(
         letter if letter.isprintable() else "\ufffd" for letter in network.names.get(v, "")
@@ -185,5 +225,5 @@ def short_name(network, v):
     return name if len(name) <= LONGEST_NAME else name[: LONGEST_NAME - 1].rstrip() + "…"
 
 
-def dash_of(kind):
+def dash_of(kind: str) -> str | None:
     return "4 2.5" if kind == "ack" else None

@@ -4,6 +4,7 @@ import json
 import os
 import re
 
+from lab.network import Network
 from lab.pictures.palette import (
     BLACK,
     CHANNEL_HUES,
@@ -26,7 +27,7 @@ MODULES = ("marks", "stage", "time", "rounds", "run")
 WIDE, HIGH, MARGIN, RADIUS, LEAST, APART = 1000, 700, 70, 22, 9, 3
 
 
-def hues():
+def hues() -> str:
     """The colours of all pictures, as the module hues.js."""
     given = {
         "INK": INK,
@@ -42,7 +43,7 @@ def hues():
     return "".join(f"export const {name} = {json.dumps(value)};\n" for name, value in given.items())
 
 
-def net_of(network):
+def net_of(network: Network) -> dict[str, object]:
     """A network as the modules have it. Identifiers are texts: they may have 39 digits."""
     least = min(LEAST, 10 * LEAST / max(1, network.nodes) ** 0.5)
     places = (
@@ -63,12 +64,12 @@ def net_of(network):
     return {"name": network.name, "nodes": nodes, "edges": network.edges}
 
 
-def text_of(name):
+def text_of(name: str) -> str:
     with open(os.path.join(FOLDER, name), encoding="utf-8") as file:
         return file.read()
 
 
-def joined(main):
+def joined(main: str) -> str:
     """The modules that a page needs as one script, on one line: imports and exports go, since all names are in one
     place, and comments: what is said to a reader has lines of its own, and types are in `/** .. */` on one line.
     """
@@ -78,7 +79,7 @@ def joined(main):
     return " ".join(line.strip() for line in text.split("\n") if line.strip())
 
 
-def page(template, main, data, **words):
+def page(template: str, main: str, data: dict[str, object], **words: str) -> str:
     """A page whose body is a template of page/ and whose script is the module `main` and those before it; `words` are
     escaped."""
     given = {name.upper(): escaped(text) for name, text in words.items()}
@@ -92,6 +93,6 @@ def page(template, main, data, **words):
     )
 
 
-def filled(template, **given):
+def filled(template: str, **given: str) -> str:
     """A template with these texts, as they are, in the places of their names."""
     return re.sub(r"@([A-Z]+)@", lambda found: given[found.group(1)], template)

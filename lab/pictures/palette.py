@@ -31,31 +31,31 @@ PALE = {"payload": "#E3F0F8", "ack": "#F4F4F4", "safe": "#FBE8DC", "close": "#E4
 DARK_FILLS = {"#0072B2", "#444444", "#004488", "#994455"}
 
 
-def text_on(fill):
+def text_on(fill: str) -> str:
     """The colour of a number on a fill."""
     return PAPER if fill in DARK_FILLS else BLACK
 
 
-def channel_hue(channel):
+def channel_hue(channel: int) -> str:
     return CHANNEL_HUES[(channel - 1) % len(CHANNEL_HUES)]
 
 
-def is_ring(channel):
+def is_ring(channel: int) -> bool:
     """Channels 9 to 16 are rings of the same hues, 17 to 24 full again, and so on."""
     return (channel - 1) // len(CHANNEL_HUES) % 2 == 1
 
 
-def digits(number):
+def digits(number: int) -> int:
     """How many binary digits a number has."""
     return max(1, number.bit_length())
 
 
-def grey(number):
+def grey(number: int) -> tuple[str, str]:
     """The level of the square of a number that is no colour yet: the more digits, the darker."""
     level = 235 - min(140, 7 * digits(number))
     return f"#{level:02X}{level:02X}{level:02X}", BLACK if level > 120 else PAPER
 
 
-def short(number):
+def short(number: int) -> str:
     """A number as a square has room for: `128d` is one of 128 binary digits."""
     return str(number) if number < 1000 else f"{digits(number)}d"

@@ -1,8 +1,9 @@
 """A small map of a network: a forest's edges and colours, or the channels once some forests are merged."""
+from lab.network import Edge, Network
 from lab.pictures.marks import LARGE, Map, alone_chip, by_size, channel_circle, colour_square
 from lab.pictures.palette import INK, PAPER, WRONG
 from lab.pictures.places import OF_SQUARES, box_height, places_of
-from lab.pictures.svg import text_width
+from lab.pictures.svg import Svg, text_width
 
 PANEL = 250
 FAINT, BEFORE = "#E6E6E6", "#9A9A9A"
@@ -11,7 +12,7 @@ FAINT, BEFORE = "#E6E6E6", "#9A9A9A"
 class Panel(Map):
     """A small map of a network, with sizes by the number of its nodes: of a forest's colours, or of channels."""
 
-    def __init__(self, network):
+    def __init__(self, network: Network) -> None:
         self.is_large = network.nodes > LARGE
         radius, least = by_size(network, (4.5, 3), (10, 7), (13, 10))
         places, margin = places_of(network), 14 if self.is_large else 34
@@ -22,7 +23,9 @@ class Panel(Map):
                 self.radius * 1.25 + 8, {v: (text_width(v, 8.5) / 2, 4) for v in network.vertices}
             )
 
-    def colours(self, svg, left, top, parents, colours):
+    def colours(
+        self, svg: Svg, left: float, top: float, parents: dict[int, int], colours: dict[int, int]
+    ) -> None:
         """A forest's edges as arrows to the parents, and colours in it; a pale chip where a vertex has no edge."""
         drawn, radius, thin = self.at(left, top), self.radius, 0.6 if self.is_large else 1
         joined = {v for edge in parents.items() for v in edge}
@@ -38,7 +41,16 @@ class Panel(Map):
             else:
                 alone_chip(svg, x, y, radius * 0.6, colours[v])
 
-    def channels(self, svg, left, top, forest_of, last, now, merged):
+    def channels(
+        self,
+        svg: Svg,
+        left: float,
+        top: float,
+        forest_of: dict[Edge, int],
+        last: int,
+        now: int,
+        merged: dict[int, int],
+    ) -> None:
         """The channels once the forests up to `last` are merged: edges of forest `now` in ink, of others in grey; red
         is what has one channel."""
         drawn, thin = self.at(left, top), 0.6 if self.is_large else 1
@@ -50,7 +62,9 @@ class Panel(Map):
         drawn.numbers(svg, 8.5, 3)
         self.circles(svg, drawn, {v for edge in wrong for v in edge}, merged, thin)
 
-    def circles(self, svg, drawn, ends, merged, thin):
+    def circles(
+        self, svg: Svg, drawn: "Panel", ends: set[int], merged: dict[int, int], thin: float
+    ) -> None:
         """The channels; `ends` are those of the edges in red."""
         for v, (x, y) in sorted(drawn.places.items()):
             if v in ends:
@@ -60,7 +74,7 @@ class Panel(Map):
             channel_circle(svg, x, y, self.radius, merged[v] + 1)
 
 
-def style_of(forest, last, now):
+def style_of(forest: int, last: int, now: int) -> tuple[str, float]:
     """The colour and the width of an edge once the forests up to `last` are merged."""
     if forest > last:
         return FAINT, 1

@@ -5,6 +5,7 @@ import argparse
 import gc
 import re
 import sys
+from argparse import ArgumentParser, Namespace
 from collections.abc import Callable, Sequence
 from dataclasses import dataclass
 from inspect import signature
@@ -14,6 +15,8 @@ from lab import programs
 from lab.definitions.colours import plan_text as plan_by_definition
 from lab.definitions.nodes import Colouring, Program
 from lab.definitions.programs import add_program, program_asked, program_words
+from lab.definitions.rounds import Rounds
+from lab.network import Network
 from lab.networks.named import network_bytes
 from lab.networks.network_text import network_of, stem
 from lab.networks.plan_text import read_plan
@@ -46,6 +49,7 @@ from lab.schedules.rules import (
 from lab.schedules.simulate import played, text_of_run
 from lab.words import (
     MOST_OF_TRANSCRIPT,
+    Parser,
     add_command,
     add_commands,
     add_output,
@@ -82,21 +86,21 @@ class Source:
     title: str | None = None
     progress: Callable[[int, int], None] | None = None
 
-    def text(self, form):
+    def text(self, form: str) -> Text:
         if self.texts:
             return self.texts[0]
         if not self.written:
             raise Wrong(f"there is no {form} to draw")
         return Text(self.network.name, self.written(form))
 
-    def plan(self):
+    def plan(self) -> dict[int, int]:
         text = self.text("plan")
         return read_plan(text.text, text.name, self.network)
 
-    def rounds(self):
+    def rounds(self) -> Rounds | ProgramRounds:
         return rounds_of(self.network, self.program)
 
-    def run(self, is_wrong_drawn=False):
+    def run(self, is_wrong_drawn: bool | None = False) -> Run:
         """The run of a transcript."""
         text, network, program = self.text("transcript"), self.network, self.program
         found = ordered(text.text, text.name, network, program, is_wrong_drawn)
@@ -106,30 +110,39 @@ class Source:
 # How each kind is drawn that isn't one call. What is named after the source are the options of its command line.
 
 
-def draw_rounds(of, forests, pulses):
+def draw_rounds(of: Source, forests: tuple[int, int] | None, pulses: tuple[int, int] | None) -> str:
     rounds = of.rounds()
-    if of.program is Colouring:
+    if isinstance(rounds, Rounds):
         return rounds_picture.draw(rounds, forests)
     if forests:
         raise Wrong(f"{of.program.name} has no forests")
     return program_picture.draw(rounds, pulses)
 
 
-def draw_why(of, vertex, in_words):
-    cone = why_picture.Cone(of.rounds(), vertex)
+def draw_why(of: Source, vertex: int | None, in_words: bool | None) -> str:
+    rounds = of.rounds()
+    if not isinstance(rounds, Rounds):
+        raise Wrong(f"{of.program.name} has no channels")
+    cone = why_picture.Cone(rounds, vertex)
     return why_picture.text(cone) if in_words else why_picture.draw(cone)
 
 
-def draw_run(of, pulses, only, wrong, stopped):
+def draw_run(
+    of: Source,
+    pulses: tuple[int, int] | None,
+    only: tuple[str, ...] | None,
+    wrong: bool | None,
+    stopped: int | None,
+) -> str:
     last = of.program.last_pulse(of.network)
     shown = window_of(of.network.name, last, pulses, 3)
     run = of.run(wrong)
     if run.wrong and not pulses:
-        shown = wrong_run.usual_pulses(run)
-    return run_picture.draw(run, shown, only, wrong, stopped)
+        shown = wrong_run.usual_pulses(run, run.wrong[0])
+    return run_picture.draw(run, shown, only, bool(wrong), stopped)
 
 
-def draw_watch(of, pulses):
+def draw_watch(of: Source, pulses: tuple[int, int] | None) -> str:
     texts = of.texts or [of.text("transcript")]
     return watch_page.draw(
         [
@@ -139,7 +152,7 @@ def draw_watch(of, pulses):
     )
 
 
-def draw_schedules(of, without, columns):
+def draw_schedules(of: Source, without: tuple[str, ...], columns: tuple[int, int] | None) -> str:
     space = schedules_space.space_of(of.network, without, of.program, of.progress)
     return schedules_picture.draw(of.network, space, columns)
 
@@ -299,7 +312,7 @@ line is refused; if a program refuses, its own line and status.
 """
 
 
-def numbers(text):
+def numbers(text: str) -> tuple[int, int]:
     """One number, or the first and the last of several."""
     found = re.fullmatch(r"([0-9]{1,9})(?:\.\.([0-9]{1,9}))?", text)
     if not found:
@@ -307,7 +320,7 @@ def numbers(text):
     return int(found[1]), int(found[2] or found[1])
 
 
-def add_texts(kind, name):
+def add_texts(kind: ArgumentParser, name: str) -> None:
     """The texts that a kind draws, and what a run is to be of."""
     if form := FORM.get(name):
         said = f"a stored {form} text, or - for standard input"
@@ -319,11 +332,11 @@ def add_texts(kind, name):
         add_pulses(kind, "--pulses", "these pulses alone")
 
 
-def add_pulses(kind, option, said, dest=None):
+def add_pulses(kind: ArgumentParser, option: str, said: str, dest: str | None = None) -> None:
     kind.add_argument(option, type=numbers, metavar="A..B", dest=dest, help=said)
 
 
-def add_rules(kind, name):
+def add_rules(kind: ArgumentParser, name: str) -> None:
     """The options of the kinds that leave rules out."""
     if name == "schedules":
         kind.add_argument(
@@ -345,7 +358,7 @@ def add_rules(kind, name):
         )
 
 
-def add_parts(kind, name):
+def add_parts(kind: ArgumentParser, name: str) -> None:
     """The options that say which part of the rounds or of a run is drawn."""
     if name == "rounds":
         said = "these forests alone, or one, as 2, counted from 0"
@@ -372,7 +385,7 @@ def add_parts(kind, name):
         kind.add_argument("--stopped", type=int, metavar="V", help=said)
 
 
-def command_line():
+def command_line() -> Parser:
     words = parser_of("picture", "KIND NETWORK [options]", HELP, MORE_HELP)
     words.set_defaults(stored=None)
     kinds = add_commands(words, "kind")
@@ -402,7 +415,7 @@ def command_line():
     return words
 
 
-def drawing(kind, of, **options):
+def drawing(kind: str, of: Source, **options: object) -> str:
     """The picture of a kind: SVG, a page or words, of a source, with those of these options that the kind has. No file
     is read, and nothing said: a fault raises `Wrong`."""
     if of.network is not None:
@@ -419,11 +432,11 @@ def drawing(kind, of, **options):
 # From the command line.
 
 
-def note(what):
+def note(what: str) -> None:
     print(f"picture: {what}", file=sys.stderr)
 
 
-def plan_text(network, network_text):
+def plan_text(network: Network, network_text: bytes) -> str:
     """The plan of the proved program; where that isn't built, of the definitions, which is said."""
     if programs.built("forestplan"):
         return programs.text_of("forestplan", ["plain"], network_text)
@@ -433,7 +446,7 @@ def plan_text(network, network_text):
     return plan_by_definition(network).decode()
 
 
-def run_text(kind, network, network_text, program):
+def run_text(kind: str, network: Network, network_text: bytes, program: Program) -> str:
     """The transcript of a run: by threads of a proved program, by seed of one from a file."""
     wires = least_wires(network, program)
     if wires > MOST_WIRES:
@@ -448,11 +461,11 @@ def run_text(kind, network, network_text, program):
     return programs.text_of("forestplay", words, network_text)
 
 
-def progress(states, events):
+def progress(states: int, events: int) -> None:
     note(f"{states:,} states, up to {events} events")
 
 
-def drawn(given):
+def drawn(given: Namespace) -> str:
     """The picture that the command line asks for."""
     stored = given.stored or []
     if given.kind == "watch" and len(stored) > 2:
@@ -479,7 +492,7 @@ def drawn(given):
     return picture
 
 
-def main(words):
+def main(words: list[str]) -> int:
     gc.disable()  # It draws one picture and ends; on long texts the collector would take a third of the time.
     given = command_line().parse_args(words)
     if given.kind == "broken" and (why := unknown_to(given.program, given.without)):

@@ -1,9 +1,12 @@
 """Where the vertices of a network are drawn: at given places, on a circle, or laid out by the edges (layout.py)."""
+from collections.abc import Callable, Collection, Iterable, Iterator
 from math import cos, inf, pi, sin, sqrt
 
+from lab.network import Edge, Network
 from lab.pictures.layout import laid_out
 
 Point = tuple[float, float]
+Places = dict[int, Point]
 
 LARGEST_CIRCLE = 6
 # How far apart two vertices are at least, in radii: circles don't touch then; and neither do squares of twice that
@@ -14,7 +17,7 @@ PUSHES = 200
 SHORT, LITTLE = 5, 1.5
 
 
-def places_of(network):
+def places_of(network: Network) -> Places:
     """{vertex: (x, y)}: the comment lines `c at V X Y` if they name every vertex; else a circle for up to six; else a
     layout."""
     if all(v in network.places for v in network.vertices):
@@ -22,7 +25,7 @@ def places_of(network):
     return circle(network.nodes) if network.nodes <= LARGEST_CIRCLE else laid_out(network)
 
 
-def unused_places(network):
+def unused_places(network: Network) -> str | None:
     """Of a network that places some of its vertices: that they are drawn elsewhere, in words; else None."""
     named = sum(v in network.places for v in network.vertices)
     if named in (0, network.nodes):
@@ -30,23 +33,23 @@ def unused_places(network):
     return f"{network.name}: places are given for {named} of {network.nodes} vertices, so they aren't used"
 
 
-def turned(turn):
+def turned(turn: float) -> Point:
     """The unit vector turned from the top clockwise; rounded, since `sin` may differ from machine to machine."""
     return round(sin(2 * pi * turn), 9), -round(cos(2 * pi * turn), 9)
 
 
-def circle(nodes):
+def circle(nodes: int) -> Places:
     """Vertex 1 on top, then clockwise."""
     return {v: turned((v - 1) / nodes) for v in range(1, nodes + 1)}
 
 
-def extent(places):
+def extent(places: Places) -> Point:
     """Width and height of the places, at least a little."""
     xs, ys = [x for x, _ in places.values()], [y for _, y in places.values()]
     return max(xs) - min(xs) or 1e-9, max(ys) - min(ys) or 1e-9
 
 
-def fit(places, width, height, margin):
+def fit(places: Places, width: float, height: float, margin: float) -> Places:
     """The places, scaled evenly and put in the middle of a box."""
     wide, high = extent(places)
     scale = min((width - 2 * margin) / wide, (height - 2 * margin) / high)
@@ -58,7 +61,15 @@ def fit(places, width, height, margin):
     }
 
 
-def spaced(places, width, height, margin, radius, least, apart):
+def spaced(
+    places: Places,
+    width: float,
+    height: float,
+    margin: float,
+    radius: float,
+    least: float,
+    apart: float,
+) -> tuple[Places, float]:
     """The places fitted into a box, and the radius that they leave: at most `radius`. Vertices too near for `least` are
     pushed apart, as far as the box allows; no two of the radius overlap in any case."""
     places = fit(places, width, height, margin)
@@ -71,11 +82,11 @@ def spaced(places, width, height, margin, radius, least, apart):
     return places, max(0.1, min(gaps, default=apart * radius) / apart)
 
 
-def moved(places, left, top):
+def moved(places: Places, left: float, top: float) -> Places:
     return {v: (x + left, y + top) for v, (x, y) in places.items()}
 
 
-def near_pairs(places, least):
+def near_pairs(places: Places, least: float) -> Iterator[Edge]:
     """The pairs less than `least` apart, both one after the other."""
     order = sorted(places, key=lambda v: (places[v][0], v))
     for at, v in enumerate(order):
@@ -86,7 +97,7 @@ def near_pairs(places, least):
                 yield v, w
 
 
-def pushed_apart(places, near, least):
+def pushed_apart(places: Places, near: Iterable[Edge], least: float) -> Places:
     """Moves each of the near pairs apart, along its line; a pair on one point in a direction of its own."""
     places = dict(places)
     for v, w in near:
@@ -100,13 +111,13 @@ def pushed_apart(places, near, least):
     return places
 
 
-def box_height(places, width, margin, least):
+def box_height(places: Places, width: float, margin: float, least: float) -> float:
     """The height of a box of this width that the places fill: from `least` to the width itself."""
     wide, high = extent(places)
     return max(least, min(width, 2 * margin + (width - 2 * margin) * high / wide))
 
 
-def bends(places, edges, radius):
+def bends(places: Places, edges: Collection[Edge], radius: float) -> dict[Edge, float]:
     """How far each edge is bent, to the left seen from its lower vertex: one that passes a third vertex too near."""
     found = {}
     for a, b in edges:
@@ -123,7 +134,7 @@ def bends(places, edges, radius):
     return found
 
 
-def middle(places, bend, a, b):
+def middle(places: Places, bend: dict[Edge, float], a: int, b: int) -> Point:
     """The point towards which the edge from a to b is drawn: on it if it is straight."""
     by = bend.get((min(a, b), max(a, b)), 0) * (1 if a < b else -1)
     (x1, y1), (x2, y2) = places[a], places[b]
@@ -132,7 +143,9 @@ def middle(places, bend, a, b):
     return (x1 + x2) / 2 + dy / length * by * 2, (y1 + y2) / 2 - dx / length * by * 2
 
 
-def points_along(places, bend, a, b, count=12):
+def points_along(
+    places: Places, bend: dict[Edge, float], a: int, b: int, count: int = 12
+) -> Iterator[Point]:
     """Points of the drawn edge."""
     (x1, y1), (x2, y2), (mx, my) = places[a], places[b], middle(places, bend, a, b)
     for k in range(count + 1):
@@ -143,7 +156,14 @@ def points_along(places, bend, a, b, count=12):
         )
 
 
-def label_places(places, edges, bend, distance, boxes, radius):
+def label_places(
+    places: Places,
+    edges: Collection[Edge],
+    bend: dict[Edge, float],
+    distance: float,
+    boxes: Places,
+    radius: float,
+) -> Places:
     """Where each vertex's number is written: of 16 directions the one in which it covers least of circles of `radius`
     and of other texts, and among those alike the one with most room, upper ones first. `boxes[v]` is half the width and
     half the height of what is written."""
@@ -160,7 +180,7 @@ def label_places(places, edges, bend, distance, boxes, radius):
         circles = [*others, (x, y)] if aside else others
         texts = others + [at for at, _ in taken]
 
-        def room_at(spot):
+        def room_at(spot: Point) -> float:
             to_texts = least_gap(spot, texts, 2 * near) - 0.45 * distance
             room = min(least_gap(spot, points, near), to_texts, near)
             return room - 100 * covers((spot, boxes[v]), circles, radius, taken)
@@ -170,9 +190,10 @@ def label_places(places, edges, bend, distance, boxes, radius):
     return found
 
 
-def most_room(spots, room_at):
+def most_room(spots: Iterable[Point], room_at: Callable[[Point], float]) -> Point:
     """The spot with most room; a later one has to have a pixel more."""
-    best, most = None, -inf
+    best: Point = (0, 0)
+    most = -inf
     for spot in spots:
         room = room_at(spot)
         if room > most + 1:
@@ -180,7 +201,7 @@ def most_room(spots, room_at):
     return best
 
 
-def spots_around(place, distance, aside):
+def spots_around(place: Point, distance: float, aside: float) -> Iterator[Point]:
     """16 places around one, upper ones first; those on its sides are farther away by `aside`."""
     x, y = place
     for k in (2, 14, 1, 15, 3, 13, 0, 4, 12, 6, 10, 5, 11, 7, 9, 8):
@@ -188,17 +209,19 @@ def spots_around(place, distance, aside):
         yield x + dx * distance + aside * max(-1, min(1, 2 * dx)), y + dy * distance
 
 
-def least_gap(place, points, most):
+def least_gap(place: Point, points: list[Point], most: float) -> float:
     return min((gap(place, p) for p in points), default=most)
 
 
-def near_to(place, reach, points):
+def near_to(place: Point, reach: float, points: Iterable[Point]) -> list[Point]:
     """The points in a square around a place."""
     x, y = place
     return [p for p in points if abs(p[0] - x) < reach and abs(p[1] - y) < reach]
 
 
-def covers(box, circles, radius, boxes):
+def covers(
+    box: tuple[Point, Point], circles: list[Point], radius: float, boxes: list[tuple[Point, Point]]
+) -> float:
     """How much of circles and of other boxes a box covers, in pixels of depth; a box is its middle and half its
     sides."""
     (x, y), (half_wide, half_high) = box
@@ -216,5 +239,5 @@ def covers(box, circles, radius, boxes):
     return depth
 
 
-def gap(p, q):
+def gap(p: Point, q: Point) -> float:
     return sqrt((p[0] - q[0]) * (p[0] - q[0]) + (p[1] - q[1]) * (p[1] - q[1]))

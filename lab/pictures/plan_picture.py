@@ -1,4 +1,5 @@
 """The plan on the map: who has which channel."""
+from lab.network import Network
 from lab.networks.plan_text import clashes
 from lab.pictures.map_picture import Vertex, begun, draw_map
 from lab.pictures.marks import SMALL, short_name
@@ -13,7 +14,7 @@ class Planned(Vertex):
 
     mark = "number"
 
-    def __init__(self, network, v, channel):
+    def __init__(self, network: Network, v: int, channel: int) -> None:
         super().__init__(network, v)
         self.channel, self.words = channel, f"{v} {short_name(network, v)}".rstrip()
         said = f", barred {', '.join(map(str, self.bars))}" if self.bars else ""
@@ -22,7 +23,7 @@ class Planned(Vertex):
             self.words, self.bars = "", []
 
 
-def draw(network, plan):
+def draw(network: Network, plan: dict[int, int]) -> str:
     clash = clashes(network, plan)
     if clash:
         v, w = clash[0]
@@ -43,7 +44,7 @@ def draw(network, plan):
     return svg.document()
 
 
-def said_of(network):
+def said_of(network: Network) -> str:
     """What there is, and what to look for."""
     if not network.edges:
         return f"{counted(network.nodes, 'transmitter')}, and no pair interferes"

@@ -1,9 +1,10 @@
 """The player: one HTML page without any library, the network at each pulse, with a slider and a play button; of the
 colouring, or of another program. page/player.js draws it."""
-from lab.definitions.rounds import SEED, Rounds
 from lab.definitions.recolouring import Recolouring
+from lab.definitions.rounds import Pulse, Rounds, SEED
 from lab.pictures.pages import net_of, page
 from lab.pictures.program_picture import is_new
+from lab.pictures.program_rounds import ProgramRounds
 from lab.words import counted
 
 # In a newcomer's words, and then the term.
@@ -22,7 +23,7 @@ SAY = {
 }
 
 
-def draw(rounds):
+def draw(rounds: Rounds | ProgramRounds) -> str:
     name = f"{rounds.network.name}, pulse by pulse"
     return page(
         "alone.html",
@@ -33,22 +34,25 @@ def draw(rounds):
     )
 
 
-def film_of(rounds):
+def film_of(rounds: Rounds | ProgramRounds) -> dict[str, object]:
     """The rounds as the page plays them."""
-    is_colouring = isinstance(rounds, Rounds)
-    pulse_of = pulse_of_colouring if is_colouring else pulse_of_program
-    parents = sorted(rounds.parents.items()) if is_colouring else []
+    if isinstance(rounds, Rounds):
+        pulses = [pulse_of_colouring(rounds, pulse) for pulse in rounds.pulses]
+        parents, is_of_channels = sorted(rounds.parents.items()), False
+    else:
+        pulses = [pulse_of_program(rounds, pulse) for pulse in rounds.pulses]
+        parents, is_of_channels = [], issubclass(rounds.program, Recolouring)
     return {
         "last": rounds.last,
         "forests": rounds.forests,
-        "pulses": [pulse_of(rounds, pulse) for pulse in rounds.pulses],
+        "pulses": pulses,
         "first": list(rounds.first.values()),
-        "channels": not is_colouring and issubclass(rounds.program, Recolouring),
+        "channels": is_of_channels,
         "parents": [[v, f, w] for (v, f), w in parents],
     }
 
 
-def pulse_of_colouring(rounds, pulse):
+def pulse_of_colouring(rounds: Rounds, pulse: Pulse) -> dict[str, object]:
     row = pulse_row(pulse, *caption(rounds, pulse.number))
     if pulse.colours:
         forests = range(rounds.forests)
@@ -58,7 +62,7 @@ def pulse_of_colouring(rounds, pulse):
     return row
 
 
-def pulse_of_program(rounds, pulse):
+def pulse_of_program(rounds: ProgramRounds, pulse: Pulse) -> dict[str, object]:
     """Of another program than the colouring each node's result, in words."""
     row, vertices = (
         pulse_row(pulse, *caption_of_program(rounds, pulse.number)),
@@ -69,7 +73,7 @@ def pulse_of_program(rounds, pulse):
     return row
 
 
-def pulse_row(pulse, title, said):
+def pulse_row(pulse: Pulse, title: str, said: str) -> dict[str, object]:
     return {
         "caption": title,
         "said": said,
@@ -80,12 +84,12 @@ def pulse_row(pulse, title, said):
     }
 
 
-def number(value):
+def number(value: int) -> int | str:
     """A number that JavaScript can hold, or its digits."""
     return value if value < 2**53 else str(value)
 
 
-def caption(rounds, number):
+def caption(rounds: Rounds, number: int) -> tuple[str, str]:
     """The title of a pulse, and a sentence of what is done in it."""
     pulse, forests = rounds.pulses[number], rounds.forests
     # The pulses 8, 10 and 12 drop the colours 5, 4 and 3.
@@ -111,7 +115,7 @@ def caption(rounds, number):
     return title, said
 
 
-def caption_of_program(rounds, number):
+def caption_of_program(rounds: ProgramRounds, number: int) -> tuple[str, str]:
     """The same of another program than the colouring."""
     pulse = rounds.pulses[number]
     found = [v for v in rounds.network.vertices if is_new(rounds, pulse, v)] if number else []

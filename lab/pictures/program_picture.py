@@ -1,6 +1,8 @@
 """The rounds of any program: a row for each node, a column for each pulse at which something happens; what a node has
 found, as soon as it changes, and the messages."""
+from lab.definitions.rounds import Pulse
 from lab.pictures.palette import BAND, BORDER, INK, PULSE, SOFT, WIRES
+from lab.pictures.program_rounds import ProgramRounds
 from lab.pictures.svg import Svg, text_width
 from lab.wrong import at_most
 
@@ -8,7 +10,7 @@ MOST_COLUMNS = 60
 LEFT, TOP, ROW, SIZE = 64, 112, 46, 11
 
 
-def draw(rounds, pulses=None):
+def draw(rounds: ProgramRounds, pulses: tuple[int, int] | None = None) -> str:
     """All pulses at which something is sent or found, or those of A to B."""
     network, shown = rounds.network, columns_of(rounds, pulses)
     at_most(
@@ -51,7 +53,7 @@ def draw(rounds, pulses=None):
     return svg.document()
 
 
-def draw_pulse(svg, rounds, pulse, x, column):
+def draw_pulse(svg: Svg, rounds: ProgramRounds, pulse: Pulse, x: float, column: float) -> None:
     """The messages of a pulse, and what nodes have found after it."""
     with svg.group("messages", f"pulse {pulse.number}"):
         for v, w, word, number in pulse.puts:
@@ -74,16 +76,16 @@ def draw_pulse(svg, rounds, pulse, x, column):
             svg.text(x + 8, row(v) + 4, pulse.results[v], SIZE, INK, mark="found")
 
 
-def row(v):
+def row(v: int) -> int:
     return TOP + (v - 1) * ROW + 6
 
 
-def is_new(rounds, pulse, v):
+def is_new(rounds: ProgramRounds, pulse: Pulse, v: int) -> bool:
     """Whether a node has found something else than before."""
     return pulse.number == 0 or rounds.pulses[pulse.number - 1].results[v] != pulse.results[v]
 
 
-def columns_of(rounds, pulses):
+def columns_of(rounds: ProgramRounds, pulses: tuple[int, int] | None) -> list[Pulse]:
     """The pulses that are drawn: those at which something is sent or found, among those asked for."""
     first, last = pulses or (0, rounds.last)
     return [

@@ -1,7 +1,10 @@
 """The rounds of any program as pictures need them, pulse by pulse, by its definition (lab/definitions/programs.py)."""
-from lab.definitions.nodes import Colouring, synchronous_pulses
+from collections.abc import Iterator
+
+from lab.definitions.nodes import Colouring, Program, synchronous_pulses
 from lab.definitions.own_program import OwnNode, check_repeats, what_is_wrong
 from lab.definitions.rounds import Pulse, Rounds, puts_of
+from lab.network import Network
 from lab.wrong import Wrong
 
 # Rounds of more steps of nodes than this take minutes to work out.
@@ -16,7 +19,7 @@ class ProgramRounds:
     forests = 0
     first: dict[int, int] = {}
 
-    def __init__(self, network, program):
+    def __init__(self, network: Network, program: Program) -> None:
         self.network, self.program = network, program
         self.last = program.last_pulse(network)
         if self.last * network.nodes > MOST_STEPS:
@@ -38,24 +41,24 @@ class ProgramRounds:
         self.nodes = nodes
         self.wrong = what_is_wrong(network, program, self.pulses[-1].results)
 
-    def lines(self):
+    def lines(self) -> Iterator[str]:
         """The text of rounds, line by line."""
         yield f"rounds 3 {self.program.name} {self.network.nodes} {self.network.greatest_degree} {self.last}"
         for pulse in self.pulses:
             yield from pulse.lines("", pulse.results.items() if pulse.number == self.last else ())
 
 
-def rounds_of(network, program):
+def rounds_of(network: Network, program: Program) -> Rounds | ProgramRounds:
     """The rounds of any program."""
     return Rounds(network) if program is Colouring else ProgramRounds(network, program)
 
 
-def least_wires(network, program):
+def least_wires(network: Network, program: Program) -> int:
     """The wires of a whole run without the two for each payload: a safe for each pulse but the last, each edge and each
     end, and a close for each edge and each end."""
     return 2 * len(network.edges) * (program.last_pulse(network) + 1)
 
 
-def is_own(program):
+def is_own(program: Program) -> bool:
     """Whether no proved program runs a program: it is from a file."""
     return issubclass(program, OwnNode)

@@ -4,9 +4,12 @@ from lab.definitions.independent_set import IndependentSet
 from lab.definitions.matching import Matching
 from lab.definitions.nodes import Colouring
 from lab.definitions.recolouring import Recolouring
+from lab.network import Network
 from lab.pictures.map_picture import Vertex, begun, draw_map
-from lab.pictures.marks import short_name
+from lab.pictures.marks import Map, short_name
 from lab.pictures.palette import INK, channel_hue
+from lab.pictures.program_rounds import ProgramRounds
+from lab.pictures.svg import Svg
 from lab.words import counted
 
 # Programs whose colours are channels: in the circle is the channel, and the node's number beside it; and those of which
@@ -20,7 +23,7 @@ class Found(Vertex):
 
     mark = "found"
 
-    def __init__(self, rounds, v):
+    def __init__(self, rounds: ProgramRounds, v: int) -> None:
         super().__init__(rounds.network, v)
         node = rounds.nodes[v]
         self.result, (self.colour, self.other) = node.result(), rounds.pulses[-1].drawn.get(
@@ -46,11 +49,11 @@ class Found(Vertex):
         self.words = " ".join(filter(None, [number, short_name(rounds.network, v), said]))
 
 
-def found_in(rounds):
+def found_in(rounds: ProgramRounds) -> dict[int, Found]:
     return {v: Found(rounds, v) for v in rounds.network.vertices}
 
 
-def draw(rounds):
+def draw(rounds: ProgramRounds) -> str:
     network, found = rounds.network, found_in(rounds)
     lines = [
         f"What each node has found after pulse {rounds.last}{legend(found)}.",
@@ -71,7 +74,7 @@ def draw(rounds):
     return svg.document()
 
 
-def draw_chosen(svg, drawn, found):
+def draw_chosen(svg: Svg, drawn: Map, found: dict[int, Found]) -> None:
     """The edges that nodes have chosen; one that only one of its ends has chosen is an arrow."""
     for v, one in found.items():
         is_mutual = one.other and found[one.other].other == v
@@ -81,7 +84,7 @@ def draw_chosen(svg, drawn, found):
             )
 
 
-def legend(found):
+def legend(found: dict[int, Found]) -> str:
     """What the marks mean, of those that there are."""
     said = ["a thick line is an edge that a node has chosen"] * any(
         one.other for one in found.values()
@@ -93,7 +96,7 @@ def legend(found):
     return f": {'; '.join(said)}" if said else ""
 
 
-def counts(found, network):
+def counts(found: dict[int, Found], network: Network) -> str:
     """How much there is of what is found."""
     if all(one.has_channel for one in found.values()):
         after, before = (

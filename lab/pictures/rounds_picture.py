@@ -1,10 +1,18 @@
 """The rounds strip: a block for each forest, a row for each node, a column for each pulse; squares while it is
 coloured, circles where channels are chosen."""
-from lab.definitions.rounds import LAST_COLOUR
+from collections.abc import Callable
+from typing import TYPE_CHECKING
+
+from lab.definitions.rounds import LAST_COLOUR, Pulse, Rounds
+from lab.network import Network
 from lab.pictures.marks import alone_chip, bar_row, bars_width, channel_circle, colour_square
 from lab.pictures.palette import FOREST_COLOURS, INK, PAPER, SOFT, channel_hue, short
+from lab.pictures.places import Point
 from lab.pictures.svg import Svg, text_width
 from lab.wrong import at_most
+
+if TYPE_CHECKING:
+    from lab.pictures.why_picture import Cone
 
 MOST_ROWS, USUAL_ROWS = 400, 40
 COLUMN, ROW, LEFT, TOP = 27, 27, 112, 100
@@ -24,7 +32,7 @@ GROUPS = [
 MERGES = LEFT + 11 * COLUMN + 34
 
 
-def draw(rounds, asked=None):
+def draw(rounds: Rounds, asked: tuple[int, int] | None = None) -> str:
     """The forests A to B that are asked for; else the first ones, as many as a slide has room for."""
     network = rounds.network
     forests = list(rounds.asked_forests(asked, max(1, USUAL_ROWS // network.nodes)))
@@ -39,7 +47,9 @@ def draw(rounds, asked=None):
     return draw_strips(rounds, forests, title, left_out_of(rounds, forests))
 
 
-def draw_strips(rounds, forests, title, lines, cone=None):
+def draw_strips(
+    rounds: Rounds, forests: list[int], title: str, lines: list[str], cone: "Cone | None" = None
+) -> str:
     """Forests under a title and lines; of a `cone` (why_picture.py), what isn't in it is faded."""
     network = rounds.network
     steps = columns_of(rounds, forests)
@@ -59,7 +69,7 @@ def draw_strips(rounds, forests, title, lines, cone=None):
     return svg.document()
 
 
-def left_out_of(rounds, forests):
+def left_out_of(rounds: Rounds, forests: list[int]) -> list[str]:
     """A line that says which forests are drawn, if not all are."""
     if len(forests) == rounds.forests:
         return []
@@ -69,7 +79,7 @@ def left_out_of(rounds, forests):
     return [f"Here {shown} of 0 to {rounds.forests - 1}; draw others with --forest A..B."]
 
 
-def columns_of(rounds, forests):
+def columns_of(rounds: Rounds, forests: list[int]) -> dict[int, list[Pulse]]:
     """The merge steps shown of each forest: all of them, or, if that are many, those at which some node chooses."""
     steps = {
         f: [pulse for pulse in rounds.pulses if pulse.step and pulse.step[0] == f] for f in forests
@@ -79,12 +89,12 @@ def columns_of(rounds, forests):
     return steps
 
 
-def bars_room(network):
+def bars_room(network: Network) -> float:
     """How much room the longest row of barred channels takes, beside the circles of the channels after a merge."""
     return max((20 + bars_width(bars, BAR) for bars in network.bars.values()), default=0)
 
 
-def legend(svg, y, has_bars):
+def legend(svg: Svg, y: float, has_bars: object) -> None:
     for colour in range(6):
         colour_square(svg, 28 + 17 * colour, y, 7.5, colour, mark="legend")
     svg.note(130, y + 4, "square: colour in the forest; 3, 4, 5 are dropped")
@@ -107,7 +117,7 @@ def legend(svg, y, has_bars):
     )
 
 
-def draw_heads(svg, left, y, column, last):
+def draw_heads(svg: Svg, left: float, y: float, column: int, last: int) -> None:
     """What is done in the pulses 2 to `last`, each over its column, and their numbers."""
     for first, end, words in GROUPS:
         end = min(end, last)
@@ -120,12 +130,14 @@ def draw_heads(svg, left, y, column, last):
         svg.note(left + (pulse - 1.5) * column, y + 18, pulse, 9, "middle")
 
 
-def place_of(left, top, row, pulse):
+def place_of(left: float, top: float, row: int, pulse: int) -> Point:
     """The middle of a square."""
     return left + LEFT + (pulse - 1.5) * COLUMN, top + 23 + (row + 0.5) * ROW
 
 
-def draw_rows(svg, left, top, parents, last, square):
+def draw_rows(
+    svg: Svg, left: float, top: float, parents: dict[int, int | None], last: int, square: Callable
+) -> None:
     """The heads of the pulses 2 to `last`, and a row for each vertex of `parents`: its number, its parent, and what
     `square` draws of it, given the vertex, the pulse and a place."""
     draw_heads(svg, left + LEFT, top, COLUMN, last)
@@ -141,16 +153,25 @@ def draw_rows(svg, left, top, parents, last, square):
 class Strip:
     """The block of one forest, with its upper edge at `top`; what isn't in the `cone` is faded, if there is one."""
 
-    def __init__(self, svg, rounds, forest, top, steps, column, cone):
+    def __init__(
+        self,
+        svg: Svg,
+        rounds: Rounds,
+        forest: int,
+        top: float,
+        steps: list[Pulse],
+        column: int,
+        cone: "Cone | None",
+    ) -> None:
         self.svg, self.rounds, self.forest, self.top, self.cone = svg, rounds, forest, top, cone
         self.steps, self.column, self.nodes = steps, column, rounds.network.nodes
         self.right = MERGES + len(steps) * column + 44 + bars_room(rounds.network)
 
-    def row(self, v):
+    def row(self, v: int) -> float:
         """The middle of v's row."""
         return self.top + HEAD + (v - 1) * ROW + ROW / 2
 
-    def colours(self):
+    def colours(self) -> None:
         """Left: the colour of each node after each of the pulses 2 to 12."""
         svg = self.svg
         svg.text(20, self.top + 20, f"forest {self.forest}", 13.5, INK, bold=True)
@@ -167,7 +188,7 @@ class Strip:
                 self.square,
             )
 
-    def square(self, v, pulse, x, y):
+    def square(self, v: int, pulse: int, x: float, y: float) -> None:
         colour = self.rounds.pulses[pulse].colours[v, self.forest]
         if pulse > 2 and not self.rounds.in_forest(v, self.forest):
             alone_chip(self.svg, x, y, COLUMN / 2 - 6, colour)
@@ -176,14 +197,14 @@ class Strip:
         if self.cone and ("colour", v, self.forest, pulse) not in self.cone.facts:
             self.fade(x, y, COLUMN, short(colour))
 
-    def fade(self, x, y, side, number):
+    def fade(self, x: float, y: float, side: int, number: str | int) -> None:
         """Makes a mark pale, and writes its number anew: white on a pale ground can't be read."""
         self.svg.rect(
             x - side / 2, y - ROW / 2, side, ROW, PAPER, fill_opacity="0.84", mark="faded"
         )
         self.svg.text(x, y + 3.6, number, 10 if len(str(number)) < 3 else 8.5, SOFT, "middle")
 
-    def merge(self, is_full):
+    def merge(self, is_full: bool) -> None:
         """Right: who chooses at which step, with a pale line of the channel that each node has before and after."""
         svg, top = self.svg, self.top
         words = f"merge of forest {self.forest}"
@@ -205,13 +226,13 @@ class Strip:
             for v in self.rounds.network.vertices:
                 self.choices_of(v, before.get(v), end)
 
-    def step_heads(self):
+    def step_heads(self) -> None:
         """Pulse numbers, and the pair (colour in this forest, colour so far) whose turn it is."""
         svg, before = self.svg, None
         svg.note(MERGES - 6, self.top + 36, "K", 9.5, "end")
         svg.note(MERGES - 6, self.top + 50, "J", 9.5, "end")
         for index, pulse in enumerate(self.steps):
-            x, (_, colour, old) = MERGES + index * self.column, pulse.step
+            x, (_, colour, old) = MERGES + index * self.column, pulse.turn()
             if colour != before:
                 if index:
                     svg.line(x, self.top + 26, x, self.top + HEAD + self.nodes * ROW, "#C4C4C4", 1)
@@ -234,8 +255,9 @@ class Strip:
                 "middle",
             )
 
-    def choices_of(self, v, channel, end):
-        svg, y, x0 = self.svg, self.row(v), MERGES
+    def choices_of(self, v: int, channel: int | None, end: float) -> None:
+        svg, y = self.svg, self.row(v)
+        x0: float = MERGES
         chosen = [
             (MERGES + (index + 0.5) * self.column, pulse)
             for index, pulse in enumerate(self.steps)
@@ -245,12 +267,13 @@ class Strip:
             if channel is not None:
                 svg.line(x0, y, x, y, channel_hue(channel + 1), 3, opacity="0.35")
             channel, x0 = pulse.chosen[v], x
-        svg.line(x0, y, end + 12, y, channel_hue(channel + 1), 3, opacity="0.35")
+        after = 1 + (channel or 0)
+        svg.line(x0, y, end + 12, y, channel_hue(after), 3, opacity="0.35")
         for x, pulse in chosen:
             channel_circle(
                 svg, x, y, min(self.column, ROW) / 2 - 1, pulse.chosen[v] + 1, mark="choice"
             )
             if self.cone and ("merged", v, self.forest) not in self.cone.facts:
                 self.fade(x, y, self.column, pulse.chosen[v] + 1)
-        channel_circle(svg, end + 24, y, 11, channel + 1, mark="after")
+        channel_circle(svg, end + 24, y, 11, after, mark="after")
         bar_row(svg, end + 44, y, self.rounds.network.bars.get(v, []), BAR)

@@ -8,7 +8,9 @@ import math
 
 from lab.pictures.marks import dash_of, short_name, wire_arrow
 from lab.pictures.palette import BAND, BORDER, INK, PAPER, PULSE, WIRES, WRONG
+from lab.pictures.places import Point
 from lab.pictures.svg import Svg, text_width, wrapped
+from lab.pictures.transcripts import Run, Wire
 from lab.pictures.wrong_run import draw_wrong, said_of
 from lab.words import counted
 from lab.wrong import Wrong, at_most
@@ -26,7 +28,9 @@ class Window:
     """Pulses `first` to `last` of a run: where a place in time and a node are drawn. A step of time is at least `least`
     wide, and a band reaches `over` above the first row and below the last."""
 
-    def __init__(self, run, pulses, top, row, least):
+    def __init__(
+        self, run: Run, pulses: tuple[int, int], top: float, row: int, least: float
+    ) -> None:
         self.run, self.network, self.nodes, (self.first, self.last) = (
             run,
             run.network,
@@ -52,17 +56,17 @@ class Window:
         self.bottom = self.y(len(self.nodes))
         self.width = max(self.x(self.stop) + 28, WIDTH)
 
-    def time(self, v, pulse):
+    def time(self, v: int, pulse: int) -> int:
         """When a node begins a pulse; its end, if it doesn't."""
         return self.run.ticks[v].get(pulse, self.ends[v])
 
-    def x(self, time):
+    def x(self, time: float) -> float:
         return self.left + (time - self.start) * self.scale
 
-    def y(self, v):
+    def y(self, v: int) -> float:
         return self.top + (v - 1) * self.row
 
-    def border(self, pulse):
+    def border(self, pulse: int) -> list[Point]:
         """Where each node begins a pulse, from top to bottom."""
         points = [(self.x(self.time(v, pulse)), self.y(v)) for v in self.nodes]
         return [
@@ -71,7 +75,7 @@ class Window:
             (points[-1][0], self.bottom + self.over),
         ]
 
-    def arrows(self, kinds):
+    def arrows(self, kinds: set[str] | tuple[str, ...]) -> list[Wire]:
         """The wires whose arrows are seen, payloads last, on top."""
         return [
             wire
@@ -86,7 +90,13 @@ class Window:
 ROWS = ((3, 88, 46), (5, 74, 46), (math.inf, 50, 30))
 
 
-def draw(run, shown, kinds=None, is_wrong_drawn=False, stopped=None):
+def draw(
+    run: Run,
+    shown: tuple[int, int],
+    kinds: tuple[str, ...] | None = None,
+    is_wrong_drawn: bool = False,
+    stopped: int | None = None,
+) -> str:
     """The picture; what is wrong is in it if that is asked for."""
     kinds = kinds or (KINDS if run.network.nodes <= MOST_NODES_OF_ALL_KINDS else ("payload",))
     nodes = run.network.nodes
@@ -142,7 +152,7 @@ def draw(run, shown, kinds=None, is_wrong_drawn=False, stopped=None):
     return svg.document()
 
 
-def time_words(run):
+def time_words(run: Run) -> str:
     """What the place of an event from left to right is."""
     if run.is_stamped:
         return (
@@ -155,7 +165,7 @@ def time_words(run):
     )
 
 
-def draw_lines(svg, window):
+def draw_lines(svg: Svg, window: Window) -> None:
     """A line for each node, and to the left its number and its name."""
     for v in window.nodes:
         y = window.y(v)
@@ -166,8 +176,9 @@ def draw_lines(svg, window):
             svg.note(x, y + 3.6, name, 10, "end", mark="vertex-name")
 
 
-def legend(svg, kinds):
-    x, y = 20, 72
+def legend(svg: Svg, kinds: tuple[str, ...]) -> None:
+    x: float = 20
+    y = 72
     for kind in (kind for kind in KINDS if kind in kinds):
         svg.line(x, y, x + 24, y, WIRES[kind], 2.2 if kind == "payload" else 1.2, dash_of(kind))
         svg.head(x + 30, y, 1, 0, 8 if kind == "payload" else 6, WIRES[kind], kind == "ack")
@@ -179,9 +190,10 @@ def legend(svg, kinds):
     svg.text(x + 155, y + 4, "kept till the next pulse", 11.5)
 
 
-def draw_bands(svg, window):
+def draw_bands(svg: Svg, window: Window) -> None:
     """A band for each pulse, from tick p of every node to its tick p + 1, and its number above, where there is room."""
-    thin, y, free = min(1.2, 0.2 * window.column), window.top - window.over - 6, 0
+    thin, y = min(1.2, 0.2 * window.column), window.top - window.over - 6
+    free: float = 0
     svg.text(20, y, "pulse", 11.5, PULSE, bold=True)
     for pulse in range(window.first, window.last + 1):
         left, right = window.border(pulse), window.border(pulse + 1)
@@ -200,21 +212,21 @@ def draw_bands(svg, window):
     svg.path(polygon(right), BORDER, thin)
 
 
-def polygon(points):
+def polygon(points: list[Point]) -> list[str | float]:
     steps: list[str | float] = []
     for x, y in points:
         steps += ["L" if steps else "M", x, y]
     return steps
 
 
-def draw_bars(svg, window, kinds):
+def draw_bars(svg: Svg, window: Window, kinds: tuple[str, ...]) -> None:
     """A bar for each payload, from where it is taken to its taker's tick p + 1, at which it is read."""
     for wire in window.arrows({"payload"} & set(kinds)):
         y = window.y(wire.w)
         svg.line(
-            window.x(wire.take),
+            window.x(wire.taken()),
             y,
-            window.x(window.time(wire.w, wire.pulse + 1)),
+            window.x(window.time(wire.w, wire.of_pulse() + 1)),
             y,
             WIRES["payload"],
             5,
@@ -223,11 +235,12 @@ def draw_bars(svg, window, kinds):
         )
 
 
-def draw_wires(svg, window, kinds):
+def draw_wires(svg: Svg, window: Window, kinds: tuple[str, ...]) -> None:
     """One arrow for each wire that is taken, with its words under the mouse; of few nodes a payload's words, too."""
     words = []
     for wire in window.arrows(kinds):
-        x1, y1, x2, y2 = window.x(wire.put), window.y(wire.v), window.x(wire.take), window.y(wire.w)
+        x1, y1 = window.x(wire.put), window.y(wire.v)
+        x2, y2 = window.x(wire.taken()), window.y(wire.w)
         if wire.kind == "payload" and len(window.nodes) <= 3 and x1 > window.left:
             words.append((x1, y1, x2 - x1, y2 - y1, f"{wire.what[2][0].lower()} {wire.what[2][1]}"))
         with svg.group(wire.kind, wire.title()):
@@ -235,7 +248,9 @@ def draw_wires(svg, window, kinds):
     write_words(svg, window, words)
 
 
-def write_words(svg, window, words):
+def write_words(
+    svg: Svg, window: Window, words: list[tuple[float, float, float, float, str]]
+) -> None:
     """The payloads' words along their arrows, left out where they would collide."""
     used: list[tuple[float, float, float]] = []
     for x1, y1, dx, dy, text in words:
@@ -253,7 +268,7 @@ def write_words(svg, window, words):
                 break
 
 
-def draw_ticks(svg, window):
+def draw_ticks(svg: Svg, window: Window) -> None:
     """Each node's pulses; those outside the window are grey."""
     half, width = min(10, 0.2 * window.row), min(3.4, 0.07 * window.row, 0.3 * window.column)
     for v, ticks in window.run.ticks.items():
@@ -267,19 +282,21 @@ def draw_ticks(svg, window):
                 )
 
 
-def early_words(window):
+def early_words(window: Window) -> str:
     """How many payloads came before their pulse had begun at the taker."""
     put = [
-        wire for wire in window.arrows(("payload",)) if window.first <= wire.pulse <= window.last
+        wire
+        for wire in window.arrows(("payload",))
+        if window.first <= wire.of_pulse() <= window.last
     ]
-    early = sum(wire.take < window.time(wire.w, wire.pulse) for wire in put)
+    early = sum(wire.taken() < window.time(wire.w, wire.of_pulse()) for wire in put)
     return (
         f"No clock is shared: of {counted(len(put), 'payload')} put here, {early or 'none'} came before the taker had "
         "begun their pulse. A payload of pulse p is read when pulse p + 1 begins, never before."
     )
 
 
-def rounds_words(run, last, count):
+def rounds_words(run: Run, last: int, count: int) -> str:
     """What the lower half has: all payloads of its pulses, if each node has come to the end of them."""
     if not all(last + 1 in ticks or run.whole for ticks in run.ticks.values()):
         return f"Payloads that are put in these pulses, as far as this text goes: {count:,}."

@@ -2,14 +2,16 @@
 and what goes wrong is red."""
 import math
 from bisect import bisect_right
-from itertools import accumulate, chain
+from itertools import accumulate
 from statistics import mean
 
+from lab.network import Network
 from lab.pictures.palette import BAND, BORDER, INK, PAPER, PULSE, WIRES, WRONG
 from lab.pictures.schedules_space import fault_words, left_out_words
 from lab.pictures.svg import Svg, text_width, wrapped
 from lab.pictures.transcripts import window_of
 from lab.schedules.explore import events_words, rounded
+from lab.schedules.space import Event, Node, Space
 from lab.wrong import at_most
 
 # Where a step ends: at a state, or at (state, number of the step) if it is refused there.
@@ -20,7 +22,7 @@ LEFT, HIGH, WIDE, LEAST_WIDTH = 44, 560, 1150, 860
 APART = [BAND, "#CFE3F1", "#8FBBDD", "#56B4E9"]
 
 
-def draw(network, space, asked):
+def draw(network: Network, space: Space, asked: tuple[int, int] | None) -> str:
     """The states after the events A to B that are `asked` for, or after the first ones."""
     low, high = window_of(network.name, last_column(space), asked, 1 + columns_of(space), "events")
     at_most(
@@ -37,7 +39,7 @@ def draw(network, space, asked):
     return Lattice(network, space, low, high, bold).drawn().document()
 
 
-def last_column(space):
+def last_column(space: Space) -> int:
     """The most events after which all states are known, one that is refused being a state of its own."""
     if space.expanded < space.count:
         return space.depth[space.expanded]
@@ -47,7 +49,7 @@ def last_column(space):
     )
 
 
-def steps_between(space):
+def steps_between(space: Space) -> list[int]:
     """How many steps there are from each column to the next."""
     counts = [0] * (space.depth[space.count - 1] + 1)
     for s in range(space.expanded):
@@ -55,7 +57,7 @@ def steps_between(space):
     return counts
 
 
-def columns_of(space):
+def columns_of(space: Space) -> int:
     """How many columns are drawn beside the first one if none are asked for: as many as have room."""
     return min(COLUMNS, max(1, bisect_right(list(accumulate(steps_between(space))), STEPS)))
 
@@ -63,7 +65,7 @@ def columns_of(space):
 # The run that is bold: its steps as (state, number of the step in it).
 
 
-def to_fault(space):
+def to_fault(space: Space) -> list[tuple[int, int]]:
     """A shortest run that goes wrong."""
     s, found = 0, []
     for event in space.path_to_fault():
@@ -74,7 +76,7 @@ def to_fault(space):
     return found
 
 
-def in_step(space):
+def in_step(space: Space) -> list[tuple[int, int]]:
     """All messages come before a node makes a pulse, and then the node that has made the fewest."""
     s, found = 0, []
     while steps := space.steps(s):
@@ -92,7 +94,7 @@ def in_step(space):
 NUMBERED = ((12, 1), (60, 5), (math.inf, 10))
 
 
-def node_words(v, node):
+def node_words(v: int, node: Node) -> str:
     stage = "has halted" if node.stage == "whole" else node.stage
     return f"node {v} at pulse {node.pulse} {stage}"
 
@@ -100,7 +102,9 @@ def node_words(v, node):
 class Lattice:
     """`bold` are the steps of one run. A step ends at a state; one that is refused has an end of its own, (s, e)."""
 
-    def __init__(self, network, space, low, high, bold):
+    def __init__(
+        self, network: Network, space: Space, low: int, high: int, bold: list[tuple[int, int]]
+    ) -> None:
         self.network, self.space = network, space
         self.low, self.high, self.bold = low, high, set(bold)
         self.passed = {0, *(s for s, _ in bold), *(space.steps(s)[e][1] for s, e in bold)}
@@ -109,24 +113,25 @@ class Lattice:
             if low <= space.depth[state] <= high:
                 self.columns[space.depth[state] - low].append(state)
         # (state, number of the step, event, where it ends).
-        self.steps = [
+        self.steps: list[tuple[int, int, Event, End]] = [
             (s, e, event, (s, e) if target is None else target)
-            for s in chain(*self.columns[:-1])
+            for s in [state for column in self.columns[:-1] for state in column]
+            if isinstance(s, int)
             for e, (event, target) in enumerate(space.steps(s))
         ]
-        for s, _, _, end in self.steps:
+        for start, _, _, end in self.steps:
             if isinstance(end, tuple):
-                self.columns[space.depth[s] + 1 - low].append(end)
+                self.columns[space.depth[start] + 1 - low].append(end)
         while not self.columns[-1]:
             self.columns.pop()
         self.place()
 
-    def place(self):
+    def place(self) -> None:
         """Rows by the mean of a mark's neighbours to the left, so that lines cross little."""
         before: dict[End, list[End]] = {}
         self.row: dict[End, float] = {}
-        for s, _, _, end in self.steps:
-            before.setdefault(end, []).append(s)
+        for start, _, _, end in self.steps:
+            before.setdefault(end, []).append(start)
         for column in self.columns:
             column.sort(
                 key=lambda s: (self.lead(s), mean([self.row[t] for t in before.get(s, [])] or [0]))
@@ -138,24 +143,24 @@ class Lattice:
         self.step = min(320, max(10, WIDE / max(1, len(self.columns) - 1)))
         self.radius = min(16, 0.42 * self.gap, 0.36 * self.step)
 
-    def lead(self, s):
+    def lead(self, s: End) -> int:
         """Of two nodes, above: node 1 is ahead; below: node 2 is."""
         pulses = self.pulses(s)
         return pulses[1] - pulses[0] if len(pulses) == 2 else 0
 
-    def pulses(self, s):
+    def pulses(self, s: End) -> list[int]:
         return [
             node.pulse for node in self.space.nodes(s[0] if isinstance(s, tuple) else s).values()
         ]
 
-    def x(self, s):
+    def x(self, s: End) -> float:
         depth = self.space.depth[s[0]] + 1 if isinstance(s, tuple) else self.space.depth[s]
         return LEFT + (depth - self.low) * self.step
 
-    def y(self, s):
+    def y(self, s: End) -> float:
         return self.middle + self.row[s] * self.gap
 
-    def drawn(self):
+    def drawn(self) -> Svg:
         width = max(LEAST_WIDTH, LEFT + (len(self.columns) - 1) * self.step + 44)
         lines = self.lines(width)
         top = 48 + 16 * len(lines)
@@ -181,7 +186,7 @@ class Lattice:
         self.legend(svg, bottom + 36)
         return svg
 
-    def fact(self):
+    def fact(self) -> str:
         space, title = self.space, self.network.name
         if space.without:
             title += f" without {' and '.join(space.without)}"
@@ -193,7 +198,7 @@ class Lattice:
             "one state" if len(space.ends) == 1 else f"one of {len(space.ends)} states"
         )
 
-    def lines(self, width):
+    def lines(self, width: float) -> list[str]:
         space = self.space
         said = [left_out_words(space.without)] if space.without else []
         inside = ", and inside are the nodes’ pulses" if self.number_size() >= 5 else ""
@@ -212,15 +217,15 @@ class Lattice:
             )
         return wrapped(" ".join(said), width - 40)
 
-    def number_size(self):
+    def number_size(self) -> float:
         """How large the pulses inside a mark are: all as large as the longest ones may be."""
         longest = max(len(self.pulses_words(s)) for s in self.columns[-1])
         return min(12, 0.75 * self.radius, self.radius * 3.1 / longest)
 
-    def pulses_words(self, s):
+    def pulses_words(self, s: End) -> str:
         return ",".join(map(str, self.pulses(s)))
 
-    def draw_steps(self, svg):
+    def draw_steps(self, svg: Svg) -> None:
         for s, e, event, end in sorted(self.steps, key=lambda step: step[:2] in self.bold):
             x1, y1, x2, y2 = self.x(s), self.y(s), self.x(end), self.y(end)
             is_bold, is_wrong = (s, e) in self.bold, (s, e) in self.space.faults
@@ -235,19 +240,19 @@ class Lattice:
                     width = round(max(1.2, self.radius * 0.3), 1)
                 svg.line(x1, y1, x2, y2, WRONG if is_wrong else hue, width)
 
-    def apart(self, s):
+    def apart(self, s: int) -> int:
         """The most pulses that two neighbours are apart, three for all above."""
         pulses = self.pulses(s)
         return min(
             3, max((abs(pulses[v - 1] - pulses[w - 1]) for v, w in self.space.links), default=0)
         )
 
-    def is_wrong(self, s):
+    def is_wrong(self, s: int) -> bool:
         """Whether a node has made a pulse without its inbox, or nothing is possible though some node waits."""
         nodes = self.space.nodes(s).values()
         return (s, None) in self.space.faults or any(node.wrong for node in nodes)
 
-    def draw_state(self, svg, s):
+    def draw_state(self, svg: Svg, s: End) -> None:
         x, y = self.x(s), self.y(s)
         if isinstance(s, tuple):
             with svg.group("state wrong", fault_words(self.space, s)):
@@ -272,9 +277,9 @@ class Lattice:
                     "middle",
                 )
 
-    def legend(self, svg, y):
+    def legend(self, svg: Svg, y: float) -> None:
         svg.note(20, y, "takes of")
-        x = 80
+        x: float = 80
         for name, hue in [*WIRES.items(), ("pulse", PULSE)]:
             svg.line(x, y - 4, x + 22, y - 4, hue, 2)
             svg.note(x + 27, y, name)

@@ -1,8 +1,10 @@
 """All states of a tiny network and the steps between them, as lab/schedules/space.py finds them, for the kinds that
 draw every schedule. What is too large for a picture is refused here, in a sentence."""
 import re
+from collections.abc import Callable
 
-from lab.definitions.nodes import Colouring
+from lab.definitions.nodes import Colouring, Program
+from lab.network import Network
 from lab.schedules.rules import ALL
 from lab.schedules.space import Space
 from lab.wrong import Wrong
@@ -10,7 +12,12 @@ from lab.wrong import Wrong
 MAX_STATES = 200_000
 
 
-def space_of(network, without=(), program=Colouring, progress=None):
+def space_of(
+    network: Network,
+    without: tuple[str, ...] = (),
+    program: Program = Colouring,
+    progress: Callable[[int, int], None] | None = None,
+) -> Space:
     """The space of a network that was read, whose nodes run a program. `progress` is told now and then how many states
     and events there are so far."""
     space = Space(network, without, MAX_STATES, progress=progress, program=program)
@@ -21,17 +28,17 @@ def space_of(network, without=(), program=Colouring, progress=None):
     return space
 
 
-def fault_words(space, key=None):
+def fault_words(space: Space, key: tuple[int, int] | None = None) -> str:
     """What goes wrong, by default that to which the fewest events lead."""
     return quoted(space.faults[key or space.first_fault()])
 
 
-def quoted(words):
+def quoted(words: str) -> str:
     """Words with a picture's quotes in place of a terminal's."""
     return re.sub("`([^`]*)`", "‘\\1’", words)
 
 
-def left_out_words(without):
+def left_out_words(without: tuple[str, ...]) -> str:
     """The rules that are left out, as a sentence."""
     said = [f"that {ALL[rule].says}" for rule in without]
     what = "is the rule" if len(said) == 1 else "are the rules"

@@ -3,7 +3,10 @@ or the same sheets with their answers, as one HTML page.
 
 Every answer is worked out by the slow definitions (lab/definitions) and from nothing else."""
 import random
+from collections.abc import Collection, Iterator, Sequence
 from functools import partial
+from random import Random
+from typing import TypeVar
 
 from lab.definitions.colours import at_parent, colours, drop, shift
 from lab.definitions.nodes import NetState, last_pulse
@@ -14,7 +17,7 @@ from lab.networks.texts import plain_text
 from lab.pictures.map_picture import EDGE, Vertex, draw_map
 from lab.pictures.pages import filled, text_of
 from lab.pictures.svg import Svg, escaped
-from lab.words import add_output, add_seed, count, parser_of, write
+from lab.words import Parser, add_output, add_seed, count, parser_of, write
 
 LESSONS = (1, 2, 3, 4, 5)
 MOST_SHEETS = 200
@@ -41,21 +44,25 @@ Example:
 """
 
 
+Thing = TypeVar("Thing")
+
+
 class Sheet:
     """One network, and its questions. `answers` says whether they are filled in."""
 
-    def __init__(self, name, answers):
+    def __init__(self, name: str, answers: bool) -> None:
         self.name, self.answers = name, answers
         self.source = random.Random(name)
         self.net = network_by(self.source)
-        self.rounds, self.vertices, self.edges = Rounds(self.net), self.net.vertices, self.net.edges
+        self.rounds, self.vertices = Rounds(self.net), self.net.vertices
+        self.edges = [*self.net.edges]
 
-    def any_of(self, things):
+    def any_of(self, things: Sequence[Thing]) -> Thing:
         return things[int(self.source.random() * len(things))]
 
     # How an answer, or room for one, is written.
 
-    def filled(self, answer, is_list=False):
+    def filled(self, answer: int | str, is_list: bool = False) -> str:
         """`is_list` says that there has to be room for several numbers."""
         room = "blank list" if is_list else "blank"
         return (
@@ -64,13 +71,13 @@ class Sheet:
             else f'<span class="{room}">&nbsp;</span>'
         )
 
-    def entry(self, entry, is_given):
+    def entry(self, entry: int | str, is_given: bool) -> int | str:
         """What is in a cell: nothing in that of an answer, but on a sheet of answers."""
         if is_given:
             return entry
         return f"<b class=answer>{entry}</b>" if self.answers else ""
 
-    def table(self, head, rows):
+    def table(self, head: str, rows: Sequence[tuple[str, Sequence[int | str], bool]]) -> str:
         """A row of vertices, and rows of (name, entries, whether they are given)."""
         lines = [
             f"<tr><th>{escaped(head)}</th>"
@@ -85,7 +92,7 @@ class Sheet:
     # The questions, by lesson. Each draws its choices from the sheet's own source, and all are drawn in any case, so
     # that a sheet of one lesson asks what the sheet of all lessons asks.
 
-    def lesson_1(self):
+    def lesson_1(self) -> Iterator[str]:
         plan = {v: c + 1 for v, c in colours(self.net).items()}
         v, w = self.any_of(self.edges)
         wrong = plan | {v: plan[w]}
@@ -100,7 +107,7 @@ class Sheet:
             + f"<p>{self.filled('; '.join(pairs), True)}</p>"
         )
 
-    def lesson_2(self):
+    def lesson_2(self) -> Iterator[str]:
         rows = [
             (f"parent in forest {f}", [self.net.parent(f, v) or "-" for v in self.vertices], False)
             for f in range(FORESTS)
@@ -110,15 +117,14 @@ class Sheet:
             + self.table("node", rows)
         )
 
-    def lesson_3(self):
+    def lesson_3(self) -> Iterator[str]:
         table = self.rounds.colours[0]
         children = [
-            v
+            (v, w)
             for v in self.vertices
-            if self.net.parent(0, v) and not self.net.parent(0, self.net.parent(0, v))
+            if (w := self.net.parent(0, v)) and not self.net.parent(0, w)
         ]
-        v = self.any_of(children)
-        w = self.net.parent(0, v)
+        v, w = self.any_of(children)
         for name, node in ((f"node {v}", v), (f"its parent {w}", w)):
             said = ", ".join(str(table[p][node]) for p in range(2, 7))
             ask = "Bit steps in forest 0: the colours of" if node == v else "And of"
@@ -137,7 +143,7 @@ class Sheet:
             "forest 0 after pulse 6 are these, and shift and drop:</p>" + self.table("node", rows)
         )
 
-    def dropping(self):
+    def dropping(self) -> dict[int, int]:
         """Colours 0 to 5 in forest 0, no two neighbours there alike, of which each drop changes some: a shift moves a
         colour one edge down, so a 5, a 4 and a 3 in a row are one after the other the colour of the node below it.
         """
@@ -149,14 +155,14 @@ class Sheet:
             if all(first[v] != at_parent(self.net, 0, first, v) for v in first):
                 return first
 
-    def row_above(self, v):
+    def row_above(self, v: int) -> list[int]:
         """A node, its parent in forest 0, and so on: up to four."""
         row = [v]
         while len(row) < 4 and (above := self.net.parent(0, row[-1])):
             row.append(above)
         return row
 
-    def lesson_4(self):
+    def lesson_4(self) -> Iterator[str]:
         rows = [
             (name, [colours[v] for v in self.vertices], is_given)
             for f in range(FORESTS)
@@ -173,7 +179,7 @@ class Sheet:
             f"the last? {self.filled(last_pulse(self.net))}</p>"
         )
 
-    def lesson_5(self):
+    def lesson_5(self) -> Iterator[str]:
         pulses = range(last_pulse(self.net) + 1)
         payloads = sum(len(pulse.puts) for pulse in self.rounds.pulses)
         wires = 2 * payloads + 2 * len(self.edges) * len(pulses)
@@ -185,7 +191,7 @@ class Sheet:
             "as it can. Which pulse does each node come to?</p>" + self.table("node", rows)
         )
 
-    def text(self, lessons):
+    def text(self, lessons: Collection[int]) -> str:
         title = f"Sheet {escaped(self.name)}" + (", answers" if self.answers else "")
         name = "" if self.answers else "Name: " + "_" * 28
         parts = [f"<section><h1>{title}<small>{name}</small></h1>", self.map()]
@@ -200,26 +206,26 @@ class Sheet:
             )
         return "\n".join([*parts, "</section>"])
 
-    def map(self):
+    def map(self) -> str:
         svg = Svg(*MAP, f"network of sheet {self.name}")
         draw_map(svg, self.net, {v: Vertex(self.net, v) for v in self.vertices}, (*MAP, 0, 0), EDGE)
         return f'<svg width="{MAP[0]}" height="{MAP[1]}" role="img" aria-label="the network">\n{svg.inner()}\n</svg>'
 
 
-def farthest(net, edge):
+def farthest(net: Network, edge: tuple[int, int]) -> dict[int, int]:
     """The pulse that each node comes to if nothing goes over an edge. (Whatever the order, it is the same: what a node
     can do stays possible until it does it.)"""
     state = NetState(net)
 
-    def is_free(kind, v, port):
-        return kind == "Pulse" or {v, state.neighbours[v][port]} != set(edge)
+    def is_free(kind: str, v: int, port: int | None) -> bool:
+        return port is None or {v, state.neighbours[v][port]} != set(edge)
 
     while event := next((event for event in state.possible() if is_free(*event)), None):
         state.step(*event)
     return {v: state.nodes[v].pulse_number for v in sorted(state.nodes)}
 
 
-def network_by(source):
+def network_by(source: Random) -> Network:
     """A connected network of the sheets' sizes, by chance, with a row of four in forest 0."""
     while True:
         edges = alike_edges(source, NODES, EDGES, True, NEIGHBOURS, FORESTS)
@@ -231,14 +237,14 @@ def network_by(source):
             return net
 
 
-def draw(seed, count, answers, lessons):
+def draw(seed: str, count: int, answers: bool, lessons: Collection[int]) -> str:
     names = [seed] if count == 1 else [f"{seed}-{number}" for number in range(1, count + 1)]
     sheets = "\n".join(Sheet(name, answers).text(lessons) for name in names)
     what = "Answers to sheets" if answers else "Sheets"
     return filled(text_of("sheet.html"), TITLE=f"{what} {escaped(seed)}", SHEETS=sheets)
 
 
-def command_line():
+def command_line() -> Parser:
     words = parser_of("sheet", "[options]", HELP, MORE_HELP)
     add_seed(words)
     words.add_argument(
@@ -261,7 +267,7 @@ def command_line():
     return words
 
 
-def main(words):
+def main(words: list[str]) -> int:
     given = command_line().parse_args(words)
     write(given, draw(given.seed, given.sheets, given.answers, given.lesson or LESSONS))
     return 0

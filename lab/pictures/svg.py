@@ -1,5 +1,6 @@
 """One drawing as SVG text. The same calls give the same bytes on every machine: numbers come from +, -, *, / and sqrt,
 and are written with one decimal place."""
+from collections.abc import Iterable, Iterator
 from contextlib import contextmanager
 from math import sqrt
 from textwrap import wrap
@@ -7,7 +8,7 @@ from textwrap import wrap
 from lab.pictures.palette import FONT, INK, PAPER, SOFT
 
 
-def written(number):
+def written(number: str | float) -> str:
     """A number with at most one decimal place."""
     if isinstance(number, str):
         return number
@@ -16,13 +17,16 @@ def written(number):
     return "0" if text == "-0" else text
 
 
+# An attribute of an element; None is left out.
+Attribute = str | float | None
+
 # Letters that XML hasn't.
 CONTROLS = dict.fromkeys(
     [*(code for code in range(32) if chr(code) not in "\t\n\r"), 0xFFFE, 0xFFFF]
 )
 
 
-def escaped(text):
+def escaped(text: str | float) -> str:
     return (
         str(text)
         .translate(CONTROLS)
@@ -32,17 +36,17 @@ def escaped(text):
     )
 
 
-def quoted(text):
+def quoted(text: str) -> str:
     """A text between the quotes of an attribute."""
     return escaped(text).replace('"', "&quot;")
 
 
-def text_width(text, size):
+def text_width(text: str | int, size: float) -> float:
     """About how wide a text is: DejaVu Sans takes six tenths of its size for a letter, or a little less."""
     return 0.6 * size * len(str(text))
 
 
-def wrapped(text, width, size=11.5):
+def wrapped(text: str, width: float, size: float = 11.5) -> list[str]:
     """The text in lines that are no wider; letters are a little narrower than they are reckoned."""
     return wrap(
         text,
@@ -55,11 +59,11 @@ def wrapped(text, width, size=11.5):
 class Svg:
     """Elements in the order in which they are drawn; what comes later lies on top."""
 
-    def __init__(self, width, height, title):
+    def __init__(self, width: float, height: float, title: str) -> None:
         self.width, self.height, self.title = width, height, title
-        self.parts = []
+        self.parts: list[str] = []
 
-    def element(self, name, text=None, **attributes):
+    def element(self, name: str, text: Attribute = None, **attributes: Attribute) -> None:
         """Adds an element; `mark` is its class, by which tests count it, and `_` in a name means `-`."""
         words = [name]
         for key, value in attributes.items():
@@ -70,7 +74,9 @@ class Svg:
         self.parts.append(f"<{head}/>" if text is None else f"<{head}>{escaped(text)}</{name}>")
 
     @contextmanager
-    def group(self, mark, title=None, **attributes):
+    def group(
+        self, mark: str, title: str | None = None, **attributes: str | float
+    ) -> Iterator[None]:
         """Elements that are one mark; a browser shows the title under the mouse."""
         words = "".join(
             f' {key.replace("_", "-")}="{quoted(written(value))}"'
@@ -82,14 +88,24 @@ class Svg:
         yield
         self.parts.append("</g>")
 
-    def clip(self, name, x, y, width, height):
+    def clip(self, name: str, x: float, y: float, width: float, height: float) -> None:
         """A box out of which nothing is drawn of the groups that name it."""
         self.parts.append(
             f'<clipPath id="{name}"><rect x="{written(x)}" y="{written(y)}" width="{written(width)}" '
             f'height="{written(height)}"/></clipPath>'
         )
 
-    def line(self, x1, y1, x2, y2, colour=INK, width=1, dash=None, **more):
+    def line(
+        self,
+        x1: float,
+        y1: float,
+        x2: float,
+        y2: float,
+        colour: str = INK,
+        width: float = 1,
+        dash: str | None = None,
+        **more: Attribute,
+    ) -> None:
         self.element(
             "line",
             x1=x1,
@@ -102,7 +118,14 @@ class Svg:
             **more,
         )
 
-    def path(self, steps, colour=INK, width=1, fill="none", **more):
+    def path(
+        self,
+        steps: Iterable[str | float],
+        colour: str | None = INK,
+        width: float | None = 1,
+        fill: str = "none",
+        **more: Attribute,
+    ) -> None:
         """Steps are letters and numbers, as ["M", 0, 0, "L", 5, 5]."""
         self.element(
             "path",
@@ -114,8 +137,17 @@ class Svg:
         )
 
     def rect(
-        self, x, y, width, height, fill, stroke=None, stroke_width=None, round_by=None, **more
-    ):
+        self,
+        x: float,
+        y: float,
+        width: float,
+        height: float,
+        fill: str,
+        stroke: str | None = None,
+        stroke_width: float | None = None,
+        round_by: float | None = None,
+        **more: Attribute,
+    ) -> None:
         self.element(
             "rect",
             x=x,
@@ -129,7 +161,16 @@ class Svg:
             **more,
         )
 
-    def circle(self, x, y, radius, fill, stroke=None, stroke_width=None, **more):
+    def circle(
+        self,
+        x: float,
+        y: float,
+        radius: float,
+        fill: str,
+        stroke: str | None = None,
+        stroke_width: float | None = None,
+        **more: Attribute,
+    ) -> None:
         self.element(
             "circle",
             cx=x,
@@ -141,9 +182,22 @@ class Svg:
             **more,
         )
 
-    def text(self, x, y, text, size=11, fill=INK, anchor=None, bold=False, halo=None, **more):
+    def text(
+        self,
+        x: float,
+        y: float,
+        text: str | int,
+        size: float = 11,
+        fill: str = INK,
+        anchor: str | None = None,
+        bold: bool = False,
+        halo: float | None = None,
+        mark: str | None = None,
+        opacity: Attribute = None,
+    ) -> None:
+        around: dict[str, Attribute] = {}
         if halo:
-            more.update(paint_order="stroke", stroke=PAPER, stroke_width=halo)
+            around = {"paint_order": "stroke", "stroke": PAPER, "stroke_width": halo}
         self.element(
             "text",
             text,
@@ -153,18 +207,49 @@ class Svg:
             fill=fill,
             text_anchor=anchor,
             font_weight="bold" if bold else None,
-            **more,
+            mark=mark,
+            opacity=opacity,
+            **around,
         )
 
-    def note(self, x, y, text, size=11.5, anchor=None, **more):
+    def note(
+        self,
+        x: float,
+        y: float,
+        text: str | int,
+        size: float = 11.5,
+        anchor: str | None = None,
+        bold: bool = False,
+        halo: float | None = None,
+        mark: str | None = None,
+    ) -> None:
         """A text that helps to read the picture."""
-        self.text(x, y, text, size, SOFT, anchor, **more)
+        self.text(x, y, text, size, SOFT, anchor, bold, halo, mark)
 
-    def label(self, x, y, text, size, fill=INK, **more):
+    def label(
+        self,
+        x: float,
+        y: float,
+        text: int | str,
+        size: float,
+        fill: str = INK,
+        halo: float | None = None,
+        mark: str | None = None,
+        opacity: Attribute = None,
+    ) -> None:
         """A text in the middle of a mark, or above what it names."""
-        self.text(x, y, text, size, fill, "middle", bold=True, **more)
+        self.text(x, y, text, size, fill, "middle", True, halo, mark, opacity)
 
-    def head(self, x, y, dx, dy, size, colour, hollow=False):
+    def head(
+        self,
+        x: float,
+        y: float,
+        dx: float,
+        dy: float,
+        size: float,
+        colour: str,
+        hollow: bool = False,
+    ) -> None:
         """An arrow's head with its tip at x, y, pointing along dx, dy."""
         length = sqrt(dx * dx + dy * dy) or 1
         dx, dy = dx / length, dy / length
@@ -187,14 +272,25 @@ class Svg:
             PAPER if hollow else colour,
         )
 
-    def arrow(self, x1, y1, x2, y2, colour, width, size, dash=None, hollow=False):
+    def arrow(
+        self,
+        x1: float,
+        y1: float,
+        x2: float,
+        y2: float,
+        colour: str,
+        width: float,
+        size: float,
+        dash: str | None = None,
+        hollow: bool = False,
+    ) -> None:
         """A straight arrow whose tip is at x2, y2."""
         dx, dy = x2 - x1, y2 - y1
         part = 0.8 * size / (sqrt(dx * dx + dy * dy) or 1)
         self.line(x1, y1, x2 - dx * part, y2 - dy * part, colour, width, dash)
         self.head(x2, y2, dx, dy, size, colour, hollow)
 
-    def heading(self, title, *lines):
+    def heading(self, title: str, *lines: str) -> None:
         """The fact that the picture shows, and what helps to read it, from the upper left corner; the picture is made
         as wide as they are."""
         self.text(20, 28, title, 17, INK, bold=True)
@@ -208,10 +304,10 @@ class Svg:
             ]
         )
 
-    def inner(self):
+    def inner(self) -> str:
         return "\n".join(self.parts)
 
-    def document(self):
+    def document(self) -> str:
         width, height = written(self.width), written(self.height)
         return (
             f'<svg xmlns="http://www.w3.org/2000/svg" viewBox="0 0 {width} {height}" width="{width}" height="{height}" '

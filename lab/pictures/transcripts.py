@@ -5,9 +5,10 @@ from collections import deque
 from copy import copy
 from typing import NamedTuple
 
-from lab.definitions.nodes import wire_words
-from lab.transcripts.check import find_order
-from lab.transcripts.reading import Wrong as WrongEntry, read_to_fault
+from lab.definitions.nodes import Program, wire_words
+from lab.network import Edge, Network
+from lab.transcripts.check import Found, find_order
+from lab.transcripts.reading import Entry, Wrong as WrongEntry, read_to_fault
 from lab.wrong import Wrong, wrong_line
 
 # How many steps of time a pulse of the rounds takes.
@@ -25,15 +26,27 @@ class Wire(NamedTuple):
     take: int | None
 
     @property
-    def kind(self):
+    def kind(self) -> str:
         return self.what[0].lower()
 
     @property
-    def pulse(self):
+    def pulse(self) -> int | None:
         """The pulse that it speaks of; None of a close."""
         return self.what[1] if len(self.what) > 1 else None
 
-    def title(self):
+    def taken(self) -> int:
+        """The stamp of its take, of a wire that was taken."""
+        if self.take is None:
+            raise ValueError(f"{self.title()} isn't taken")
+        return self.take
+
+    def of_pulse(self) -> int:
+        """The pulse that it speaks of, of a wire that isn't a close."""
+        if self.pulse is None:
+            raise ValueError(f"{self.title()} speaks of no pulse")
+        return self.pulse
+
+    def title(self) -> str:
         return f"{self.v} to {self.w}: {wire_words(self.what)}"
 
 
@@ -43,7 +56,14 @@ class Run:
     `whole`, whether every node is through with its last pulse. `wrong` are the first entry that isn't possible, which
     ends the run, and what is wrong with it."""
 
-    def __init__(self, name, network, program, order, wrong):
+    def __init__(
+        self,
+        name: str,
+        network: Network,
+        program: Program,
+        order: Found,
+        wrong: tuple[Entry, WrongEntry] | None,
+    ) -> None:
         self.name, self.network, self.program = name, network, program
         self.is_stamped, self.whole, self.wrong = order.is_stamped, order.is_whole(), wrong
         self.made = [
@@ -60,21 +80,23 @@ class Run:
             if entry.kind == "Pulse":
                 self.ticks[entry.vertex][entry.what] = entry.stamp
 
-    def in_rounds(self, first, last):
+    def in_rounds(self, first: int, last: int) -> "Run":
         """The payloads of these pulses in a run whose nodes make all pulses at once: the synchronous rounds."""
         run = copy(self)
         run.ticks = dict.fromkeys(
             self.ticks, {pulse: OF_ROUND * pulse for pulse in range(first, last + 2)}
         )
         run.wires = sorted(
-            wire._replace(put=OF_ROUND * wire.pulse, take=OF_ROUND * (wire.pulse + 1))
+            wire._replace(put=OF_ROUND * wire.of_pulse(), take=OF_ROUND * (wire.of_pulse() + 1))
             for wire in self.wires
-            if wire.kind == "payload" and first <= wire.pulse <= last
+            if wire.kind == "payload" and first <= wire.of_pulse() <= last
         )
         return run
 
 
-def window_of(name, greatest, asked, usual, what="pulses"):
+def window_of(
+    name: str, greatest: int, asked: tuple[int, int] | None, usual: int, what: str = "pulses"
+) -> tuple[int, int]:
     """The first and the last pulse to be drawn, if the run has them: those asked for, or else the `usual` first
     ones."""
     first, last = asked or (0, min(greatest, usual - 1))
@@ -83,21 +105,24 @@ def window_of(name, greatest, asked, usual, what="pulses"):
     return first, last
 
 
-def wires_of(made):
+def wires_of(made: list[Entry]) -> list[Wire]:
     """The wires of entries by stamp. A link hands them over in the order in which they were put."""
-    taken: dict[tuple[int, int], deque[int | None]] = {}
+    taken: dict[Edge, deque[int | None]] = {}
     for entry in made:
-        if entry.kind == "Take":
+        if entry.kind == "Take" and entry.neighbour is not None:
             taken.setdefault((entry.neighbour, entry.vertex), deque()).append(entry.stamp)
-    return [
-        Wire(v, w, entry.what, entry.stamp, taken[v, w].popleft() if taken.get((v, w)) else None)
-        for entry in made
-        if entry.kind == "Put"
-        for v, w in [(entry.vertex, entry.neighbour)]
-    ]
+    found = []
+    for entry in made:
+        v, w, wire, put = entry.vertex, entry.neighbour, entry.what, entry.stamp
+        if w is not None and put is not None and isinstance(wire, tuple) and entry.kind == "Put":
+            takes = taken.get((v, w))
+            found.append(Wire(v, w, wire, put, takes.popleft() if takes else None))
+    return found
 
 
-def ordered(text, name, network, program, is_wrong_drawn=False):
+def ordered(
+    text: str, name: str, network: Network, program: Program, is_wrong_drawn: bool | None = False
+) -> tuple[Found, tuple[Entry, WrongEntry] | None]:
     """The order that is found of the entries, which are then by stamp; and the first one that isn't possible, with what
     is wrong, if that is drawn, and else refused."""
     try:

@@ -5,13 +5,25 @@ The page has no algorithm in it: what a node is after each entry is worked out h
 (lab/definitions/nodes.py), and written into the page as rows. page/watch.js draws it."""
 import json
 from collections import deque
+from collections.abc import Iterator
+from typing import NamedTuple
 
-from lab.definitions.nodes import Colouring, NetState, lacks_of, make, wire_words
+from lab.definitions.nodes import (
+    AlphaNode,
+    Colouring,
+    NetState,
+    Program,
+    Wire,
+    lacks_of,
+    make,
+    wire_words,
+)
 from lab.definitions.rounds import FIRST_MERGE
+from lab.network import Edge, Network
 from lab.pictures.pages import net_of, page
 from lab.pictures.transcripts import ordered, window_of
 from lab.schedules.ruled_node import payload_words
-from lab.transcripts.reading import words
+from lab.transcripts.reading import Entry, words
 from lab.wrong import Wrong
 
 MOST_ENTRIES = 20_000
@@ -21,7 +33,12 @@ ORDER = (
 )
 
 
-def look_of(state, v):
+# What is shown of a node, as JSON has it; and an entry, the pulse during which it is made, and what it leads to.
+Look = dict[str, object]
+Step = tuple[Entry, int, Look]
+
+
+def look_of(state: NetState, v: int) -> Look:
     """What is shown of a node: its pulse; of whom it awaits which wire; what it has taken for its next pulse, and what
     came a pulse early; and its channel, once it has chosen one."""
     node = state.nodes[v]
@@ -40,7 +57,7 @@ def look_of(state, v):
     }
 
 
-def waits_of(state, v):
+def waits_of(state: NetState, v: int) -> list[tuple[str, int]]:
     """Of whom a node awaits which wire."""
     node = state.nodes[v]
     if node.pulse_number == node.last:
@@ -50,7 +67,7 @@ def waits_of(state, v):
     return [("ack", w) for w in acks] + [("safe", w) for w in safes]
 
 
-def found(node):
+def found(node: AlphaNode) -> int | str:
     """Its channel once it has chosen one, or 0; of another program than the colouring the words for what it found."""
     program = node.program
     if not isinstance(program, Colouring):
@@ -64,25 +81,51 @@ def found(node):
     return program.merged + 1 if node.pulse_number >= turn else 0
 
 
+def stamp_of(entry: Entry) -> int:
+    """The stamp of an entry of a run, each of which has one."""
+    if entry.stamp is None:
+        raise ValueError(f"the entry of line {entry.line} has no stamp")
+    return entry.stamp
+
+
+class Flight(NamedTuple):
+    """A wire on its way: the numbers and the stamps of its put and of its take, if it is taken."""
+
+    v: int
+    w: int
+    wire: Wire
+    put: int
+    put_stamp: int | None
+    take: int | None = None
+    take_stamp: int | None = None
+
+
 class Steps:
     """A run as it is played: `every` has each entry, the pulse during which it was made, and what is shown of its node
     after it; `start` is what is shown of each node before the first one."""
 
-    def __init__(self, state):
-        self.state, self.start, self.every = state, {v: look_of(state, v) for v in state.nodes}, []
+    def __init__(self, state: NetState) -> None:
+        self.state, self.start = state, {v: look_of(state, v) for v in state.nodes}
+        self.every: list[Step] = []
 
-    def add(self, entry):
+    def add(self, entry: Entry) -> None:
         """The entry with its stamp that the state has just made."""
         during = self.state.nodes[entry.vertex].pulse_number
         self.every.append((entry, during, look_of(self.state, entry.vertex)))
 
-    def by_stamp(self):
+    def by_stamp(self) -> "Steps":
         """The same in the order in which a transcript has the entries of a player."""
         self.every.sort(key=lambda row: (row[0].stamp, row[0].vertex))
         return self
 
 
-def steps_of_text(name, network, text, pulses=None, program=Colouring):
+def steps_of_text(
+    name: str,
+    network: Network,
+    text: str,
+    pulses: tuple[int, int] | None = None,
+    program: Program = Colouring,
+) -> Steps:
     """The steps of a transcript, as far as they are needed for these pulses; or its first fault in words."""
     order, _ = ordered(text, name, network, program)
     state, made = NetState(network, program), dict.fromkeys(network.vertices, 0)
@@ -106,14 +149,16 @@ class Run:
     """The entries of a run that are shown, `moments`, the wires among them, and the nodes before the first one. `steps`
     are those of a text, or of a `Player` by stamp."""
 
-    def __init__(self, name, network, steps, pulses=None):
+    def __init__(
+        self, name: str, network: Network, steps: Steps, pulses: tuple[int, int] | None = None
+    ) -> None:
         self.name, self.network, nodes = name, network, steps.state.nodes
         self.last, self.is_whole = nodes[1].last, all(node.drained() for node in nodes.values())
         every = steps.every if pulses else steps.every[: MOST_ENTRIES + 1]
         self.at_pulse = {v: {0: 0} for v in network.vertices}
         for entry, *_ in every:
-            if entry.kind == "Pulse":
-                self.at_pulse[entry.vertex][entry.what] = entry.stamp
+            if isinstance(entry.what, int):
+                self.at_pulse[entry.vertex][entry.what] = stamp_of(entry)
         first, end = self.window(every, pulses)
         self.moments = every[first:end]
         self.start = steps.start | {entry.vertex: look for entry, _, look in every[:first]}
@@ -122,11 +167,11 @@ class Run:
         for v, w, wire, *_ in self.wires:
             if wire[0] == "Payload":
                 self.sent.setdefault(wire[1], []).append((v, w, payload_words(wire[2])))
-        self.stamps = (
-            (self.moments[0][0].stamp - 1, self.moments[-1][0].stamp) if self.moments else (0, 0)
-        )
+        self.stamps = (0, 0)
+        if self.moments:
+            self.stamps = stamp_of(self.moments[0][0]) - 1, stamp_of(self.moments[-1][0])
 
-    def window(self, every, pulses):
+    def window(self, every: list[Step], pulses: tuple[int, int] | None) -> tuple[int, int]:
         """Which entries are shown: from where a first node begins the first pulse to where the last one ends the
         last."""
         reached = [max(during) for during in self.at_pulse.values()]
@@ -150,16 +195,16 @@ class Run:
             )
         return first, end
 
-    def payloads(self, pulse):
+    def payloads(self, pulse: int) -> list[tuple[int, int, str]]:
         """What was put in a pulse, in words, in one order for all runs."""
         return sorted(self.sent.get(pulse, []))
 
-    def table(self):
+    def table(self) -> dict[str, str | list[object] | tuple[int, int]]:
         """The rows that the page follows; what comes again and again has a number."""
         looks: dict[str, int] = {}
         texts: dict[str, int] = {}
 
-        def text(said):
+        def text(said: str) -> int:
             return texts.setdefault(said, len(texts))
 
         return {
@@ -183,7 +228,7 @@ class Run:
             "all": list(self.all_at()),
         }
 
-    def all_at(self):
+    def all_at(self) -> Iterator[tuple[int, int]]:
         """When the last node makes each pulse, as far as it is shown: the stamp, and how many entries are made then."""
         made = {
             entry.what: at
@@ -191,34 +236,43 @@ class Run:
             if entry.kind == "Pulse"
         }
         for pulse in range(self.pulses[0], self.pulses[1] + 1):
-            stamps = [reached.get(pulse) for reached in self.at_pulse.values()]
-            if None in stamps:
+            stamps = [reached[pulse] for reached in self.at_pulse.values() if pulse in reached]
+            if len(stamps) < len(self.at_pulse):
                 yield self.stamps[1], len(self.moments)
             else:
                 yield min(max(*stamps, self.stamps[0]), self.stamps[1]), made.get(pulse, 0)
 
 
-def run_of_text(name, text, network, pulses=None, program=Colouring):
+def run_of_text(
+    name: str,
+    text: str,
+    network: Network,
+    pulses: tuple[int, int] | None = None,
+    program: Program = Colouring,
+) -> Run:
     """The run of a transcript, as far as these pulses need it."""
     return Run(name, network, steps_of_text(name, network, text, pulses, program), pulses)
 
 
-def wires_of(every, first):
-    """[from, to, wire, number and stamp of its put, and of its take] of the wires that are on their links at or after
-    the first entry shown; an entry before it has a negative number, and one after those shown none.
-    """
-    flying: dict[tuple[int, int], deque[list]] = {}
-    found = []
+def wires_of(every: list[Step], first: int) -> list[Flight]:
+    """The wires that are on their links at or after the first entry shown; an entry before it has a negative number,
+    and one after those shown none."""
+    flying: dict[Edge, deque[int]] = {}
+    found: list[Flight] = []
     for at, (entry, *_) in enumerate(every, -first):
+        v, w, wire = entry.vertex, entry.neighbour, entry.what
+        if w is None or not isinstance(wire, tuple):
+            continue
         if entry.kind == "Put":
-            found.append([entry.vertex, entry.neighbour, entry.what, at, entry.stamp, None, None])
-            flying.setdefault((entry.vertex, entry.neighbour), deque()).append(found[-1])
-        elif entry.kind == "Take":
-            flying[entry.neighbour, entry.vertex].popleft()[5:] = at, entry.stamp
-    return [wire for wire in found if wire[5] is None or wire[5] >= 0]
+            flying.setdefault((v, w), deque()).append(len(found))
+            found.append(Flight(v, w, wire, at, entry.stamp))
+        else:
+            number = flying[w, v].popleft()
+            found[number] = found[number]._replace(take=at, take_stamp=entry.stamp)
+    return [flight for flight in found if flight.take is None or flight.take >= 0]
 
 
-def draw(runs):
+def draw(runs: list[Run]) -> str:
     """The page of one run, or of two of one network."""
     network, first = runs[0].network, runs[0]
     pulses = max(run.pulses[0] for run in runs), min(run.pulses[1] for run in runs)
@@ -241,7 +295,7 @@ def draw(runs):
     )
 
 
-def about(runs, pulses):
+def about(runs: list[Run], pulses: tuple[int, int]) -> str:
     run = runs[0]
     shown_ = f"Pulses {pulses[0]} to {pulses[1]} of {run.last}"
     entries = " and ".join(f"{len(one.moments):,}" for one in runs)

@@ -4,13 +4,18 @@ A fact is what a node is at some point of the rounds: ("identifier", v), ("colou
 after pulse p, or ("merged", v, f), the colour that v chose in the merge of forest f. `Cone` goes back from the last
 choice of a node to all facts that its value was worked out from. What a node didn't hear is no fact: that a channel is
 free follows from nobody's having taken it before; and who is whose parent follows from the greetings."""
+from collections.abc import Iterable, Iterator
+
 from lab.definitions.nodes import DROPPED
-from lab.definitions.rounds import LAST_COLOUR, SEED
+from lab.definitions.rounds import LAST_COLOUR, Rounds, SEED
 from lab.pictures.layout import distances
 from lab.pictures.rounds_picture import MOST_ROWS, draw_strips
 from lab.words import as_text, counted, in_words
 from lab.wrong import Wrong, at_most
 
+
+# A kind, and the numbers that it is of.
+Fact = tuple
 
 NOT_FOLLOWED = (
     "not followed: that nobody had taken the channel that it has; and the greetings, which say who is "
@@ -21,16 +26,18 @@ NOT_FOLLOWED = (
 class Cone:
     """The facts on which the channel of `vertex` depends, and the messages that carried them."""
 
-    def __init__(self, rounds, vertex):
-        self.rounds, self.network, self.vertex = rounds, rounds.network, vertex
-        if vertex not in self.network.vertices:
+    def __init__(self, rounds: Rounds, vertex: int | None) -> None:
+        self.rounds, self.network = rounds, rounds.network
+        if vertex is None or vertex not in self.network.vertices:
             raise Wrong(f"{self.network.name} has no vertex {vertex}")
-        self.messages = set()
-        self.facts = (
-            self.behind(("merged", vertex, rounds.forests - 1)) if rounds.forests else set()
-        )
+        self.vertex = vertex
+        # The pulse, from, to, and what was said.
+        self.messages: set[tuple[int, int, int, str]] = set()
+        self.facts: set[Fact] = set()
+        if rounds.forests:
+            self.facts = self.behind(("merged", vertex, rounds.forests - 1))
 
-    def behind(self, fact):
+    def behind(self, fact: Fact) -> set[Fact]:
         """A fact and all those on which it depends."""
         found, left = {fact}, [fact]
         while left:
@@ -39,22 +46,22 @@ class Cone:
             left += new
         return found
 
-    def choices(self):
+    def choices(self) -> list[tuple[int, int]]:
         """(vertex, forest) of each choice that mattered, the last one first."""
-        found = [fact[1:] for fact in self.facts if fact[0] == "merged"]
+        found = [(v, f) for kind, v, *more in self.facts if kind == "merged" for f in more]
         return sorted(found, key=lambda choice: (-self.rounds.turns[choice[1], choice[0]], choice))
 
-    def coloured(self):
+    def coloured(self) -> list[tuple[int, int]]:
         """(vertex, forest) where a colour mattered, by forest."""
         found = {(f, v) for kind, v, *more in self.facts if kind == "colour" for f in more[:1]}
         return [(v, f) for f, v in sorted(found)]
 
-    def causes_of(self, kind, *fact):
+    def causes_of(self, kind: str, *fact: int) -> Iterable[Fact]:
         if kind == "merged":
             return self.causes_of_choice(*fact)
         return self.causes_of_colour(*fact) if kind == "colour" else ()
 
-    def causes_of_choice(self, v, f):
+    def causes_of_choice(self, v: int, f: int) -> Iterator[Fact]:
         """Its pair, which is its turn; and, for each lower colour, who had taken it first, if it isn't barred."""
         yield "colour", v, f, LAST_COLOUR
         if f:
@@ -64,8 +71,8 @@ class Cone:
                 self.messages.add((when, w, v, f"chosen {lower}"))
                 yield "merged", w, f
 
-    def takers(self, v, f):
-        """(lower colour, pulse, neighbour that took it first) of v's choice; no neighbour of one that is barred."""
+    def takers(self, v: int, f: int) -> Iterator[tuple[int, int, int]]:
+        """(lower colour, pulse, neighbour that took it first) of v's choice; 0 and 0 of one that is barred."""
         rounds, merged = self.rounds, self.rounds.merged[f + 1]
         near = [
             (rounds.turns[f, w], w)
@@ -74,7 +81,7 @@ class Cone:
         ]
         for lower in range(merged[v]):
             yield lower, *(
-                (None, None)
+                (0, 0)
                 if lower in self.network.barred[v]
                 else min(
                     (turn, w)
@@ -83,7 +90,7 @@ class Cone:
                 )
             )
 
-    def causes_of_colour(self, v, f, p):
+    def causes_of_colour(self, v: int, f: int, p: int) -> Iterator[Fact]:
         if p == SEED:
             yield "identifier", v
             return
@@ -98,21 +105,21 @@ class Cone:
         if parent and (phase == "step" or before[v, f] == DROPPED[p]):
             yield self.told(v, parent, f, p)
 
-    def told(self, v, parent, f, p):
+    def told(self, v: int, parent: int, f: int, p: int) -> tuple[str, int, int, int]:
         """The parent's colour before pulse p, which it told v in the pulse before."""
         self.messages.add(
             (p - 1, parent, v, f"colour {self.rounds.pulses[p - 1].colours[parent, f]}")
         )
         return "colour", parent, f, p - 1
 
-    def identifiers(self):
+    def identifiers(self) -> list[int]:
         return sorted(fact[1] for fact in self.facts if fact[0] == "identifier")
 
-    def forests(self):
+    def forests(self) -> list[int]:
         return sorted({fact[2] for fact in self.facts if fact[0] != "identifier"})
 
 
-def summary(cone):
+def summary(cone: Cone) -> str:
     """How many messages decided it, and on whose identifiers it depends."""
     names = cone.identifiers()
     if not names:
@@ -127,11 +134,11 @@ def summary(cone):
     )
 
 
-def channel_of(cone):
+def channel_of(cone: Cone) -> int:
     return cone.rounds.merged[-1][cone.vertex] + 1
 
 
-def text(cone):
+def text(cone: Cone) -> str:
     """In words: each choice that mattered, the last one first, and the colours that gave the turns."""
     lines = [
         f"why node {cone.vertex} of {cone.network.name} has channel {channel_of(cone)}",
@@ -149,7 +156,7 @@ def text(cone):
     return as_text(lines)
 
 
-def message_words(cone, pulse, v, w, said):
+def message_words(cone: Cone, pulse: int, v: int, w: int, said: str) -> str:
     """A message, and the forest of which it is: of a colour that of the edge, of a choice the one that is merged."""
     step = cone.rounds.pulses[pulse].step
     where = (
@@ -158,9 +165,9 @@ def message_words(cone, pulse, v, w, said):
     return f"{v} told {w} {said} in pulse {pulse}, {where}"
 
 
-def choice_lines(cone, v, f):
+def choice_lines(cone: Cone, v: int, f: int) -> Iterator[str]:
     pulse, colour = cone.rounds.turns[f, v], cone.rounds.merged[f + 1][v]
-    _, three, old = cone.rounds.pulses[pulse].step
+    _, three, old = cone.rounds.pulses[pulse].turn()
     yield (
         f"pulse {pulse}, merge of forest {f}: the turn of node {v}, with colour {three} in the forest and {old} so "
         f"far; it chooses colour {colour}, channel {colour + 1}"
@@ -168,12 +175,12 @@ def choice_lines(cone, v, f):
     for lower, when, w in cone.takers(v, f):
         yield (
             f"  channel {lower + 1} is barred at it"
-            if w is None
+            if not w
             else f"  channel {lower + 1} is taken: node {w} told it so in pulse {when}"
         )
 
 
-def colour_line(cone, v, f):
+def colour_line(cone: Cone, v: int, f: int) -> str:
     """The colours of a node in a forest that mattered, by pulse; a point stands for one that didn't."""
     parent = cone.rounds.parents.get((v, f))
     said = " ".join(
@@ -184,7 +191,7 @@ def colour_line(cone, v, f):
     return f"forest {f}, node {v}, {above}, pulses 2 to 12: {said}"
 
 
-def draw(cone):
+def draw(cone: Cone) -> str:
     """The rounds, with all that didn't matter faded."""
     rounds, network = cone.rounds, cone.network
     forests = cone.forests()

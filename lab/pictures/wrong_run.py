@@ -1,13 +1,23 @@
 """The run of a transcript up to its first entry that isn't possible, that entry in red, with what the judge says of
 it."""
+from collections.abc import Collection
+from typing import TYPE_CHECKING
+
 from lab.pictures.palette import WIRES, WRONG
+from lab.pictures.svg import Svg
+from lab.pictures.transcripts import Run
+from lab.transcripts.reading import Entry
 from lab.wrong import Wrong
 
 # How long the arrow of a wire that nobody took is: a part of the way to the neighbour's row, and steps of time.
 PART_OF_ROW, STEPS = 0.55, 2.2
 
 
-def said_of(run, stopped: int | None) -> str:
+if TYPE_CHECKING:
+    from lab.pictures.run_picture import Window
+
+
+def said_of(run: Run, stopped: int | None) -> str:
     """What is wrong with a run, if something is. Of one that isn't whole `stopped` may say at which vertex it
     stopped."""
     if stopped is not None and stopped not in run.network.vertices:
@@ -22,13 +32,13 @@ def said_of(run, stopped: int | None) -> str:
     )
 
 
-def usual_pulses(run) -> tuple[int, int]:
+def usual_pulses(run: Run, wrong: Entry) -> tuple[int, int]:
     """The pulse of the wrong entry's node, and the one before."""
-    pulse = max(run.ticks[run.wrong[0].vertex])
+    pulse = max(run.ticks[wrong.vertex])
     return max(0, pulse - 1), pulse
 
 
-def draw_wrong(svg, window, kinds, stopped: int | None) -> None:
+def draw_wrong(svg: Svg, window: "Window", kinds: Collection[str], stopped: int | None) -> None:
     """A short arrow for each wire that nobody took; in red the wrong entry, a tick or the beginning or the end of an
     arrow, or a disc behind the last entry of the vertex at which the run stopped."""
     run = window.run
@@ -41,7 +51,7 @@ def draw_wrong(svg, window, kinds, stopped: int | None) -> None:
         entry, why = run.wrong
         v, time = entry.vertex, run.reached[entry.vertex] + 1
         with svg.group("wrong", f"line {why.line}, not possible"):
-            if entry.kind == "Pulse":
+            if entry.neighbour is None:
                 svg.line(
                     window.x(time), window.y(v) - 14, window.x(time), window.y(v) + 14, WRONG, 5
                 )
@@ -56,7 +66,15 @@ def draw_wrong(svg, window, kinds, stopped: int | None) -> None:
 
 
 def draw_stub(
-    svg, window, v, w, time, colour: str, width: float, dash: str | None = None, is_put=True
+    svg: Svg,
+    window: "Window",
+    v: int,
+    w: int,
+    time: float,
+    colour: str,
+    width: float,
+    dash: str | None = None,
+    is_put: bool = True,
 ) -> None:
     """A part of the arrow of a put or a take of v's, at v."""
     x, y = window.x(time), window.y(v)

@@ -1,7 +1,7 @@
 """The dares of the tab Adversary: a goal for any network, won by steps that the definitions play."""
 from collections.abc import Iterable
 
-from lab.definitions.nodes import Colouring
+from lab.definitions.rounds import Rounds
 from lab.pictures.layout import distances
 from lab.pictures.program_rounds import rounds_of
 from lab.pictures.watch_page import look_of
@@ -55,7 +55,7 @@ def goal(network, dare):
 def results_of(network, program):
     """What the nodes find in the rounds: their channels, or the words of another program."""
     rounds = rounds_of(network, program)
-    if program is Colouring:
+    if isinstance(rounds, Rounds):
         return [rounds.merged[-1][v] + 1 for v in network.vertices]
     return [rounds.pulses[-1].results[v] for v in network.vertices]
 

@@ -4,7 +4,7 @@ from lab.definitions.nodes import Colouring
 from lab.definitions.rounds import SEED, Rounds
 from lab.pictures.player_page import SAY
 from lab.pictures.program_rounds import ProgramRounds
-from lab.pictures.watch_page import look_of
+from lab.pictures.watch_page import waits_of
 from lab.pictures.why_picture import Cone, choice_lines
 from lab.schedules.rules import OF_SCHEDULES
 from lab.schedules.stepwise import Stepwise
@@ -88,11 +88,10 @@ def waits(asked, _tell):
     program = program_asked(asked, network)
     player = Stepwise(network, program, rules_asked(asked, OF_SCHEDULES))
     player.follow(asked["steps"].split("_"))
-    look = look_of(player.state, v)
-    found = sorted(f"{what} {w}" for what, w in look["w"])
+    found = sorted(f"{what} {w}" for what, w in waits_of(player.state, v))
     said = sorted(filter(None, map(words, asked["said"].split(","))))
     if not found:
-        done = "It has made its last pulse." if look["e"] else "It has all that it needs."
+        done = "It has made its last pulse." if player.state.nodes[v].drained() else "It has all that it needs."
         return {"right": said in ([], ["nothing"]), "found": "nothing", "why": done}
     why = "It makes its next pulse when its payloads are acknowledged and its neighbours are safe."
     return {"right": said == found, "found": ", ".join(found), "why": why}

@@ -100,8 +100,8 @@ def broken(asked, _tell):
     if not without:
         raise Wrong("which rule is left out?")
     here = ruled(program)(network, without)
-    told = {"here": here.clash is not None, "found": None, "picture": None}
-    if told["here"]:
+    told: dict[str, object] = {"here": here.clash is not None, "found": None, "picture": None}
+    if here.clash is not None:
         words = here.words()
         told["picture"] = broken_picture.draw(network, without, program)
     else:
