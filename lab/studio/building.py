@@ -10,6 +10,7 @@ import time
 
 from lab.programs import TOP, built
 from lab.studio.asked import OPENED
+from lab.studio.fields import Asked, Tell, Told
 from lab.wrong import Wrong
 
 PROGRAMS = ("forestplan", "forestplay")
@@ -21,7 +22,7 @@ BUILD = [sys.executable, "-S", os.path.join(TOP, "build"), "program"]
 WANTED = signal.SIGUSR1
 
 
-def are_built():
+def are_built() -> bool:
     """Whether both programs are built from the sources as they are now, or this is an installed folder, which has
     them."""
     if not os.path.exists(os.path.join(TOP, "forestplan")):
@@ -36,14 +37,16 @@ def are_built():
 class Building:
     """The build in the server's own process; what it says is in a file."""
 
-    def __init__(self, folder):
-        self.process, self.is_wanted, OPENED["log"] = None, False, os.path.join(folder, "build.log")
+    def __init__(self, folder: str) -> None:
+        self.process: subprocess.Popen[bytes] | None = None
+        self.is_wanted = False
+        OPENED["log"] = os.path.join(folder, "build.log")
         signal.signal(WANTED, self.want)
 
-    def want(self, *_):
+    def want(self, *_: object) -> None:
         self.is_wanted = True
 
-    def look(self):
+    def look(self) -> None:
         """Begins what is wanted, and takes note of what is done. Called again and again."""
         if self.is_wanted and self.process is None and not OPENED["is_proved"]:
             with open(OPENED["log"], "w", encoding="utf-8") as log:
@@ -65,17 +68,18 @@ class Building:
                 )
             self.process = None
 
-    def end(self):
+    def end(self) -> None:
         if self.process is None:
             return
         for number in (signal.SIGTERM, signal.SIGKILL):
             with contextlib.suppress(ProcessLookupError):
                 os.killpg(self.process.pid, number)
             with contextlib.suppress(subprocess.TimeoutExpired):
-                return self.process.wait(10)
+                self.process.wait(10)
+                return
 
 
-def begin(_asked, _tell):
+def begin(_asked: Asked, _tell: Tell) -> Told:
     """Asks for the build, and waits until it has begun."""
     if shutil.which("rt") is None:
         raise Wrong(
@@ -89,7 +93,7 @@ def begin(_asked, _tell):
     return so_far()
 
 
-def so_far(_asked=None, _tell=None):
+def so_far(_asked: Asked | None = None, _tell: Tell | None = None) -> Told:
     """How far the build is, in its own words."""
     try:
         with open(OPENED["log"], "rb") as log:

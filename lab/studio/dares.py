@@ -1,11 +1,14 @@
 """The dares of the tab Adversary: a goal for any network, won by steps that the definitions play."""
-from collections.abc import Iterable
+from collections.abc import Collection, Iterable
 
+from lab.definitions.nodes import Program
 from lab.definitions.rounds import Rounds
+from lab.network import Edge, Network
 from lab.pictures.layout import distances
 from lab.pictures.program_rounds import rounds_of
 from lab.pictures.watch_page import look_of
 from lab.schedules.stepwise import Stepwise
+from lab.studio.fields import Told
 from lab.words import counted
 from lab.wrong import Wrong
 
@@ -18,7 +21,9 @@ DARES = {
 }
 
 
-def judged(network, program, without, steps: Iterable[str], dare):
+def judged(
+    network: Network, program: Program, without: tuple[str, ...], steps: Iterable[str], dare: str
+) -> Told:
     """{won, said} of steps: whether they win the dare, and how far they come."""
     if dare not in DARES:
         raise Wrong(f"there is no dare {dare}")
@@ -38,7 +43,7 @@ def judged(network, program, without, steps: Iterable[str], dare):
     return results_judged(player, network, program)
 
 
-def goal(network, dare):
+def goal(network: Network, dare: str) -> tuple[Collection[Edge], int]:
     """The pairs of which one has to come apart, and by how many pulses."""
     if dare == "apart":
         return network.edges, 2
@@ -52,7 +57,7 @@ def goal(network, dare):
     return [(v, w)], ways[v][w]
 
 
-def results_of(network, program):
+def results_of(network: Network, program: Program) -> list[str | int]:
     """What the nodes find in the rounds: their channels, or the words of another program."""
     rounds = rounds_of(network, program)
     if isinstance(rounds, Rounds):
@@ -60,7 +65,7 @@ def results_of(network, program):
     return [rounds.pulses[-1].results[v] for v in network.vertices]
 
 
-def results_judged(player, network, program):
+def results_judged(player: Stepwise, network: Network, program: Program) -> Told:
     looks = [look_of(player.state, v) for v in network.vertices]
     if player.is_over or not all(look["e"] for look in looks):
         return {"won": False, "said": "not all nodes have halted"}

@@ -11,6 +11,10 @@ from typing import Any
 from lab.networks.fields import shown
 from lab.wrong import Wrong
 
+# The fields of a call by their names, what it tells the page, and how it says how far it is.
+Asked = dict[str, Any]
+Told = dict[str, Any]
+Tell = Callable[..., None]
 # The value of a field, or what it has to be, as `Wrong` says it.
 Parse = Callable[[object], Any]
 # A number of a call is no larger: no node, pulse or seed is.

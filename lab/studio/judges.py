@@ -5,13 +5,15 @@ always judged by the definitions."""
 import re
 
 from lab.definitions.colours import plan_text
-from lab.definitions.nodes import NetState, Refused, entry_words, make
+from lab.definitions.nodes import NetState, Program, Refused, entry_words, make
 from lab.definitions.programs import program_words
-from lab.networks.plan_text import clashes
 from lab.definitions.rounds import Rounds
+from lab.network import Network
+from lab.networks.plan_text import clashes
 from lab.pictures.program_rounds import is_own
 from lab.programs import called
 from lab.studio.asked import OPENED
+from lab.studio.fields import Told
 from lab.transcripts.check import whole_run
 from lab.transcripts.reading import Wrong as WrongEntry, read
 from lab.words import as_text
@@ -21,7 +23,7 @@ MOST_TEXT = 64 << 20
 MACHINE, PYTHON = "The proved machine", "Python (not proved)"
 
 
-def said_by(name, words, *texts):
+def said_by(name: str, words: list[str], *texts: str) -> tuple[int, str, str]:
     """(status, output, what is said on standard error) of a program, as texts."""
     done = called(name, words, "".join(texts).encode())
     if len(done.stdout) > MOST_TEXT:
@@ -29,14 +31,14 @@ def said_by(name, words, *texts):
     return done.returncode, done.stdout.decode(), done.stderr.decode().strip()
 
 
-def text_from(name, words, network_text):
+def text_from(name: str, words: list[str], network_text: str) -> str:
     status, output, said = said_by(name, words, network_text)
     if status:
         raise Wrong(said or f"{name} ended with status {status}")
     return output
 
 
-def plan_of(network, text):
+def plan_of(network: Network, text: str) -> str:
     """The plan of a network, as a text."""
     return (
         text_from("forestplan", ["plain"], text)
@@ -45,7 +47,7 @@ def plan_of(network, text):
     )
 
 
-def rounds_of(network, text):
+def rounds_of(network: Network, text: str) -> Rounds:
     """The rounds of the colouring, which those of the proved program have to be."""
     rounds = Rounds(network)
     if OPENED["is_proved"] and text_from("forestplay", ["rounds"], text) != as_text(rounds.lines()):
@@ -53,7 +55,7 @@ def rounds_of(network, text):
     return rounds
 
 
-def verdict_on(network, text, plan):
+def verdict_on(network: Network, text: str, plan: dict[int, int]) -> str:
     """What `check` says of a plan {vertex: channel}, as `proper 3` or `C4 vertices 1 2`."""
     if OPENED["is_proved"]:
         lines = as_text(["plan", *(f"{v} {channel}" for v, channel in plan.items())])
@@ -71,7 +73,7 @@ def verdict_on(network, text, plan):
     return f"C4 vertices {same[0][0]} {same[0][1]}" if same else f"proper {max(plan.values())}"
 
 
-def by_definitions(network, text, program):
+def by_definitions(network: Network, text: str, program: Program) -> Told:
     """What they say of a whole transcript, and the line of its fault."""
     try:
         said = whole_run(network, text.encode(), program)[1]
@@ -80,7 +82,7 @@ def by_definitions(network, text, program):
         return {"ok": False, "said": str(fault), "line": fault.line, "by": PYTHON}
 
 
-def judged(network, network_text, text, program):
+def judged(network: Network, network_text: str, text: str, program: Program) -> Told:
     """What is said of a whole transcript: {entries, ok, said, by}."""
     entries = {"entries": max(0, text.count("\n") - 1)}
     if not OPENED["is_proved"] or is_own(program):
@@ -89,13 +91,15 @@ def judged(network, network_text, text, program):
     return entries | {"ok": status == 0, "said": said or output, "by": MACHINE}
 
 
-def replayed(network_text, text, program):
+def replayed(network_text: str, text: str, program: Program) -> tuple[int, str, str]:
     """(status, output, what is said) of the proved program."""
     words = ["replay", *program_words(program)]
     return said_by("forestplay", words, network_text, "\n", text)
 
 
-def beginning_judged(network, network_text, entries, program):
+def beginning_judged(
+    network: Network, network_text: str, entries: list[str], program: Program
+) -> Told:
     """What is said of the first entries of a run, each without its stamp: {ok, said, pulses, wires, by}."""
     text = as_text([f"transcript 1 {network.nodes}", *entries])
     if OPENED["is_proved"] and not is_own(program):

@@ -71,20 +71,20 @@ PLACES = [
 ]
 
 
-def page_of(name):
+def page_of(name: str) -> str:
     """A page of docs/learn."""
     with open(os.path.join(TOP, "docs", "learn", name), encoding="utf-8") as file:
         return file.read()
 
 
-def numbered(page, title):
+def numbered(page: str, title: str) -> dict[int, str]:
     """{number: text} of the list below a title."""
     section = page.partition(f"\n## {title}\n")[2].partition("\n## ")[0].partition("\n### ")[0]
     items = re.findall(r"^(\d)\. (.*?)(?=^\d\. |\Z)", section, re.M | re.S)
     return {int(number): words for number, words in items}
 
 
-def lesson_of(number):
+def lesson_of(number: int) -> tuple[str, str, str]:
     """(title, question, text) of a lesson's page. What is outside its two rules speaks of the page: what one can do
     afterwards and without the kit, and where to go on. Links to lessons lead to those of the studio.
     """
@@ -96,7 +96,7 @@ def lesson_of(number):
     return title, ask, re.sub(r"\]\(LESSON_(\d)\.md[^)]*\)", r"](#\1-)", text)
 
 
-def lessons():
+def lessons() -> list[dict[str, object]]:
     """All lessons, as the studio's page has them: with the whole text, in Markdown, a hint and an answer."""
     page = page_of("ANSWERS.md")
     hints, answers = numbered(page, "Hints"), numbered(page, "Answers")
@@ -120,7 +120,7 @@ def lessons():
     return found
 
 
-def lecture():
+def lecture() -> list[dict[str, str]]:
     """The places of the twenty minutes: {minutes, title, open, say}."""
     rows = re.findall(
         r"^- \*\*(.*?)\*\*, \[(.*?)\]\(\S*?#(\S*?)\): (.*?)(?=^- |^$)",

@@ -2,11 +2,13 @@
 import os
 import re
 from argparse import ArgumentParser
+from collections.abc import Sequence
 from dataclasses import dataclass
 from math import isqrt, prod
-from typing import Any
+from typing import Any, NoReturn
 
 from lab.definitions.programs import MAX_PASSES, PROGRAMS
+from lab.network import Network
 from lab.networks.kinds import KINDS
 from lab.networks.network_text import read_network, stem
 from lab.networks.options import add_form, add_stated, stated_by
@@ -17,11 +19,12 @@ from lab.pictures.pages import net_of
 from lab.pictures.places import places_of
 from lab.programs import TOP
 from lab.schedules.policies import POLICIES
-from lab.schedules.rules import OF_PROGRAMS, OF_SCHEDULES
-from lab.studio.address import NAMES, Address, Here, lesson_opened, pairs_of, read_values
+from lab.schedules.rules import OF_PROGRAMS, OF_SCHEDULES, Rule
+from lab.studio.address import Address, Here, NAMES, lesson_opened, pairs_of, read_values
 from lab.studio.asked import MOST_DRAWN, OPENED, network_asked
 from lab.studio.dares import DARES
 from lab.studio.drawn import drawn_of
+from lab.studio.fields import Asked, Tell, Told
 from lab.studio.lessons import lecture, lessons
 from lab.wrong import Wrong
 
@@ -32,7 +35,7 @@ REACH = 0.26
 EXAMPLES = os.path.join(TOP, "examples")
 
 
-def shown(network, said=()):
+def shown(network: Network, said: Sequence[str] = ()) -> Told:
     """A network as the page has it, and how it was read."""
     if network.nodes > MOST_DRAWN:
         raise Wrong(
@@ -41,7 +44,7 @@ def shown(network, said=()):
     return net_of(network) | {"said": list(said)}
 
 
-def hello(_asked, _tell):
+def hello(_asked: Asked, _tell: Tell) -> Told:
     """What there is to choose from."""
     return {
         "proved": OPENED["is_proved"],
@@ -66,18 +69,18 @@ def hello(_asked, _tell):
     }
 
 
-def said_of(rules):
+def said_of(rules: dict[str, Rule]) -> dict[str, dict[str, str]]:
     return {word: {"says": rule.says, "without": rule.without} for word, rule in rules.items()}
 
 
-def example_text(name):
+def example_text(name: str) -> str:
     if name + ".col" not in os.listdir(EXAMPLES):
         raise Wrong(f"there is no example {name}")
     with open(os.path.join(EXAMPLES, name + ".col"), encoding="utf-8") as file:
         return file.read()
 
 
-def example(asked, _tell):
+def example(asked: Asked, _tell: Tell) -> Told:
     return shown(read_network(example_text(asked["name"]), asked["name"]))
 
 
@@ -115,7 +118,7 @@ def here_of(network: dict[str, Any]) -> Here:
     return Here(len(network["nodes"]), {(v, w) for v, w in network["edges"]})
 
 
-def address(asked, _tell):
+def address(asked: Asked, _tell: Tell) -> Told:
     """What an address says, for the page that follows it: `nodes` and `edges` are those that it has."""
     before = OPENED["network"]
     here = Here(asked["nodes"], {(v, w) for v, w in asked["edges"]})
@@ -129,7 +132,7 @@ def address(asked, _tell):
     }
 
 
-def file_read(asked, _tell):
+def file_read(asked: Asked, _tell: Tell) -> Told:
     """A file that was dropped on the page, or the page's question if something of it isn't stated.
 
     What is stated are the words of a command line.
@@ -148,11 +151,11 @@ def file_read(asked, _tell):
 class Options(ArgumentParser):
     """A parser that ends no process."""
 
-    def error(self, message):
+    def error(self, message: str) -> NoReturn:
         raise Wrong(message)
 
 
-def command_line():
+def command_line() -> Options:
     """The options that state what a file is."""
     options = Options(add_help=False)
     add_form(options)
@@ -166,7 +169,7 @@ def whole_number(said: str, name: str) -> int:
     return int(said)
 
 
-def make(asked, _tell):
+def make(asked: Asked, _tell: Tell) -> Told:
     kind = asked["kind"]
     sizes = [whole_number(asked["sizes"].get(size, ""), size) for size in KINDS[kind].sizes]
     nodes = sizes[0] if kind == "random" else prod(sizes)
@@ -180,7 +183,7 @@ def make(asked, _tell):
     return shown(network)
 
 
-def by_shape(kind, nodes, *_):
+def by_shape(kind: str, nodes: int, *_: int) -> dict[int, tuple[float, float]]:
     """Where the nodes of a long row or ring are: it goes to and fro. What else has a shape has its places already."""
     if kind not in ("path", "ring") or nodes <= 40:
         return {}
@@ -192,7 +195,7 @@ def by_shape(kind, nodes, *_):
     }
 
 
-def tidy(asked, _tell):
+def tidy(asked: Asked, _tell: Tell) -> Told:
     network = network_asked(asked)
     network.places = {}
     network.places = places_of(network)

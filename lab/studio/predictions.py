@@ -1,7 +1,7 @@
 """Predict, then look: what a node has after a pulse, or what it waits for, as a student says it, beside what the
 definitions find and why."""
 from lab.definitions.nodes import Colouring
-from lab.definitions.rounds import SEED, Rounds
+from lab.definitions.rounds import Rounds, SEED
 from lab.pictures.player_page import SAY
 from lab.pictures.program_rounds import ProgramRounds
 from lab.pictures.watch_page import waits_of
@@ -16,11 +16,12 @@ from lab.studio.asked import (
     rules_asked,
     vertex_asked,
 )
+from lab.studio.fields import Asked, Tell, Told
 from lab.words import in_words
 from lab.wrong import Wrong
 
 
-def predict(asked, _tell):
+def predict(asked: Asked, _tell: Tell) -> Told:
     """{right, found, why} of what is said of a node after a pulse; of the colouring in a forest, or in its merge."""
     network = network_asked(asked, MOST_ROUNDS)
     program = program_asked(asked, network)
@@ -39,7 +40,7 @@ def words(said: str) -> str:
     return " ".join(said.lower().split())
 
 
-def of_colouring(rounds, v, pulse, forest):
+def of_colouring(rounds: Rounds, v: int, pulse: int, forest: int) -> tuple[str, str]:
     now = rounds.pulses[pulse]
     if now.step:
         return of_merge(rounds, v, pulse, now.step[0])
@@ -55,7 +56,7 @@ def of_colouring(rounds, v, pulse, forest):
     )
 
 
-def cause(rounds, kind, v, forest=None, pulse=None):
+def cause(rounds: Rounds, kind: str, v: int, forest: int = 0, pulse: int = 0) -> str:
     """A fact on which a colour depends, in words."""
     if kind == "identifier":
         return f"the identifier of node {v} is {rounds.network.identifiers[v]}"
@@ -63,7 +64,7 @@ def cause(rounds, kind, v, forest=None, pulse=None):
     return f"node {v} had colour {colour} ({colour:b} in binary) after pulse {pulse}"
 
 
-def of_merge(rounds, v, pulse, forest):
+def of_merge(rounds: Rounds, v: int, pulse: int, forest: int) -> tuple[str, str]:
     turn = rounds.turns[forest, v]
     if turn != pulse:
         return "-", f"Its turn in the merge of forest {forest} is pulse {turn}."
@@ -71,7 +72,7 @@ def of_merge(rounds, v, pulse, forest):
     return str(rounds.merged[forest + 1][v] + 1), "; ".join(lines) + "."
 
 
-def of_program(rounds, v, pulse):
+def of_program(rounds: ProgramRounds, v: int, pulse: int) -> tuple[str, str]:
     """What it has found, and the messages that it has read."""
     read = [
         f"`{word} {sent}` from {w}"
@@ -81,7 +82,7 @@ def of_program(rounds, v, pulse):
     return rounds.pulses[pulse].results[v], f"It reads {in_words(read) or 'nothing'}."
 
 
-def waits(asked, _tell):
+def waits(asked: Asked, _tell: Tell) -> Told:
     """The same of what a node waits for after some steps, as `ack 2, safe 3`: the word, and of whom."""
     network = network_asked(asked, MOST_RUN)
     v = vertex_asked(asked, network)
@@ -91,7 +92,11 @@ def waits(asked, _tell):
     found = sorted(f"{what} {w}" for what, w in waits_of(player.state, v))
     said = sorted(filter(None, map(words, asked["said"].split(","))))
     if not found:
-        done = "It has made its last pulse." if player.state.nodes[v].drained() else "It has all that it needs."
+        done = (
+            "It has made its last pulse."
+            if player.state.nodes[v].drained()
+            else "It has all that it needs."
+        )
         return {"right": said in ([], ["nothing"]), "found": "nothing", "why": done}
     why = "It makes its next pulse when its payloads are acknowledged and its neighbours are safe."
     return {"right": said == found, "found": ", ".join(found), "why": why}

@@ -3,23 +3,24 @@ goes wrong without a rule, and pictures."""
 import re
 
 from lab.definitions.nodes import Colouring, last_pulse
+from lab.definitions.rounds import Rounds
 from lab.networks.codes import code_of
 from lab.networks.plan_text import read_plan
 from lab.pictures import broken_picture, player_page, why_picture
-from lab.definitions.rounds import Rounds
 from lab.pictures.pages import net_of
 from lab.pictures.picture import Source, Text, drawing
 from lab.pictures.program_rounds import ProgramRounds
 from lab.schedules.ruled_rounds import ruled, smallest_wrong
 from lab.schedules.rules import OF_PROGRAMS
 from lab.studio.asked import MOST_ROUNDS, network_asked, program_asked, rules_asked, vertex_asked
+from lab.studio.fields import Asked, Tell, Told
 from lab.studio.judges import plan_of, rounds_of, verdict_on
 from lab.wrong import Wrong
 
 KINDS = "plan", "results", "rounds", "bits", "why", "run"
 
 
-def plan(asked, _tell):
+def plan(asked: Asked, _tell: Tell) -> Told:
     """The plan, and what the network comes to."""
     network = network_asked(asked)
     channels = read_plan(plan_of(network, asked["network"]), "the plan", network)
@@ -34,7 +35,7 @@ def plan(asked, _tell):
     }
 
 
-def check(asked, _tell):
+def check(asked: Asked, _tell: Tell) -> Told:
     """The verdict on a plan, whoever made it, and what its code means."""
     network = network_asked(asked)
     if len(asked["plan"]) > network.nodes or min(asked["plan"], default=0) < 0:
@@ -57,12 +58,12 @@ def check(asked, _tell):
     }
 
 
-def of_nodes(words):
+def of_nodes(words: str) -> str:
     """In the page's words: a vertex is a node."""
     return words.replace("vertices", "nodes").replace("vertex", "node")
 
 
-def rounds_asked(asked):
+def rounds_asked(asked: Asked) -> ProgramRounds | Rounds:
     network = network_asked(asked, MOST_ROUNDS)
     program = program_asked(asked, network)
     if program is not Colouring:
@@ -70,17 +71,17 @@ def rounds_asked(asked):
     return rounds_of(network, asked["network"])
 
 
-def rounds(asked, _tell):
+def rounds(asked: Asked, _tell: Tell) -> Told:
     """The rounds, pulse by pulse."""
     return player_page.film_of(rounds_asked(asked))
 
 
-def rounds_page(asked, _tell):
+def rounds_page(asked: Asked, _tell: Tell) -> str:
     """A page that plays the rounds and needs no server, as the command `picture player` draws it."""
     return player_page.draw(rounds_asked(asked))
 
 
-def why(asked, _tell):
+def why(asked: Asked, _tell: Tell) -> Told:
     """Why a node has its channel."""
     network = network_asked(asked, MOST_ROUNDS)
     cone = why_picture.Cone(Rounds(network), vertex_asked(asked, network))
@@ -91,7 +92,7 @@ def why(asked, _tell):
     }
 
 
-def broken(asked, _tell):
+def broken(asked: Asked, _tell: Tell) -> Told:
     """What the rounds of this network do without a rule, in words; and a picture of it, or of a smallest network on
     which they go wrong, if there is one."""
     network = network_asked(asked, MOST_ROUNDS)
@@ -115,7 +116,7 @@ def broken(asked, _tell):
     return told | {"words": words.split("\n")}
 
 
-def picture(asked, _tell):
+def picture(asked: Asked, _tell: Tell) -> str:
     """A picture, as the command `picture` draws it."""
     kind, network, texts = asked["kind"], network_asked(asked), []
     if kind == "plan":

@@ -1,10 +1,12 @@
 """The calls on runs without a clock: a run by a seed, by threads or of a transcript, its verdicts, and a run that is
 made step by step."""
 import re
+from collections.abc import Iterator
 
 from lab import processors
-from lab.definitions.nodes import Colouring
+from lab.definitions.nodes import Colouring, Program
 from lab.definitions.programs import program_words
+from lab.network import Network
 from lab.pictures.program_rounds import is_own, least_wires, rounds_of
 from lab.pictures.watch_page import MOST_ENTRIES, Run, Steps, draw, look_of, run_of_text
 from lab.schedules.policies import Policy
@@ -21,6 +23,7 @@ from lab.studio.asked import (
     rules_asked,
 )
 from lab.studio.dares import judged as dare_judged, results_of
+from lab.studio.fields import Asked, Tell, Told
 from lab.studio.judges import beginning_judged, by_definitions, judged, text_from
 from lab.transcripts.reading import line_of
 from lab.wrong import Wrong
@@ -33,16 +36,16 @@ KINDS = "payload", "ack", "safe", "close"
 MOST_BY_CHANCE = 200
 
 
-def held_of(asked, net):
+def held_of(asked: Asked, net: Network) -> tuple[set[tuple[int, int]], set[int]]:
     """The links and nodes that wait."""
-    slow = {tuple(sorted(edge)) for edge in asked["slow"]}
+    slow = {(min(edge), max(edge)) for edge in asked["slow"]}
     lazy = set(asked["lazy"])
     if not slow <= set(net.edges) or not lazy <= set(net.neighbours):
         raise Wrong("the fields slow, lazy: a link or a node that waits isn't in this network")
     return slow, lazy
 
 
-def played(asked, network, program, tell):
+def played(asked: Asked, network: Network, program: Program, tell: Tell) -> tuple[str, Run]:
     """(transcript, run) by a seed, which no thread made; steps of somebody's may come first."""
     most = least_wires(network, program)
     if most > MOST_WIRES_PLAYED:
@@ -72,7 +75,9 @@ def played(asked, network, program, tell):
     )
 
 
-def first_steps(asked, net, program):
+def first_steps(
+    asked: Asked, net: Network, program: Program
+) -> Iterator[tuple[str, int, int | None]]:
     """(kind, vertex, port) of the events that steps of somebody's come to."""
     if not asked["steps"]:
         return  # even the greetings are the policy's, as `forestlab simulate` plays them
@@ -82,12 +87,12 @@ def first_steps(asked, net, program):
         yield kind, v, port
 
 
-def shown(found):
+def shown(found: Run) -> Told:
     """What is shown of a run."""
     return {"table": found.table(), "last": found.last, "pulses": found.pulses, "cut": found.is_cut}
 
 
-def by_threads(asked, program):
+def by_threads(asked: Asked, program: Program) -> str:
     if not OPENED["is_proved"]:
         raise Wrong("threads run the proved programs, which aren't built yet: take a run by a seed")
     name = "forestplan" if program is Colouring else "forestplay"
@@ -101,7 +106,7 @@ def by_threads(asked, program):
     )
 
 
-def run(asked, tell):
+def run(asked: Asked, tell: Tell) -> Told:
     """A run: its transcript, the rows that the page follows, the judge's verdict, and whether its payloads are those of
     the rounds."""
     network = network_asked(asked, MOST_RUN)
@@ -129,14 +134,14 @@ def run(asked, tell):
     }
 
 
-def run_page(asked, _tell):
+def run_page(asked: Asked, _tell: Tell) -> str:
     """The same of a run, as the command `picture watch` draws it."""
     network = network_asked(asked, MOST_RUN)
     program = program_asked(asked, network)
     return draw([run_of_text("the run", asked["transcript"], network, program=program)])
 
 
-def singled_out(asked, network):
+def singled_out(asked: Asked, network: Network) -> str | None:
     """The link or the node that the policy has chosen by its seed, if it chooses one."""
     if asked["transcript"] or asked["how"] == "threads":
         return None
@@ -145,7 +150,7 @@ def singled_out(asked, network):
     return of and (f"node {of}" if isinstance(of, int) else "the link {}–{}".format(*of))
 
 
-def compared(found, network, program):
+def compared(found: Run, network: Network, program: Program) -> tuple[list[int], list[str | int]]:
     """(pulses whose payloads are those of the rounds, pulses compared, payloads), and what the rounds find."""
     there, results = rounds_of(network, program), results_of(network, program)
     pulses = range(found.pulses[0], found.pulses[1] + 1)
@@ -157,7 +162,7 @@ def compared(found, network, program):
     return [same, len(pulses), sum(map(len, sent.values()))], results
 
 
-def replay(asked, _tell):
+def replay(asked: Asked, _tell: Tell) -> Told:
     """What the judge says of the first entries of a run: it plays them, and says where each node is. Without stamps a
     beginning of a run is no fault."""
     network = network_asked(asked, MOST_RUN)
@@ -168,7 +173,7 @@ def replay(asked, _tell):
     )
 
 
-def judge(asked, _tell):
+def judge(asked: Asked, _tell: Tell) -> Told:
     """What is said of a transcript, whoever wrote it: in words by the definitions, and by the proved machine."""
     network, text = network_asked(asked, MOST_DRAWN), asked["transcript"]
     program = program_asked(asked, network)
@@ -179,7 +184,7 @@ def judge(asked, _tell):
     }
 
 
-def follow(player, asked, held):
+def follow(player: Stepwise, asked: Asked, held: tuple[set[tuple[int, int]], set[int]]) -> None:
     """Makes the steps that are listed, and plays what is left to chance, with some links and nodes held up."""
     if asked["list"] is not None:
         player.follow_list(asked["list"])
@@ -193,7 +198,7 @@ def follow(player, asked, held):
         player.in_step(*held)
 
 
-def steps(asked, _tell):
+def steps(asked: Asked, _tell: Tell) -> Told:
     """A run that is made step by step: where it is after some steps, or the events of a `list`, and what can come next.
     `by` steps more are left to chance, or up to all nodes' next pulse `in step`."""
     network = network_asked(asked, MOST_RUN)

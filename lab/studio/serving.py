@@ -21,13 +21,15 @@ import sys
 import threading
 import time
 import traceback
+from collections.abc import Callable, Iterator
+from typing import Any
 
 from lab.pictures import pages
 from lab.programs import TOP
 from lab.studio import limits
 from lab.studio.building import Building
 from lab.studio.calls import CALLS
-from lab.studio.connections import SECONDS_TO_ASK, Connection, Connections, Said
+from lab.studio.connections import Connection, Connections, SECONDS_TO_ASK, Said
 from lab.studio.fields import object_of
 from lab.wrong import Wrong
 
@@ -67,7 +69,7 @@ class Server(socketserver.ForkingMixIn, http.server.HTTPServer):
     # The server itself never waits for one of them.
     max_children, request_queue_size, block_on_close = sys.maxsize, 128, False
 
-    def __init__(self, port, token, folder):
+    def __init__(self, port: int, token: str, folder: str) -> None:
         self.token, self.building, self.process = token, Building(folder), os.getpid()
         self.active_children: set[int] = set()
         self.calls: set[int] = set()
@@ -81,7 +83,7 @@ class Server(socketserver.ForkingMixIn, http.server.HTTPServer):
             for one in list(self.connections.asked):
                 self.begin_answer(one)
 
-    def service_actions(self):
+    def service_actions(self) -> None:
         super().service_actions()
         self.calls &= self.active_children
         self.building.look()
@@ -111,19 +113,19 @@ class Server(socketserver.ForkingMixIn, http.server.HTTPServer):
         )
         return found is not None and hmac.compare_digest(found[1], self.token.encode())
 
-    def finish_request(self, request, client_address):
+    def finish_request(self, request: Any, client_address: Any) -> None:
         self.connections.close_in_child(request)
         super().finish_request(request, client_address)
 
-    def server_bind(self):
+    def server_bind(self) -> None:
         # The name of the machine isn't looked up.
         socketserver.TCPServer.server_bind(self)
         self.server_name, self.server_port = self.socket.getsockname()[:2]
 
-    def address(self):
+    def address(self) -> str:
         return f"http://{HOST}:{self.server_port}/?token={self.token}"
 
-    def end_all(self):
+    def end_all(self) -> None:
         """Ends the processes that answer, each with what it has started."""
         for process in list(self.active_children or ()):
             with contextlib.suppress(ProcessLookupError, PermissionError, ChildProcessError):
@@ -132,7 +134,7 @@ class Server(socketserver.ForkingMixIn, http.server.HTTPServer):
         self.building.end()
         self.server_close()
 
-    def handle_error(self, request, client_address):
+    def handle_error(self, request: object, client_address: object) -> None:
         if not isinstance(sys.exc_info()[1], OSError):
             traceback.print_exc()
 
@@ -140,16 +142,16 @@ class Server(socketserver.ForkingMixIn, http.server.HTTPServer):
 class Answer:
     """Lines of JSON to the page; a thread of `Watch` may write the last one."""
 
-    def __init__(self, handler):
+    def __init__(self, handler: "Handler") -> None:
         self.handler, self.lock, self.told = handler, threading.Lock(), 0.0
 
-    def line(self, **what):
+    def line(self, **what: object) -> None:
         words = json.dumps(what, separators=(",", ":"), ensure_ascii=False)
         text = words.encode(errors="replace") + b"\n"
         with self.lock:
             self.handler.wfile.write(text)
 
-    def tell(self, done=0, of=0, part=None):
+    def tell(self, done: int = 0, of: int = 0, part: object = None) -> None:
         """How far a call is, ten times a second at most; or a part of what will come out."""
         if part is not None:
             self.line(part=part)
@@ -164,19 +166,19 @@ class Handler(http.server.BaseHTTPRequestHandler):
     server: Server
     timeout, server_version, sys_version = SECONDS_TO_ASK, "studio", ""
 
-    def setup(self):
+    def setup(self) -> None:
         # One limit for the whole request, however slowly its bytes come: this process ends.
         signal.alarm(SECONDS_TO_ASK)
         super().setup()
         self.rfile = io.BufferedReader(Said(self.server.said, self.connection))
 
-    def log_message(self, *_):
+    def log_message(self, *_: object) -> None:
         pass
 
-    def own_names(self):
+    def own_names(self) -> list[str]:
         return [f"{name}:{self.server.server_port}" for name in (HOST, "localhost")]
 
-    def is_from_page(self):
+    def is_from_page(self) -> bool:
         """Whether the request was sent to this server by its name, and by no page of another origin: a name that
         another server's owner has pointed here isn't answered."""
         own, origin, site = (
@@ -190,7 +192,7 @@ class Handler(http.server.BaseHTTPRequestHandler):
             and site in (None, "same-origin", "none")
         )
 
-    def headed(self, status, kind, length=None):
+    def headed(self, status: int, kind: str, length: int | None = None) -> None:
         self.send_response(status)
         for name, value in (
             ("Content-Type", f"{kind}; charset=utf-8"),
@@ -206,7 +208,7 @@ class Handler(http.server.BaseHTTPRequestHandler):
                 self.send_header(name, str(value))
         self.end_headers()
 
-    def refuse(self, status, why):
+    def refuse(self, status: int, why: str) -> None:
         body = (why + "\n").encode()
         self.headed(status, "text/plain", len(body))
         self.wfile.write(body)
@@ -217,7 +219,7 @@ class Handler(http.server.BaseHTTPRequestHandler):
             while self.connection.recv(1 << 16):
                 pass
 
-    def do_GET(self):
+    def do_GET(self) -> None:
         """A file of the page: they are no secret, and have none in them. A link from elsewhere may open the page."""
         if self.headers.get("Host") not in self.own_names():
             return self.refuse(403, "This server answers to its own address alone.")
@@ -232,10 +234,10 @@ class Handler(http.server.BaseHTTPRequestHandler):
                 body = file.read()
         else:
             return self.refuse(404, "There is no such page.")
-        self.headed(200, kind, len(body))
-        return self.wfile.write(body)
+        self.headed(200, kind or KINDS[".js"], len(body))
+        self.wfile.write(body)
 
-    def do_POST(self):
+    def do_POST(self) -> None:
         """A call, `/call/NAME` with JSON."""
         _, way, name = (self.path + "//").split("/")[:3]
         if not self.is_from_page():
@@ -263,7 +265,7 @@ class Handler(http.server.BaseHTTPRequestHandler):
 
 
 @contextlib.contextmanager
-def limited(handler, say):
+def limited(handler: Handler, say: Callable[[str], None]) -> Iterator[None]:
     """This process gets its limits, and ends if the browser hangs up, the server ends or time is up."""
     limits.begin()
     done = threading.Event()
@@ -274,7 +276,7 @@ def limited(handler, say):
         done.set()
 
 
-def watch(handler, done, say):
+def watch(handler: Handler, done: threading.Event, say: Callable[[str], None]) -> None:
     """Ends this process, and what it has started, when nobody waits for it any more."""
     connection, until = handler.connection, time.monotonic() + limits.SECONDS
     while not done.wait(0.1):
@@ -287,7 +289,7 @@ def watch(handler, done, say):
             os.killpg(0, signal.SIGKILL)
 
 
-def has_hung_up(connection):
+def has_hung_up(connection: socket.socket) -> bool:
     if not select.select([connection], [], [], 0)[0]:
         return False
     try:

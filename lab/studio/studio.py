@@ -5,8 +5,11 @@ import secrets
 import sys
 import tempfile
 import webbrowser
+from argparse import Namespace
+from collections.abc import Iterable
 
 from lab.definitions.programs import PROGRAMS, program_at
+from lab.network import Network
 from lab.networks.named import network_bytes
 from lab.networks.options import commands_for
 from lab.networks.reading import form_read, read_any
@@ -16,7 +19,7 @@ from lab.studio.building import are_built
 from lab.studio.links import judge
 from lab.studio.networks import shown
 from lab.studio.serving import Server
-from lab.words import one_line, parser_of, text_at, text_name
+from lab.words import Parser, one_line, parser_of, text_at, text_name
 from lab.wrong import Wrong
 
 PORT, NEXT_PORTS = 8321, 20
@@ -54,7 +57,7 @@ Example:
 """
 
 
-def command_line():
+def command_line() -> Parser:
     words = parser_of("studio", "[NETWORK] [options]", HELP, MORE_HELP)
     words.add_argument("network", metavar="NETWORK", nargs="?", help="the network to begin with")
     words.add_argument(
@@ -79,8 +82,8 @@ def command_line():
     return words
 
 
-def own_programs(files):
-    found = {}
+def own_programs(files: Iterable[str]) -> dict[str, str]:
+    found: dict[str, str] = {}
     for file in files:
         program = program_at(file)
         if not file.endswith(".py") or program.name in found or program.name in PROGRAMS:
@@ -89,7 +92,7 @@ def own_programs(files):
     return found
 
 
-def server_at(port, folder):
+def server_at(port: int | None, folder: str) -> Server:
     """The server at a port, or at the first free one from the usual one on."""
     for at in [port] if port is not None else range(PORT, PORT + NEXT_PORTS):
         try:
@@ -101,14 +104,14 @@ def server_at(port, folder):
     raise refused
 
 
-def can_open():
+def can_open() -> bool:
     """Whether there is a browser with a window: one of the terminal would take the terminal."""
     return sys.platform == "darwin" or any(
         os.environ.get(name) for name in ("DISPLAY", "WAYLAND_DISPLAY")
     )
 
 
-def open_browser(address, folder):
+def open_browser(address: str, folder: str) -> None:
     """Opens the address by a file that only its owner can read, since all can see the words that a browser was called
     with."""
     path = os.path.join(folder, "studio.html")
@@ -119,7 +122,7 @@ def open_browser(address, folder):
     webbrowser.open("file://" + path)
 
 
-def opened(path):
+def opened(path: str) -> tuple[Network, list[str]]:
     """The network that the command line names, and what is said of it."""
     try:
         form = form_read(path, Stated())
@@ -130,7 +133,7 @@ def opened(path):
         ) from None
 
 
-def main(words):
+def main(words: list[str]) -> int:
     given = command_line().parse_args(words)
     if given.links is not None:
         return judge_links(given)
@@ -151,7 +154,7 @@ def main(words):
         return serve(server, None if given.no_browser or not can_open() else folder)
 
 
-def judge_links(given):
+def judge_links(given: Namespace) -> int:
     """Says of each link of a file whether it wins its dare."""
     are_judged = True
     try:
@@ -165,7 +168,7 @@ def judge_links(given):
     return 0 if are_judged else 1
 
 
-def serve(server, folder):
+def serve(server: Server, folder: str | None) -> int:
     """Answers until Ctrl-C; a browser is opened by a file of the folder."""
     if folder:
         open_browser(server.address(), folder)
@@ -175,6 +178,7 @@ def serve(server, folder):
     try:
         server.serve_forever(poll_interval=0.3)
     except KeyboardInterrupt:
-        return 0
+        pass
     finally:
         server.end_all()
+    return 0
