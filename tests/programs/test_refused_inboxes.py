@@ -14,7 +14,7 @@ LAST = 12 + 3 * 1 * 3
 # A value of each kind that nobody refuses for itself.
 KINDS = {"Hello": 9, "Label": 0, "Colour": 0, "Chosen": 0}
 # The kind that is due in a phase, from ports of which roles, and from which of them it may not be missing.
-DUE = {
+DUE: dict[str, tuple[str, set[str], set[str]]] = {
     "Orient": ("Hello", {"Unknown"}, {"Unknown"}),
     "Seed": ("Label", {"Unknown"}, {"Unknown"}),
     "Step": ("Colour", {"Up"}, {"Up"}),

@@ -57,7 +57,7 @@ class Varied(Case):
             wanted = [
                 (bit(own, f, own.identifiers), three(own, f)) for f in range(own.forest_count)
             ]
-            ways = Counter()
+            ways: Counter[str] = Counter()
             for net in varieties(name):
                 ways[way_of(names_of(own), names_of(net))] += 1
                 plain = replace(net, bars=own.bars)
