@@ -79,7 +79,7 @@ class Sites(Case):
         comments = [re.findall(rb"[0-9]+", line) for line in text.split(b"\n") if line[:2] == b"c "]
         for pair in ([b"1", b"1"], [b"2", b"6"], [b"3", b"11"]):
             self.note(
-                f"which number of the licence channel {pair[0]} is", pair in comments, comments
+                f"which number of the licence channel {pair[0]!r} is", pair in comments, comments
             )
         self.same(
             "what is said",
