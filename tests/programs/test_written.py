@@ -14,7 +14,7 @@ from dataclasses import dataclass
 
 from lab.networks import foreign, network
 from lab.networks.network_text import read_network
-from lab.networks.stated import form_of
+from lab.networks.stated import ENDINGS
 from tests.cases import Case, in_process
 from tests.settings import setting
 from tests.tools import need
@@ -176,11 +176,15 @@ def networkx_writers(nx) -> list[Writer]:
     ]
 
 
+# The endings of files that networkx reads.
+BY_NETWORKX = tuple(ending for form in foreign.READERS for ending in ENDINGS[form])
+
+
 class Files(Case):
     def read_files(self, writers: list[Writer]):
         for writer in writers:
             with self.subTest(writer.form):
-                if form_of(writer.file, writer.file) in foreign.READERS:
+                if writer.file.endswith(BY_NETWORKX):
                     need(self, "networkx")
                 files = writer.files(FILES)
                 said = {writer.verdict(self.folder, data, wanted) for data, wanted in files}
