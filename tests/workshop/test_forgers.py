@@ -81,6 +81,9 @@ class Forgers(unittest.TestCase):
             "path1",
             "--timeout",
             "20",
+            # So much that hundreds of processes aren't too much: each counts with what it shares.
+            "--memory",
+            "16384",
             "--",
             *program({"started": "n < 1000"}, more),
         ]

@@ -56,6 +56,11 @@ KNOWN = {
     "host": "opened(socket.AF_VSOCK, socket.SOCK_STREAM)",
     "load": "open('/proc/loadavg').read(1)",
 }
+# What such an attack gets outside, too, where a bare system lacks what it tries.
+NEEDED = {
+    "hosts": ("FileNotFoundError", "/etc/hosts"),
+    "cached": ("OSError", "a file system that says what is cached"),
+}
 COPIES = {
     "copy": "open('{away}/examples/workshop/python/{node}').read(1)",
     "copy_by_search": "open(glob.glob('/*/*{mark}/**/{node}', recursive=True)[0]).read(1)",
@@ -146,6 +151,8 @@ class Reach(Contained):
             with self.subTest(name):
                 if without[name] == HASNT:
                     self.skipTest(f"the kernel's part for {name} isn't installed")
+                if name in NEEDED and without[name] == NEEDED[name][0]:
+                    self.skipTest(f"{NEEDED[name][1]} isn't installed")
                 self.note(f"{name}: an attack", without[name] not in REFUSED, without[name])
                 is_refused = within[name] in REFUSED | {HASNT}
                 self.note(f"{name}: refused", is_refused, within[name])

@@ -31,7 +31,7 @@ ATTACKS = {
     "home": "open({home!r}).read(1)",
     "beside": "open({beside!r}).read(1)",
     "memory": "open({shared!r}).read(1)",
-    "processes": "[name for name in os.listdir('/proc') if name.isdigit()][9]",
+    "processes": "[name for name in os.listdir('/proc') if name.isdigit()][3]",
     "words": "open('/proc/{workshop}/cmdline').read(1)",
     "environment": "open('/proc/{workshop}/environ').read(1)",
     "kills": "os.kill({workshop}, 0)",
