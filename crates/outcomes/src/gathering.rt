@@ -27,8 +27,8 @@ fn last_pulse_of<P: NodeProgram>(net: &Network) -> u32
 
 /// What the nodes of a run, ascending, and its links leave, once all threads are joined. The outcome holds for every
 /// capacity that no link's own capacity exceeds. No node remembers that a turn was refused memory, and none has come to
-/// its greatest stamp, since a whole run has fewer events than that. So no turn of one was refused anything, and the
-/// refusals that are dropped with the nodes are `None`.
+/// its greatest stamp, since a whole run has fewer events than that. So the refusals that are dropped with the nodes
+/// are `None`.
 ///
 /// # Errors
 ///

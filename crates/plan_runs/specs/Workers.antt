@@ -36,7 +36,8 @@ abbrev pub whole_after : {S M : Type 0} → Ran S M → Result (Outcome S M) Run
 whole_after (Err fault) = Err (run.Pool fault)
 whole_after (Ok outcome) = if is_whole outcome then Ok outcome else Err run.Stopped
 
--- What a run left that stopped before all was done: an outcome that isn't whole.
+-- Some outcome isn't whole. Which outcome the run left isn't said: that of no turns, where all nodes are at their
+-- start, is such an outcome, too, unless the start is whole already.
 pub record HasStopped {S M E : Type 0} (program : Program S M E) (net : Net) (options : Options) (transcript : Bool)
     : Type 0 where
   pub in_range : AreInRange options
@@ -44,7 +45,8 @@ pub record HasStopped {S M E : Type 0} (program : Program S M E) (net : Net) (op
   pub is_outcome : IsOutcome program net options.capacity transcript outcome
   pub not_whole : is_whole outcome ≡ false
 
--- The fault of a run in which not every node was done. How many looks are enough isn't promised.
+-- The fault of a run: that of the pool, or `Stopped`, which needs an outcome that isn't whole. How many looks are
+-- enough isn't promised.
 abbrev pub IsFaultOfRun : {S M E : Type 0} → Program S M E → Net → Options → Bool → RunFault → Type 0
 IsFaultOfRun program net options transcript (run.Pool fault) = IsFaultOfPool options fault
 IsFaultOfRun program net options transcript run.Stopped = HasStopped program net options transcript
