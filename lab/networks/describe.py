@@ -20,7 +20,7 @@ class Run:
     """What every whole run of a network comes to; `payloads` counts them, or if they may be many, `is_bound`, it is the
     most that there can be."""
 
-    def __init__(self, network):
+    def __init__(self, network: Network) -> None:
         self.last = LAST_COLOUR + 3 * network.forest_count * network.channels
         rounds = rounds_here(network) if network.nodes * self.last <= MOST_AT_ONCE else None
         self.is_bound = rounds is None

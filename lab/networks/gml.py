@@ -52,7 +52,7 @@ def tokens_of(text: str, path: str) -> Iterator[Token]:
 class Reader:
     """What the tokens so far say: the lists that aren't closed yet, and the key whose value comes next."""
 
-    def __init__(self, path: str):
+    def __init__(self, path: str) -> None:
         self.declared = Declared(path)
         self.lists = [GmlList("", 1)]
         self.key = ""

@@ -130,7 +130,7 @@ class Kind(NamedTuple):
     more: str = ""
     least: int = 1
 
-    def make(self, *words, **named):
+    def make(self, *words: float, **named: float | bool | None) -> Network:
         """A network of the kind; what would be none is refused before anything is made."""
         chosen = inspect.signature(self.function).bind(*words, **named).arguments
         sizes = {name: chosen[name] for name in self.sizes if name != "edges"}
@@ -144,17 +144,17 @@ class Kind(NamedTuple):
         return self.function(*words, **named)
 
     @property
-    def chosen(self):
+    def chosen(self) -> list[str]:
         """What `make` is told."""
         return list(inspect.signature(self.function).parameters)
 
     @property
-    def sizes(self):
+    def sizes(self) -> list[str]:
         """The words after the kind: how many of these there are."""
         return [name for name in self.chosen if name in ("nodes", "rows", "columns", "edges")]
 
     @property
-    def is_by_chance(self):
+    def is_by_chance(self) -> bool:
         return "seed" in self.chosen
 
 

@@ -5,7 +5,7 @@ Comment lines may give places (`c at V X Y`) and names (`c name V NAME`); to the
 other."""
 import re
 
-from lab.network import Network
+from lab.network import Edge, Network
 from lab.networks.fields import fields_of, shown, whole
 from lab.wrong import Wrong, wrong_line
 
@@ -49,15 +49,19 @@ class Reading:
     """What the lines so far say: `nodes` is None before the `p` line, `promised` its number of edges, and `edge_lines`
     counts the lines that name one, again and again too."""
 
-    def __init__(self, path=""):
+    def __init__(self, path: str = "") -> None:
         self.path, self.line, self.promised, self.edge_lines = path, 0, 0, 0
         self.nodes: int | None = None
-        self.edges, self.places, self.names, self.identifiers, self.bars = set(), {}, {}, {}, {}
+        self.edges: set[Edge] = set()
+        self.places: dict[int, tuple[float, float]] = {}
+        self.names: dict[int, str] = {}
+        self.identifiers: dict[int, int] = {}
+        self.bars: dict[int, set[int]] = {}
 
-    def wrong(self, what, code):
+    def wrong(self, what: str, code: str) -> Wrong:
         return wrong_line(self.path, self.line, f"{what} ({code})")
 
-    def read(self, raw):
+    def read(self, raw: str) -> None:
         """The next line, or its fault."""
         self.line += 1
         fields = [field for field in fields_of(raw) if field]
@@ -72,15 +76,15 @@ class Reading:
         elif word not in SKIPPED:
             raise self.wrong(f"`{shown(word)}` begins no line of a network", "F8")
 
-    def comment(self, raw):
+    def comment(self, raw: str) -> None:
         """Keeps a place or a name of a vertex."""
         place, name = PLACE.fullmatch(raw), NAME.fullmatch(raw.rstrip(" \t\r"))
-        if place:
-            self.places[whole(place[1])] = float(place[2]), float(place[3])
-        if name:
-            self.names[whole(name[1])] = name[2]
+        if place and (v := whole(place[1])) is not None:
+            self.places[v] = float(place[2]), float(place[3])
+        if name and (v := whole(name[1])) is not None:
+            self.names[v] = name[2]
 
-    def problem(self, fields):
+    def problem(self, fields: list[str]) -> None:
         """NODES and EDGES of the `p` line."""
         if self.nodes is not None:
             raise self.wrong("a second `p` line", "F2")
@@ -91,7 +95,7 @@ class Reading:
             raise self.wrong(f"more than {MAX_NODES} nodes", "F7")
         self.nodes, self.promised = pair
 
-    def numbers(self, fields):
+    def numbers(self, fields: list[str]) -> tuple[int, int]:
         """The two numbers of a line; a vertex that isn't there is named with the digits that the text has."""
         words, count, what, code = LINES[fields[0]]
         if self.nodes is None:
@@ -110,7 +114,7 @@ class Reading:
             )
         return pair
 
-    def edge(self, v, w):
+    def edge(self, v: int, w: int) -> None:
         if v == w:
             raise self.wrong(f"an edge from vertex {v} to itself", "F6")
         self.edges.add((min(v, w), max(v, w)))
@@ -118,14 +122,14 @@ class Reading:
         if len(self.edges) > MAX_EDGES:
             raise self.wrong(f"more than {MAX_EDGES} different edges", "F7")
 
-    def identifier(self, v, number):
+    def identifier(self, v: int, number: int) -> None:
         if number >= IDENTIFIERS:
             raise self.wrong("the identifier is 2^128 or more", "F11")
         if v in self.identifiers:
             raise self.wrong(f"a second identifier of vertex {v}", "F12")
         self.identifiers[v] = number
 
-    def bar(self, v, channel):
+    def bar(self, v: int, channel: int) -> None:
         barred = self.bars.setdefault(v, set())
         barred.add(channel)
         if len(barred) > MAX_BARS:
@@ -137,7 +141,7 @@ class Reading:
             raise Wrong(f"{self.path}: there is no line `p edge NODES EDGES` (F1)")
         return self.nodes
 
-    def network(self):
+    def network(self) -> Network:
         """What all lines are, or its first fault."""
         return checked(
             Network(

@@ -57,7 +57,7 @@ def grown(
     before it that has room."""
     found, degree, higher = set(), [0] * (nodes + 1), [0] * (nodes + 1)
 
-    def join(v, w):
+    def join(v: int, w: int) -> bool:
         """Adds an edge, and says whether that could be done."""
         v, w = min(v, w), max(v, w)
         if (

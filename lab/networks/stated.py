@@ -88,7 +88,7 @@ class Unsaid(Wrong):
         choices: Sequence[tuple[list[str], str]],
         wanted: Sequence[str] = (),
         titles: Sequence[str] = (),
-    ):
+    ) -> None:
         super().__init__(str(what))
         self.choices, self.wanted, self.titles = choices, wanted, titles
 

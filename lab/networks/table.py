@@ -71,7 +71,7 @@ class Table:
         stated: Stated,
         wanted: tuple[str, ...],
         others: tuple[str, ...] = (),
-    ):
+    ) -> None:
         self.name, self.wanted = name, wanted
         self.has_heading, self.named = stated.has_heading, stated.columns
         if not self.has_heading and not self.named.keys() & set(wanted):

@@ -47,7 +47,7 @@ def real_channel(table: Table, line: int, row: dict[str, str]) -> int:
 class Sites:
     """A table of sites: the line of each, its identifier, and its place in kilometres or in degrees, if it has them."""
 
-    def __init__(self, text: str, path: str, stated: Stated):
+    def __init__(self, text: str, path: str, stated: Stated) -> None:
         self.table = Table(text, path, stated, ("site",), SITES)
         there = self.table.columns
         self.columns = next((pair for pair in UNITS if there.keys() >= set(pair)), None)

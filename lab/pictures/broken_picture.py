@@ -22,7 +22,9 @@ from lab.wrong import Wrong, at_most
 MOST_DRAWN, OVER, LEAST_WIDTH = 40, 48, 620
 
 
-def drawn_by(rounds: RuledRounds | RuledSequel, right: RuledRounds | RuledSequel) -> "BrokenPicture":
+def drawn_by(
+    rounds: RuledRounds | RuledSequel, right: RuledRounds | RuledSequel
+) -> "BrokenPicture":
     """What draws where rounds go wrong, beside those with all rules: the end of a sequel, a forest or a merge."""
     if isinstance(rounds, RuledSequel) and isinstance(right, RuledSequel):
         return OfEnd(rounds, right)

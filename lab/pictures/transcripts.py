@@ -50,6 +50,13 @@ class Wire(NamedTuple):
         return f"{self.v} to {self.w}: {wire_words(self.what)}"
 
 
+def stamp_of(entry: Entry) -> int:
+    """The stamp of an entry of a run, each of which has one."""
+    if entry.stamp is None:
+        raise ValueError(f"the entry of line {entry.line} has no stamp")
+    return entry.stamp
+
+
 class Run:
     """A run of nodes that run `program`: its entries, `made`, by stamp, and its `wires`; `ticks[v]` has the stamp at
     which v begins each pulse, and `reached[v]` is its last one; `last` is R. `is_stamped` says whether the text is, and
@@ -66,19 +73,17 @@ class Run:
     ) -> None:
         self.name, self.network, self.program = name, network, program
         self.is_stamped, self.whole, self.wrong = order.is_stamped, order.is_whole(), wrong
-        self.made = [
-            entry
-            for entry in order.made
-            if not wrong or not self.is_stamped or entry.line < wrong[1].line
-        ]
+        # With stamps what comes after the fault isn't drawn.
+        line = wrong[1].line if wrong and self.is_stamped else None
+        self.made = [entry for entry in order.made if line is None or entry.line < line]
         self.last, self.wires = program.last_pulse(network), wires_of(self.made)
         self.ticks, self.reached = {v: {0: 0} for v in network.vertices}, dict.fromkeys(
             network.vertices, 0
         )
         for entry in self.made:
-            self.reached[entry.vertex] = entry.stamp
-            if entry.kind == "Pulse":
-                self.ticks[entry.vertex][entry.what] = entry.stamp
+            self.reached[entry.vertex] = stamp_of(entry)
+            if isinstance(entry.what, int):
+                self.ticks[entry.vertex][entry.what] = stamp_of(entry)
 
     def in_rounds(self, first: int, last: int) -> "Run":
         """The payloads of these pulses in a run whose nodes make all pulses at once: the synchronous rounds."""
@@ -135,7 +140,9 @@ def ordered(
         )
     order = find_order(network, read, program)
     wrong = order.wrong(fault)
-    if wrong and not (is_wrong_drawn and wrong.code not in ("X1", "NoSuch")):
+    is_drawn = is_wrong_drawn and order.first_refused() is not None
+    if wrong and not (is_drawn and wrong.code not in ("X1", "NoSuch")):
         raise Wrong(f"{name} {wrong}")
     order.made.sort(key=lambda entry: (entry.stamp, entry.vertex))
-    return order, wrong and (order.first_refused(), wrong)
+    first = order.first_refused()
+    return order, (first, wrong) if wrong and first else None

@@ -21,7 +21,7 @@ from lab.definitions.nodes import (
 from lab.definitions.rounds import FIRST_MERGE
 from lab.network import Edge, Network
 from lab.pictures.pages import net_of, page
-from lab.pictures.transcripts import ordered, window_of
+from lab.pictures.transcripts import ordered, stamp_of, window_of
 from lab.schedules.ruled_node import payload_words
 from lab.transcripts.reading import Entry, words
 from lab.wrong import Wrong
@@ -81,13 +81,6 @@ def found(node: AlphaNode) -> int | str:
     return program.merged + 1 if node.pulse_number >= turn else 0
 
 
-def stamp_of(entry: Entry) -> int:
-    """The stamp of an entry of a run, each of which has one."""
-    if entry.stamp is None:
-        raise ValueError(f"the entry of line {entry.line} has no stamp")
-    return entry.stamp
-
-
 class Flight(NamedTuple):
     """A wire on its way: the numbers and the stamps of its put and of its take, if it is taken."""
 
@@ -133,7 +126,7 @@ def steps_of_text(
     for entry in order.made:
         make(state, entry)
         steps.add(entry)
-        if entry.kind == "Pulse":
+        if isinstance(entry.what, int):
             made[entry.vertex] = entry.what
         if (
             not pulses

@@ -17,15 +17,16 @@ class Found:
     them; and of each node whose entries can't all be made, those that are `left`, and the code of the refusal of the
     first one."""
 
-    def __init__(self, net, entries, program):
+    def __init__(self, net: Network, entries: list[Entry], program: Program) -> None:
         self.entries, self.is_stamped = entries, bool(entries) and entries[0].stamp is not None
-        self.state, self.clock, self.made = NetState(net, program), Clock(net.neighbours), []
+        self.state, self.clock = NetState(net, program), Clock(net.neighbours)
+        self.made: list[Entry] = []
         self.left: dict[int, deque[Entry]] = {}
-        self.refusals = {}
+        self.refusals: dict[int, str] = {}
         for entry in entries:
             self.left.setdefault(entry.vertex, deque()).append(entry)
 
-    def make_next(self, v):
+    def make_next(self, v: int) -> None:
         """Makes the next entry of a node of which none was refused, if that is possible with what it says."""
         entry = self.left[v][0]
         try:
@@ -39,28 +40,29 @@ class Found:
         )
         if not self.is_stamped:
             entry.stamp = stamp
-        elif entry.stamp != stamp or (last.stamp, last.vertex) > (stamp, v):
+        elif entry.stamp != stamp or (last.stamp or 0, last.vertex) > (stamp, v):
             self.refusals[v] = "WrongStamp"
             return
         self.left[v].popleft()
         self.made.append(entry)
 
-    def first_refused(self):
+    def first_refused(self) -> Entry | None:
         """Of the entries that are next and not possible: with stamps the first. Else the first that its own node can't
         make, whatever the others do; if they all wait for a neighbour, the first that waits for one which is through;
         else the first."""
 
-        def rank(entry):
-            waits = self.waits(entry)
-            return waits, waits and bool(self.left.get(entry.neighbour)), entry.line
+        def rank(entry: Entry) -> tuple[bool, bool, int]:
+            waits, w = self.waits(entry), entry.neighbour
+            return waits, waits and w is not None and bool(self.left.get(w)), entry.line
 
-        return min((own[0] for own in self.left.values() if own), key=rank, default=None)
+        following = [own[0] for own in self.left.values() if own]
+        return min(following, key=rank) if following else None
 
-    def waits(self, entry):
+    def waits(self, entry: Entry) -> bool:
         """Whether others could still make it possible."""
         return self.refusals[entry.vertex] == "LinkEmpty" and not self.is_stamped
 
-    def wrong(self, fault=None):
+    def wrong(self, fault: Wrong | None = None) -> Wrong | None:
         """What is wrong first, if something is: `fault` is that of a line after the entries, which comes before an
         entry that waits for a neighbour."""
         entry = self.first_refused()
@@ -68,7 +70,7 @@ class Found:
             return fault
         return refusal(self.state, entry, self.refusals[entry.vertex], self.entries, self.clock)
 
-    def is_whole(self):
+    def is_whole(self) -> bool:
         return not self.refusals and not any(unfinished(self.state))
 
 

@@ -68,7 +68,7 @@ def number(field: bytes, what: str, bound: int = 2**32) -> int:
 
 
 @functools.lru_cache(maxsize=2**16)
-def wire_of(program: str, *fields) -> tuple:
+def wire_of(program: str, *fields: bytes) -> tuple:
     """A wire as lab/definitions/nodes.py has it, with a payload of the program."""
     match fields:
         case [b"payload", pulse, word, of_word]:

@@ -49,11 +49,11 @@ class Wrong(wrong.Wrong):
     """Why a text isn't the transcript of a whole run that is right: its `line`, if it is one line's fault, the `code`
     of the refusal, and `what` is wrong."""
 
-    def __init__(self, line, code, what):
+    def __init__(self, line: int | None, code: str, what: str) -> None:
         super().__init__(line, code, what)
         self.line, self.code, self.what = line, code, what
 
-    def __str__(self):
+    def __str__(self) -> str:
         where = "" if self.line is None else f"line {self.line}: "
         return f"{where}{self.code}: {self.what}"
 

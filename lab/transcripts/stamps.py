@@ -1,6 +1,6 @@
 """Lamport's clock; and in words why an entry isn't possible, or a run not whole."""
 from collections import deque
-from collections.abc import Iterator
+from collections.abc import Iterable, Iterator
 
 from lab.definitions.nodes import NetState, Wire, event_of, lacks_of, wire_words
 from lab.transcripts.reading import Entry, Head, Wrong, words
@@ -10,10 +10,11 @@ from lab.transcripts.rules import Standing, rule_of, stuck_words
 class Clock:
     """The counter of each node, and of each link the stamps of the wires that were put and not taken."""
 
-    def __init__(self, vertices):
-        self.counters, self.links = dict.fromkeys(vertices, 0), {}
+    def __init__(self, vertices: Iterable[int]) -> None:
+        self.counters = dict.fromkeys(vertices, 0)
+        self.links: dict[tuple[int | None, int | None], deque[int]] = {}
 
-    def next(self, kind, v, neighbour):
+    def next(self, kind: str, v: int, neighbour: int | None) -> int:
         """The stamp of the next entry of v: one more than the counter, and of a take also than the stamp of the
         put."""
         stamp = self.counters[v]
