@@ -10,7 +10,7 @@ from lab.networks.network_text import network_of
 from lab.schedules.space import Space
 from tests.cases import example
 from tests.pictures.base import PictureCase
-from tests.pictures.marks import SVG, centre, ends, marks, parsed, title
+from tests.pictures.marks import SVG, centre, ends, marks, parsed, texts, title
 
 NETWORKS = {name: example(name) for name in ("two", "path", "triangle")}
 
@@ -84,6 +84,9 @@ class Schedules(PictureCase):
         shown = range(low, high + 1)
         row("its columns", [right[x] for x in columns], [good[far] for far in shown])
         row("red marks", [wrong[x] for x in columns], [bad[far] for far in shown])
+        last = max(+(good + bad))
+        part = f"{low} to {high} of {last}" in " ".join(texts(root))
+        row("it says which part is drawn", part, (low, high) != (0, last))
         bold = sorted((*ends(group), title(group)) for group in marks(root, "bold"))
         row("the bold run is one", gaps_in(bold), [])
         if not without:
