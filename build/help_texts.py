@@ -73,15 +73,22 @@ def options() -> dict[str, Option]:
     for function, body in re.findall(
         r"^fn (\w+)<'a>\(alloc: Global\) .*?^\{(.*?)^\}", source("command_options.rt"), re.M | re.S
     ):
-        value = re.search(rf"value_name\({TEXT}\)", body)
         default = re.search(rf"default_value\({TEXT}\)|{TEXT}, [A-Z]+\)", body)
         found[function] = Option(
             name=re.findall(TEXT, body)[0],
-            value=value[1] if value else "N" * ("number(" in body),
+            value=value_of(body),
             default=(default[1] or default[2]) if default else "",
             help=helps[re.findall(r"[A-Z_]{2,}", body)[-1]],
         )
     return found
+
+
+def value_of(body: str) -> str:
+    """How a help text calls an option's value, of the function that makes the option; empty if it has none."""
+    named = re.search(rf"value_name\({TEXT}\)", body)
+    if named:
+        return named[1]
+    return "N" if "number(" in body else ""
 
 
 def commands(table: str) -> list[tuple[str, str, list[str]]]:
@@ -121,7 +128,7 @@ def help_texts() -> dict[str, str]:
             f"{program} <COMMAND>", said_of[program.upper()], f"Commands:\n{parts}\n", []
         )
         for name, text, options_given in rows:
-            usage = f"{program} {name}" + " [OPTIONS]" * bool(options_given)
+            usage = f"{program} {name} [OPTIONS]" if options_given else f"{program} {name}"
             given = [option_of[option] for option in options_given]
             found[f"{program}-{name}.txt"] = laid_out(usage, said_of[text], "", given)
     return found

@@ -112,19 +112,22 @@ class Lattice:
         for state in range(space.count):
             if low <= space.depth[state] <= high:
                 self.columns[space.depth[state] - low].append(state)
-        # (state, number of the step, event, where it ends).
-        self.steps: list[tuple[int, int, Event, End]] = [
-            (s, e, event, (s, e) if target is None else target)
-            for s in [state for column in self.columns[:-1] for state in column]
-            if isinstance(s, int)
-            for e, (event, target) in enumerate(space.steps(s))
-        ]
+        self.steps = self.steps_shown()
         for start, _, _, end in self.steps:
             if isinstance(end, tuple):
                 self.columns[space.depth[start] + 1 - low].append(end)
         while not self.columns[-1]:
             self.columns.pop()
         self.place()
+
+    def steps_shown(self) -> list[tuple[int, int, Event, End]]:
+        """(state, number of the step, event, where it ends), of the states in all columns but the last."""
+        return [
+            (s, e, event, (s, e) if target is None else target)
+            for s in [state for column in self.columns[:-1] for state in column]
+            if isinstance(s, int)
+            for e, (event, target) in enumerate(self.space.steps(s))
+        ]
 
     def place(self) -> None:
         """Rows by the mean of a mark's neighbours to the left, so that lines cross little."""

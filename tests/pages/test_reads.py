@@ -153,6 +153,10 @@ READS = {
     ("lab/studio/building.py", "are_built: subprocess.run"): "nothing is read of it",
     (
         "lab/studio/building.py",
+        "Building.__init__: subprocess.Popen",
+    ): "no call: the type of a field",
+    (
+        "lab/studio/building.py",
         "Building.look: subprocess.Popen",
     ): "nothing is read of it: it writes the log",
     ("lab/studio/building.py", "so_far: open"): "16 KiB: the end of the log",

@@ -153,12 +153,14 @@ class Endings(Case):
             done = subprocess.run(
                 [sys.executable, "-c", script], capture_output=True, text=True, cwd=TOP
             )
+            # The place is that of the fault itself, and not of what has called it.
+            last = "(<string> line 1)\n" if status == 70 else "\n"
+            is_one_line = done.stderr.count("\n") == 1
             good = (
                 done.returncode == status
-                and done.stderr.count("\n") == 1
+                and is_one_line
                 and done.stderr.startswith(said)
-                # The place is that of the fault itself, and not of what has called it.
-                and (status != 70 or done.stderr.endswith("(<string> line 1)\n"))
+                and done.stderr.endswith(last)
             )
             self.note(f"a command that fails by {fault}", good, done)
 
