@@ -93,7 +93,8 @@ class Starts(Contained):
         self.file(os.path.join(self.copy, "Heap.java"), source)
         for _ in range(3):
             found = self.first_answer(["java", "Heap.java"], "rounds")
-            self.same("megabytes", found, ["512"])
+            # Of 512 the serial collector, which Java takes if it sees one processor, leaves out a space of its own.
+            self.note("megabytes", found in (["512"], ["494"]), found)
         self.file(os.path.join(self.copy, "Heap.java"), source.replace("end", "ends"))
         found = self.first_answer(["java", "Heap.java"], "rounds")
         self.note("a report", "RuntimeException: /tmp" in found, found)
