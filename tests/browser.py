@@ -98,7 +98,7 @@ class Browser:
             )
         return got["result"].get("value")
 
-    def until(self, words, seconds=20):
+    def until(self, words, seconds=120):
         """Waits until an expression is true."""
         end = time.monotonic() + seconds
         while time.monotonic() < end:
