@@ -100,7 +100,7 @@ class StudioAddresses(Page):
         self.go_to(place)
         same = f"Object.entries({json.dumps(wanted)}).every(([name, value]) => "
         same += f"JSON.stringify({STATE}[name]) === JSON.stringify(value))"
-        self.page.until(same, 240)
+        self.page.until(same, 60)
         found = self.value(STATE)
         self.same(place[:200], {name: found[name] for name in wanted}, wanted)
         said = self.page.text("wrong")

@@ -150,8 +150,13 @@ class Page(Case):
         self.value, self.click_on = self.page.value, self.page.click_on
 
     def go_to(self, words):
-        """Has the page follow an address, and waits until it has."""
-        self.value(f"location.hash = {json.dumps(words)}")
+        """Has the page follow an address, and waits until it has. Chromium ignores a change of the address after some
+        200 in ten seconds, so it is made again until it is taken."""
+        place = json.dumps(words)
+        self.page.until(
+            "(() => { const link = document.createElement('a'); link.href = location.href; "
+            f"link.hash = {place}; location.hash = {place}; return location.hash === link.hash; }})()"
+        )
         self.page.until("!studio.isFollowing()", 40)
 
     def at(self, place):
