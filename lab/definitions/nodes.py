@@ -265,6 +265,10 @@ class AlphaNode:
             and self.can_take()
         )
 
+    def lacks_safe(self, port: Port) -> bool:
+        """Whether its next pulse waits for the safe of a neighbour."""
+        return not port.safe
+
     def drained(self) -> bool:
         """Whether it is through with everything."""
         return self.pulse_number == self.last and all(
@@ -398,8 +402,9 @@ def missing_words(state: NetState, kind: str, v: int, port: int | None = None) -
 
 def lacks_of(state: NetState, v: int) -> tuple[list[int], list[int]]:
     """The neighbours whose acknowledgements, and those whose safes, are still to come in a node's pulse."""
-    ports = list(zip(state.neighbours[v], state.nodes[v].ports))
-    return [w for w, port in ports if port.waits], [w for w, port in ports if not port.safe]
+    node = state.nodes[v]
+    ports = list(zip(state.neighbours[v], node.ports))
+    return [w for w, port in ports if port.waits], [w for w, port in ports if node.lacks_safe(port)]
 
 
 def lacks_words(pulse: int, acks: list[int], safes: list[int]) -> str:

@@ -43,6 +43,9 @@ class RuledNode(AlphaNode):
             return self.pulse_number != self.last and self.said and self.can_take()
         return super().can_pulse()
 
+    def lacks_safe(self, port):
+        return "safes" not in self.without and super().lacks_safe(port)
+
     def pulse(self):
         self.program = kept(copy.deepcopy, self.program)
         super().pulse()

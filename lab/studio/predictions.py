@@ -20,6 +20,10 @@ from lab.studio.fields import Asked, Tell, Told
 from lab.words import in_words
 from lab.wrong import Wrong
 
+# What a node's next pulse needs, by the rule that has it wait; and what it doesn't wait for without the rule.
+NEEDED = {"acks": "its payloads are acknowledged", "safes": "its neighbours are safe"}
+NOT_NEEDED = {"acks": "acknowledgements", "safes": "safes"}
+
 
 def predict(asked: Asked, _tell: Tell) -> Told:
     """{right, found, why} of what is said of a node after a pulse; of the colouring in a forest, or in its merge."""
@@ -89,14 +93,24 @@ def waits(asked: Asked, _tell: Tell) -> Told:
     program = program_asked(asked, network)
     player = Stepwise(network, program, rules_asked(asked, OF_SCHEDULES))
     player.follow(asked["steps"].split("_"))
-    found = sorted(f"{what} {w}" for what, w in waits_of(player.state, v))
+    found, why = waited(player, v)
     said = sorted(filter(None, map(words, asked["said"].split(","))))
-    if not found:
-        done = (
-            "It has made its last pulse."
-            if player.state.nodes[v].drained()
-            else "It has all that it needs."
+    is_right = said == found or not found and said == ["nothing"]
+    return {"right": is_right, "found": ", ".join(found) or "nothing", "why": why}
+
+
+def waited(player: Stepwise, v: int) -> tuple[list[str], str]:
+    """What a node waits for, as it runs: without the rules that are left out; and why."""
+    node, left_out = player.state.nodes[v], player.without
+    if player.is_over:
+        return [], "The run has ended here, so nothing more can come."
+    found = sorted(f"{what} {w}" for what, w in waits_of(player.state, v))
+    if node.pulse_number == node.last:
+        return found, "It has made its last pulse" + (
+            ", and halts when its neighbours have closed their links." if found else "."
         )
-        return {"right": said in ([], ["nothing"]), "found": "nothing", "why": done}
-    why = "It makes its next pulse when its payloads are acknowledged and its neighbours are safe."
-    return {"right": said == found, "found": ", ".join(found), "why": why}
+    needs = [says for rule, says in NEEDED.items() if rule not in left_out]
+    when = f"when {' and '.join(needs)}" if needs else "at any time"
+    not_for = [what for rule, what in NOT_NEEDED.items() if rule in left_out]
+    more = f" It waits for no {' and no '.join(not_for)}: that is left out." if not_for else ""
+    return found, f"It may make its next pulse {when}.{more}"

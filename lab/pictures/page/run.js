@@ -70,24 +70,30 @@ function grouped(list) {
   list.forEach(([what, w]) => by.set(what, (by.get(what) || []).concat(w)));
   return Array.from(by, ([what, ws]) => `${what} of ${ws.join(", ")}`).join("; ");
 }
-// What a node waits for, in words.
-/** @param {Look} is */
-export function waitsWords(is) { return is.e ? "done" : grouped(is.w) || `nothing: may make pulse ${is.p + 1}`; }
-// What a node has and waits for, in words, for whoever doesn't see its marks.
-/** @param {Look} is */
-export function lookWords(is) {
-  const found = typeof is.c === "string" ? is.c : is.c ? `channel ${is.c}` : "";
-  return [`pulse ${is.p}`, found, is.e ? "done" : "waits for " + waitsWords(is)].filter(Boolean).join(", ");
+// What a node waits for, in words. After the `last` pulse there is none that it could make.
+/** @param {Look} is @param {number} last */
+export function waitsWords(is, last) {
+  if (is.e) return "done";
+  return grouped(is.w) || (is.p < last ? `nothing: may make pulse ${is.p + 1}` : "nothing: it has only to close its links");
 }
+// What a node has and waits for, in words, for whoever doesn't see its marks.
+/** @param {Look} is @param {number} last */
+export function lookWords(is, last) {
+  const waits = is.e ? "done" : "waits for " + waitsWords(is, last);
+  return [`pulse ${is.p}`, foundWords(is), waits].filter(Boolean).join(", ");
+}
+// What a node has found, in words.
+/** @param {Look} is */
+export function foundWords(is) { return typeof is.c === "string" ? is.c : is.c ? `channel ${is.c}` : ""; }
 // A table of what each node (or one of many) waits for and keeps. `more(v)` gives a last column.
 /** @param {Look[]} looks @param {WaitsOptions} options */
-export function waitsTable(looks, {only = null, lit = null, head = "", more = () => ""}) {
+export function waitsTable(looks, {last, only = null, lit = null, head = "", more = () => ""}) {
   const shown = html("table");
   shown.append(row("th", ["node", "pulse", "waits for", "has, and keeps early", head].filter((w, k) => k < 4 || w)));
   looks.forEach((is, k) => {
     if (looks.length > 12 && only !== k + 1) return;
     const keeps = [grouped(is.h), is.k.length ? "early: " + grouped(is.k) : ""].filter(Boolean).join("; ");
-    const cells = [k + 1, is.p, waitsWords(is), keeps, more(k + 1, is)];
+    const cells = [k + 1, is.p, waitsWords(is, last), keeps, more(k + 1, is)];
     const line = row("td", head ? cells : cells.slice(0, 4));
     if (lit === k + 1) line.className = "on";
     shown.append(line);
@@ -179,7 +185,7 @@ export class RunFilm {
     stage.draw({node: (v, x, y, r) => alphaMarks(stage, this.look(v, at), v, x, y, r), bars: false, apart: 4.6,
       above: () => this.wires(stage, stamp, at, {node, only}), below: isWord,
       ring: v => last && last[1] === v ? "var(--glow)" : node === v ? "var(--edge)" : null,
-      says: v => lookWords(this.look(v, at)), label: v => nameOf(this.net, v) + (lazy.includes(v) ? " (waits)" : ""),
+      says: v => lookWords(this.look(v, at), this.found.last), label: v => nameOf(this.net, v) + (lazy.includes(v) ? " (waits)" : ""),
       edge: (v, w) => heldEdge(v, w, waits.has(v + "-" + w))});
     return at;
   }

@@ -98,6 +98,7 @@ interface Table {
 interface RunFound { table: Table; last: number; pulses: [number, number]; }
 interface RunOptions { at?: number; node?: number | null; only?: boolean; slow?: Edge[]; lazy?: number[]; }
 interface WaitsOptions {
+  last: number;
   only?: number | null;
   lit?: number | null;
   head?: string;

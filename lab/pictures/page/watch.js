@@ -19,7 +19,7 @@ function show(place) {
   const last = films[0].last(at);
   element("when").textContent = "stamp " + Math.floor(place);
   element("said").textContent = films[0].said(at);
-  element("table").replaceChildren(waitsTable(films[0].looks(at), {only: chosen, lit: last && last[1], head: "found",
+  element("table").replaceChildren(waitsTable(films[0].looks(at), {last: D.last, only: chosen, lit: last && last[1], head: "found",
     more: (v, is) => is.c || ""}));
   return `#entry-${at}` + (chosen ? `-node-${chosen}` : "");
 }

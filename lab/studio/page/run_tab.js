@@ -138,14 +138,14 @@ function showAt() {
     say("when", "stamp " + Math.floor(time.at));
   }
   run.at = at;
-  const ofNode = seen.node ? ` Node ${seen.node}: ${lookWords(film.look(seen.node, at))}.` : "";
+  const ofNode = seen.node ? ` Node ${seen.node}: ${lookWords(film.look(seen.node, at), film.found.last)}.` : "";
   announce(by("now").textContent + ofNode);
   // What the judge has said of another place isn't left beside this one.
   if (run.judgedAt !== at) say("judgehere", "");
   const results = run.found ? run.found.results : [], last = film.last(at);
   /** @type {(v: number, is: Look) => boolean} */
   const isFound = (v, is) => is.c === results[v - 1] && (is.e === 1 || is.p === film.found.last);
-  fill("table", `${at} ${seen.node}`, () => [waitsTable(film.looks(at), {only: seen.node, lit: last && last[1],
+  fill("table", `${at} ${seen.node}`, () => [waitsTable(film.looks(at), {last: film.found.last, only: seen.node, lit: last && last[1],
     head: "found in the rounds", more: (v, is) => resultSaid(results[v - 1]) + (isFound(v, is) ? " ✓" : "")})]);
   showRounds(film.looks(at));
 }

@@ -4,7 +4,7 @@ import {all, announce, asks, by, go, hello, hooks, leftOutWords, programNamed, r
 import {html} from "./marks.js";
 import {net, text} from "./model.js";
 import {Question} from "./predict.js";
-import {alphaMarks, heldEdge, lookWords, queueMarks, waitsWords} from "./run.js";
+import {alphaMarks, foundWords, heldEdge, lookWords, queueMarks, waitsWords} from "./run.js";
 import {nameOf} from "./stage.js";
 
 // `made` are the steps so far, as `3` (node 3 makes its next pulse) or `2-1` (node 2 takes the next wire from node 1).
@@ -61,7 +61,7 @@ function showAt() {
   const isWord = typeof is.looks[0].c === "string";
   stage.draw({node: (v, x, y, r) => alphaMarks(stage, is.looks[v - 1], v, x, y, r), bars: false, apart: 4.6,
     below: isWord, ring: v => isFree(String(v)) ? "var(--good)" : v === seen.node ? "var(--edge)" : null,
-    says: v => steps.predicts ? `pulse ${is.looks[v - 1].p}` : lookWords(is.looks[v - 1]),
+    says: v => saysOf(is, v),
     label: v => nameOf(net, v) + (seen.lazy.includes(v) ? " (held)" : ""),
     edge: (v, w) => heldEdge(v, w, slow.has(v + "-" + w)), above: () => is.wires.flatMap(queue)});
   sayWhere(is);
@@ -74,15 +74,33 @@ function showAt() {
   by("undostep").disabled = by("anew").disabled = !steps.made.length;
   [by("chance"), by("chance20"), by("instep")].forEach(one => { one.disabled = is.over || !is.steps.some(isFree); });
 }
+// What is said of a node: what it waits for isn't, if that is asked; and in a run that has ended it waits for nothing.
+/** @param {StepsFound} is @param {number} v */
+function saysOf(is, v) {
+  const look = is.looks[v - 1];
+  if (steps.predicts) return `pulse ${look.p}`;
+  return is.over ? [`pulse ${look.p}`, foundWords(look)].filter(Boolean).join(", ") : lookWords(look, is.last);
+}
+// Why nothing goes on, or that all is done; what is under way then is taken by nodes that have halted.
+/** @param {StepsFound} is @returns {[string, string] | null} */
+function endWords(is) {
+  if (is.over) {
+    const isTake = (steps.made[steps.made.length - 1] || "").includes("-");
+    return [`${isTake ? "The node can’t take that" : "Its program refuses that"}, so the run ends here: go back.`, "bad"];
+  }
+  if (is.looks.every(look => look.e)) {
+    return [`All have halted: ${is.looks.map(look => look.c).join(", ")}.`
+      + (is.steps.length ? " What is still under way changes no result." : ""), "good"];
+  }
+  if (!is.steps.length) return ["Nothing can happen, and not all are done.", "bad"];
+  return is.steps.some(isFree) ? null : ["All that could happen is held.", "soft"];
+}
 /** @param {StepsFound} is */
 function sayWhere(is) {
-  const box = by("stepsaid"), {judge} = is, n = steps.made.length, done = is.looks.every(look => look.e);
+  const box = by("stepsaid"), {judge} = is, n = steps.made.length, end = endWords(is);
   const lines = [html("b", n ? `${n}: ${is.said}.` : "Nothing has happened yet: choose what comes first.")];
   if (is.fault) lines.push(html("p", `✗ ${is.fault}.`, {class: "bad"}));
-  if (is.over) lines.push(html("p", "Its program refuses that, so the run ends here: go back.", {class: "bad"}));
-  else if (done) lines.push(html("p", `All have halted: ${is.looks.map(look => look.c).join(", ")}.`, {class: "good"}));
-  else if (!is.steps.length) lines.push(html("p", "Nothing can happen, and not all are done.", {class: "bad"}));
-  else if (!is.steps.some(isFree)) lines.push(html("p", "All that could happen is held.", {class: "soft"}));
+  if (end) lines.push(html("p", end[0], {class: end[1]}));
   if (judge) lines.push(judgement(judge, is));
   box.replaceChildren(...lines);
   announce(lines.map(line => line.textContent).join(" "));
@@ -110,7 +128,7 @@ function listSteps(is) {
       seen.lazy.includes(v) ? "let go" : "hold its pulse", {class: "quiet", "data-key": "hold " + v,
         "aria-label": `hold the pulse of node ${v}`, "aria-pressed": seen.lazy.includes(v)});
     hold.onclick = () => { toggleLazy(v); show(); };
-    line.append(html("b", `node ${v} `), html("span", `pulse ${look.p}${steps.predicts ? "" : ": " + waitsWords(look)} `,
+    line.append(html("b", `node ${v} `), html("span", `pulse ${look.p}${steps.predicts || is.over ? "" : ": " + waitsWords(look, is.last)} `,
       {class: "soft"}), hold);
     (byNode.get(v) || []).forEach(step => {
       const free = isFree(step), button = html("button", null, {"data-step": step, "data-key": step,
