@@ -10,6 +10,7 @@ MODULES = {
     "help-texts": "help_texts",
     "install": "install",
     "new-program": "new_program",
+    "page-types": "page_types",
     "program": "program",
     "wrong-bodies": "wrong_bodies",
 }

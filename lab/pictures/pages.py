@@ -5,6 +5,7 @@ import os
 import re
 
 from lab.network import Network
+from lab.pictures.page_data import Net, NetNode, as_object
 from lab.pictures.palette import (
     BLACK,
     CHANNEL_HUES,
@@ -43,7 +44,7 @@ def hues() -> str:
     return "".join(f"export const {name} = {json.dumps(value)};\n" for name, value in given.items())
 
 
-def net_of(network: Network) -> dict[str, object]:
+def net_of(network: Network) -> Net:
     """A network as the modules have it. Identifiers are texts: they may have 39 digits."""
     least = min(LEAST, 10 * LEAST / max(1, network.nodes) ** 0.5)
     places = (
@@ -52,16 +53,16 @@ def net_of(network: Network) -> dict[str, object]:
         else {}
     )
     nodes = [
-        {
-            "x": round(places[v][0], 1),
-            "y": round(places[v][1], 1),
-            "id": str(network.said.get(v, "")),
-            "name": network.names.get(v, ""),
-            "bars": network.bars.get(v, []),
-        }
+        NetNode(
+            x=round(places[v][0], 1),
+            y=round(places[v][1], 1),
+            id=str(network.said.get(v, "")),
+            name=network.names.get(v, ""),
+            bars=network.bars.get(v, []),
+        )
         for v in network.vertices
     ]
-    return {"name": network.name, "nodes": nodes, "edges": network.edges}
+    return Net(network.name, nodes, network.edges)
 
 
 def text_of(name: str) -> str:
@@ -79,14 +80,15 @@ def joined(main: str) -> str:
     return " ".join(line.strip() for line in text.split("\n") if line.strip())
 
 
-def page(template: str, main: str, data: dict[str, object], **words: str) -> str:
-    """A page whose body is a template of page/ and whose script is the module `main` and those before it; `words` are
-    escaped."""
+def page(template: str, main: str, data: object, **words: str) -> str:
+    """A page whose body is a template of page/ and whose script is the module `main` and those before it; `data` is of
+    page_data.py, and `words` are escaped."""
+    json_text = json.dumps(data, separators=(",", ":"), ensure_ascii=False, default=as_object)
     given = {name.upper(): escaped(text) for name, text in words.items()}
     return filled(
         text_of("frame.html").replace("@BODY@", text_of(template)),
         # JSON that can stand in a script.
-        DATA=json.dumps(data, separators=(",", ":"), ensure_ascii=False).replace("<", "\\u003c"),
+        DATA=json_text.replace("<", "\\u003c"),
         SCRIPT=joined(main),
         STYLE=text_of("page.css").replace("\n", ""),
         **given,

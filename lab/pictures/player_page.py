@@ -2,6 +2,13 @@
 colouring, or of another program. page/player.js draws it."""
 from lab.definitions.recolouring import Recolouring
 from lab.definitions.rounds import Pulse, Rounds, SEED
+from lab.pictures.page_data import (
+    RoundsFound,
+    Numeral,
+    PlayerData,
+    PulseOfColouring,
+    PulseOfProgram,
+)
 from lab.pictures.pages import net_of, page
 from lab.pictures.program_picture import is_new
 from lab.pictures.program_rounds import ProgramRounds
@@ -28,63 +35,70 @@ def draw(rounds: Rounds | ProgramRounds) -> str:
     return page(
         "alone.html",
         "player",
-        {"net": net_of(rounds.network), "film": film_of(rounds)},
+        PlayerData(net_of(rounds.network), film_of(rounds)),
         title=name,
         about="",
     )
 
 
-def film_of(rounds: Rounds | ProgramRounds) -> dict[str, object]:
+def film_of(rounds: Rounds | ProgramRounds) -> RoundsFound:
     """The rounds as the page plays them."""
     if isinstance(rounds, Rounds):
-        pulses = [pulse_of_colouring(rounds, pulse) for pulse in rounds.pulses]
-        parents, is_of_channels = sorted(rounds.parents.items()), False
-    else:
-        pulses = [pulse_of_program(rounds, pulse) for pulse in rounds.pulses]
-        parents, is_of_channels = [], issubclass(rounds.program, Recolouring)
-    return {
-        "last": rounds.last,
-        "forests": rounds.forests,
-        "pulses": pulses,
-        "first": list(rounds.first.values()),
-        "channels": is_of_channels,
-        "parents": [[v, f, w] for (v, f), w in parents],
-    }
-
-
-def pulse_of_colouring(rounds: Rounds, pulse: Pulse) -> dict[str, object]:
-    row = pulse_row(pulse, *caption(rounds, pulse.number))
-    if pulse.colours:
-        forests = range(rounds.forests)
-        row["colours"] = [
-            [number(pulse.colours[v, f]) for f in forests] for v in rounds.network.vertices
-        ]
-    return row
-
-
-def pulse_of_program(rounds: ProgramRounds, pulse: Pulse) -> dict[str, object]:
-    """Of another program than the colouring each node's result, in words."""
-    row, vertices = (
-        pulse_row(pulse, *caption_of_program(rounds, pulse.number)),
-        rounds.network.vertices,
+        return RoundsFound(
+            last=rounds.last,
+            forests=rounds.forests,
+            pulses=[pulse_of_colouring(rounds, pulse) for pulse in rounds.pulses],
+            first=list(rounds.first.values()),
+            channels=False,
+            parents=[(v, f, w) for (v, f), w in sorted(rounds.parents.items())],
+        )
+    return RoundsFound(
+        last=rounds.last,
+        forests=0,
+        pulses=[pulse_of_program(rounds, pulse) for pulse in rounds.pulses],
+        first=[],
+        channels=issubclass(rounds.program, Recolouring),
+        parents=[],
     )
-    row["results"], row["drawn"] = [pulse.results[v] for v in vertices], pulse.drawn
-    row["new"] = [v for v in vertices if pulse.number and is_new(rounds, pulse, v)]
-    return row
 
 
-def pulse_row(pulse: Pulse, title: str, said: str) -> dict[str, object]:
-    return {
-        "caption": title,
-        "said": said,
-        "step": pulse.step,
-        "chosen": pulse.chosen,
-        "colours": None,
-        "puts": [[v, w, word, number(sent)] for v, w, word, sent in pulse.puts],
-    }
+def pulse_of_colouring(rounds: Rounds, pulse: Pulse) -> PulseOfColouring:
+    title, said = caption(rounds, pulse.number)
+    forests, colours = range(rounds.forests), None
+    if pulse.colours:
+        colours = [[number(pulse.colours[v, f]) for f in forests] for v in rounds.network.vertices]
+    return PulseOfColouring(
+        caption=title,
+        said=said,
+        step=pulse.step,
+        chosen=pulse.chosen,
+        colours=colours,
+        puts=put_rows(pulse),
+    )
 
 
-def number(value: int) -> int | str:
+def pulse_of_program(rounds: ProgramRounds, pulse: Pulse) -> PulseOfProgram:
+    """Of another program than the colouring each node's result, in words."""
+    title, said = caption_of_program(rounds, pulse.number)
+    vertices = rounds.network.vertices
+    return PulseOfProgram(
+        caption=title,
+        said=said,
+        step=None,
+        chosen={},
+        colours=None,
+        puts=put_rows(pulse),
+        results=[pulse.results[v] for v in vertices],
+        drawn={v: (colour, other) for v, (colour, other) in pulse.drawn.items()},
+        new=[v for v in vertices if pulse.number and is_new(rounds, pulse, v)],
+    )
+
+
+def put_rows(pulse: Pulse) -> list[tuple[int, int, str, Numeral]]:
+    return [(v, w, word, number(sent)) for v, w, word, sent in pulse.puts]
+
+
+def number(value: int) -> Numeral:
     """A number that JavaScript can hold, or its digits."""
     return value if value < 2**53 else str(value)
 

@@ -3,7 +3,6 @@ waits for, what it keeps, and its channel. One run, or two of one network side b
 
 The page has no algorithm in it: what a node is after each entry is worked out here, by the slow definitions
 (lab/definitions/nodes.py), and written into the page as rows. page/watch.js draws it."""
-import json
 from collections import deque
 from collections.abc import Iterator
 from typing import NamedTuple
@@ -20,6 +19,7 @@ from lab.definitions.nodes import (
 )
 from lab.definitions.rounds import FIRST_MERGE
 from lab.network import Edge, Network
+from lab.pictures.page_data import Look, Row, RunTable, WatchData, WireRow
 from lab.pictures.pages import net_of, page
 from lab.pictures.transcripts import ordered, stamp_of, window_of
 from lab.schedules.ruled_node import payload_words
@@ -33,8 +33,7 @@ ORDER = (
 )
 
 
-# What is shown of a node, as JSON has it; and an entry, the pulse during which it is made, and what it leads to.
-Look = dict[str, object]
+# An entry, the pulse during which it is made, and what it leads to.
 Step = tuple[Entry, int, Look]
 
 
@@ -42,19 +41,18 @@ def look_of(state: NetState, v: int) -> Look:
     """What is shown of a node: its pulse; of whom it awaits which wire; what it has taken for its next pulse, and what
     came a pulse early; and its channel, once it has chosen one."""
     node = state.nodes[v]
-    p, ports = node.pulse_number, list(zip(state.neighbours[v], node.ports))
-    has = [(payload_words(port.present), w) for w, port in ports if port.present]
+    ports = list(zip(state.neighbours[v], node.ports))
     early = [(payload_words(port.early), w) for w, port in ports if port.early]
     early += [("safe", w) for w, port in ports if port.early_safe]
-    return {
-        "p": p,
-        "s": int(node.said),
-        "e": int(node.drained()),
-        "w": waits_of(state, v),
-        "h": has,
-        "k": early,
-        "c": found(node),
-    }
+    return Look(
+        pulse=node.pulse_number,
+        safe=node.said,
+        done=node.drained(),
+        waits=tuple(waits_of(state, v)),
+        has=tuple((payload_words(port.present), w) for w, port in ports if port.present),
+        keeps=tuple(early),
+        found=found(node),
+    )
 
 
 def waits_of(state: NetState, v: int) -> list[tuple[str, int]]:
@@ -71,7 +69,8 @@ def found(node: AlphaNode) -> int | str:
     """Its channel once it has chosen one, or 0; of another program than the colouring the words for what it found."""
     program = node.program
     if not isinstance(program, Colouring):
-        return program.result()
+        result: str = program.result()
+        return result
     # Its turn in the first merge; if nothing is merged, it has a channel at the end.
     turn = (
         FIRST_MERGE + program.colours[0] * (program.span + 1) + program.least_free(())
@@ -88,7 +87,7 @@ class Flight(NamedTuple):
     w: int
     wire: Wire
     put: int
-    put_stamp: int | None
+    put_stamp: int
     take: int | None = None
     take_stamp: int | None = None
 
@@ -192,34 +191,43 @@ class Run:
         """What was put in a pulse, in words, in one order for all runs."""
         return sorted(self.sent.get(pulse, []))
 
-    def table(self) -> dict[str, str | list[object] | tuple[int, int]]:
+    def table(self) -> RunTable:
         """The rows that the page follows; what comes again and again has a number."""
-        looks: dict[str, int] = {}
+        looks: dict[Look, int] = {}
         texts: dict[str, int] = {}
 
         def text(said: str) -> int:
             return texts.setdefault(said, len(texts))
 
-        return {
-            "name": self.name,
-            "start": [self.start[v] for v in self.network.vertices],
-            "rows": [
-                [
-                    entry.stamp,
-                    entry.vertex,
-                    looks.setdefault(json.dumps(look), len(looks)),
-                    text(words(entry).split(" ", 2)[2]),
-                ]
-                for entry, _, look in self.moments
-            ],
-            "wires": [
-                [v, w, text(wire_words(wire)), *flight] for v, w, wire, *flight in self.wires
-            ],
-            "looks": [json.loads(look) for look in looks],
-            "texts": list(texts),
-            "stamps": self.stamps,
-            "all": list(self.all_at()),
-        }
+        def row(entry: Entry, look: Look) -> Row:
+            said = words(entry).split(" ", 2)[2]
+            return Row(
+                stamp_of(entry), entry.vertex, looks.setdefault(look, len(looks)), text(said)
+            )
+
+        rows = [row(entry, look) for entry, _, look in self.moments]
+        wires = [
+            WireRow(
+                one.v,
+                one.w,
+                text(wire_words(one.wire)),
+                one.put,
+                one.put_stamp,
+                one.take,
+                one.take_stamp,
+            )
+            for one in self.wires
+        ]
+        return RunTable(
+            name=self.name,
+            start=[self.start[v] for v in self.network.vertices],
+            rows=rows,
+            wires=wires,
+            looks=list(looks),
+            texts=list(texts),
+            stamps=self.stamps,
+            all=list(self.all_at()),
+        )
 
     def all_at(self) -> Iterator[tuple[int, int]]:
         """When the last node makes each pulse, as far as it is shown: the stamp, and how many entries are made then."""
@@ -258,10 +266,10 @@ def wires_of(every: list[Step], first: int) -> list[Flight]:
             continue
         if entry.kind == "Put":
             flying.setdefault((v, w), deque()).append(len(found))
-            found.append(Flight(v, w, wire, at, entry.stamp))
+            found.append(Flight(v, w, wire, at, stamp_of(entry)))
         else:
             number = flying[w, v].popleft()
-            found[number] = found[number]._replace(take=at, take_stamp=entry.stamp)
+            found[number] = found[number]._replace(take=at, take_stamp=stamp_of(entry))
     return [flight for flight in found if flight.take is None or flight.take >= 0]
 
 
@@ -271,14 +279,14 @@ def draw(runs: list[Run]) -> str:
     pulses = max(run.pulses[0] for run in runs), min(run.pulses[1] for run in runs)
     title = "a run without a clock" if len(runs) == 1 else "two orders of events, the same rounds"
     each = range(pulses[0], pulses[1] + 1) if len(runs) == 2 else ()
-    data = {
-        "net": net_of(network),
-        "last": first.last,
-        "pulses": pulses,
-        "runs": [run.table() for run in runs],
-        "same": [all(run.payloads(p) == first.payloads(p) for run in runs) for p in each],
-        "sent": [[[v, w, said] for v, w, said in first.payloads(p)] for p in each],
-    }
+    data = WatchData(
+        net=net_of(network),
+        last=first.last,
+        pulses=pulses,
+        runs=[run.table() for run in runs],
+        same=[all(run.payloads(p) == first.payloads(p) for run in runs) for p in each],
+        sent=[[(v, w, said) for v, w, said in first.payloads(p)] for p in each],
+    )
     return page(
         "alone.html",
         "watch",

@@ -6,7 +6,7 @@ named with the reason; nothing of it is guessed."""
 import re
 from collections.abc import Callable, Collection
 from dataclasses import dataclass, field
-from typing import Any
+from typing import get_args
 
 from lab.definitions.layers import Layers
 from lab.definitions.nodes import Colouring
@@ -15,14 +15,13 @@ from lab.definitions.recolouring import Recolouring
 from lab.networks.fields import shown
 from lab.schedules.policies import POLICIES
 from lab.schedules.rules import OF_PROGRAMS, OF_SCHEDULES
+from lab.studio.answers import Order, PictureKind, TabName, Values, Written
 from lab.studio.asked import MOST_STEPS, OPENED
 from lab.studio.dares import DARES
 from lab.studio.drawn import decoded
 from lab.studio.lessons import PLACES
 from lab.wrong import Wrong
 
-TABS = ("draw", "rounds", "run", "adversary", "check", "pictures")
-PICTURES = ("plan", "results", "rounds", "bits", "why", "run")
 # Letters of an address: browsers take no longer one. And how many faults of one are named.
 MOST_LETTERS, MOST_NAMED = 2 << 20, 5
 MOST_CHANNEL = 9999
@@ -102,15 +101,12 @@ def rules_of(said: str, rules: Collection[str]) -> str:
     return said
 
 
-def other_run(said: str, here: Here) -> dict[str, str]:
+def other_run(said: str, here: Here) -> Order:
     policy, has_seed, seed = said.partition(".")
-    return {"policy": among(POLICIES)(policy, here), "seed": seed if has_seed else "1"}
+    return Order(among(POLICIES)(policy, here), seed if has_seed else "1")
 
 
-Parse = Callable[[str, Here], Any]
-
-
-def among(names: Collection[str]) -> Parse:
+def among(names: Collection[str]) -> Callable[[str, Here], str]:
     def parse(said: str, _here: Here) -> str:
         if said not in names:
             raise Wrong(f"there are {', '.join(names)}")
@@ -120,7 +116,7 @@ def among(names: Collection[str]) -> Parse:
 
 
 def program_of(said: str, here: Here) -> str:
-    return among([*PROGRAMS, *OPENED["own"]])(said, here)
+    return among([*PROGRAMS, *OPENED.own])(said, here)
 
 
 def flag_of(said: str, here: Here) -> bool:
@@ -131,8 +127,8 @@ def flag_of(said: str, here: Here) -> bool:
 class Name:
     """A name of the grammar: how the page writes its value (`WRITE` of address.js), and how it is read."""
 
-    written: str
-    takes: Parse
+    written: Written
+    takes: Callable[[str, Here], object]
 
 
 # Each name that an address can have. Of `example` and `net` it has at most one (`networks.py` reads them).
@@ -140,7 +136,7 @@ NAMES: dict[str, Name] = {
     "example": Name("word", lambda said, _: said),
     "net": Name("network", lambda said, _: said),
     "program": Name("word", program_of),
-    "tab": Name("word", among(TABS)),
+    "tab": Name("word", among(get_args(TabName))),
     "passes": Name("number", lambda said, _: within(said, 1, MAX_PASSES)),
     "root": Name("number", lambda said, here: here.node(said)),
     "slow": Name("list", lambda said, here: list(map(here.edge, items(said)))),
@@ -160,7 +156,7 @@ NAMES: dict[str, Name] = {
     "without": Name("rules", lambda said, _: rules_of(said, OF_SCHEDULES)),
     "dare": Name("word", among(DARES)),
     "plan": Name("list", plan_of),
-    "kind": Name("word", among(PICTURES)),
+    "kind": Name("word", among(get_args(PictureKind))),
     "lesson": Name("number", lambda said, _: within(said, 1, len(PLACES))),
 }
 
@@ -169,7 +165,7 @@ NAMES: dict[str, Name] = {
 class Address:
     """What an address says. `values` has what can be read, by its name; `unread` why each of the others can't be."""
 
-    values: dict[str, Any] = field(default_factory=dict)
+    values: Values = Values()
     unread: dict[str, str] = field(default_factory=dict)
 
     def refuse(self) -> None:
@@ -212,24 +208,25 @@ def lesson_opened(pairs: dict[str, str]) -> dict[str, str]:
 
 def read_values(pairs: dict[str, str], unread: dict[str, str], here: Here) -> Address:
     """What the values of an address say, in the order of the table: what comes later may be of the program."""
-    found = Address(unread=dict(unread))
+    values: dict[str, object] = {}
+    unread = dict(unread)
     for name in filter(pairs.__contains__, NAMES):
         said = pairs[name]
         try:
-            found.values[name] = NAMES[name].takes(said if name == "net" else decoded(said), here)
+            values[name] = NAMES[name].takes(said if name == "net" else decoded(said), here)
         except Wrong as why:
-            found.unread[shown(f"{name}={said}")] = str(why)
+            unread[shown(f"{name}={said}")] = str(why)
         if name == "program":
-            program = found.values.get("program", Colouring.name)
-            here = Here(here.nodes, here.edges, program)
-    return found
+            here = Here(here.nodes, here.edges, str(values.get("program", Colouring.name)))
+    make: Callable[..., Values] = Values
+    return Address(make(**values), unread)
 
 
-def program_named(values: dict[str, Any]) -> str:
+def program_named(values: Values) -> str:
     """The program of an address with its option, as a call names it; `programNamed` of base.js is the page's."""
-    program = values.get("program", Colouring.name)
-    if program == Recolouring.name and values.get("passes", 1) > 1:
-        return f"{program} passes {values['passes']}"
-    if program == Layers.name and values.get("root"):
-        return f"{program} root {values['root']}"
+    program = values.program or Colouring.name
+    if program == Recolouring.name and (values.passes or 1) > 1:
+        return f"{program} passes {values.passes}"
+    if program == Layers.name and values.root:
+        return f"{program} root {values.root}"
     return program

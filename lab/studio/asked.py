@@ -1,26 +1,47 @@
 """What the page asks with a call: a network as a text, a program by its name. No call names a file."""
 import re
 from collections.abc import Collection
-from typing import Any
+from dataclasses import dataclass, field
+from typing import Protocol
 
 from lab.definitions.nodes import Colouring, Program
 from lab.definitions.programs import MAX_PASSES, PROGRAMS, program_at
 from lab.network import Network
 from lab.networks.network_text import read_network
+from lab.pictures.page_data import Net
+from lab.studio.messages import OfNetwork, OfProgram, WithoutRules
 from lab.wrong import Wrong
 
-# What the command line gives: the network to begin with, and programs of one's own by name; and whether the programs
-# are proved and built, and the file with what their build says.
-OPENED: dict[str, Any] = {"network": None, "own": {}, "is_proved": False, "log": None}
+
+@dataclass
+class Opened:
+    """What the command line gives: the network to begin with, and programs of one's own by name; and whether the
+    programs are proved and built, and the file with what their build says."""
+
+    network: Net | None = None
+    own: dict[str, str] = field(default_factory=dict)
+    is_proved: bool = False
+    log: str | None = None
+
+
+OPENED = Opened()
 # Nodes that are drawn; that the rounds, and a run without a clock, are shown of.
 MOST_DRAWN, MOST_ROUNDS, MOST_RUN = 400, 100, 40
 # Steps that are made by hand.
 MOST_STEPS = 6_000
 
 
-def network_asked(asked: dict[str, Any], most: int = MOST_DRAWN) -> Network:
+class OfVertex(Protocol):
+    """What is asked of a node."""
+
+    @property
+    def vertex(self) -> int | None:
+        """Its number."""
+
+
+def network_asked(asked: OfNetwork, most: int = MOST_DRAWN) -> Network:
     try:
-        network = read_network(asked["network"], "the network")
+        network = read_network(asked.network, "the network")
     except Wrong as why:
         same = re.fullmatch(
             r"the network: vertices (\d+) and (\d+) have one identifier \(N2\)", str(why)
@@ -32,7 +53,7 @@ def network_asked(asked: dict[str, Any], most: int = MOST_DRAWN) -> Network:
             if same
             else str(why)
         ) from None
-    network.name = str(asked.get("name") or "this network")[:60]
+    network.name = (asked.name or "this network")[:60]
     if network.nodes == 0:
         raise Wrong("no node yet")
     if network.nodes > most:
@@ -40,33 +61,31 @@ def network_asked(asked: dict[str, Any], most: int = MOST_DRAWN) -> Network:
     return network
 
 
-def program_asked(asked: dict[str, Any], network: Network) -> Program:
+def program_asked(asked: OfProgram, network: Network) -> Program:
     """A program by its name, which its option may follow: `recolouring passes 2`, `layers root 3`."""
-    said = re.fullmatch(
-        "([^ ]+)(?: (passes|root) ([0-9]{1,5}))?", asked["program"] or Colouring.name
-    )
+    said = re.fullmatch("([^ ]+)(?: (passes|root) ([0-9]{1,5}))?", asked.program or Colouring.name)
     name, option, value = said.groups() if said else ("?", None, None)
     options: dict[str, int] = {str(option): int(value)} if value else {}
     if not 1 <= options.get("passes", 1) <= MAX_PASSES:
         raise Wrong(f"there are 1 to {MAX_PASSES} passes")
     if options.get("root", 1) not in network.vertices:
         raise Wrong(f"there is no node {options['root']} that could be the root")
-    if name not in (*PROGRAMS, *OPENED["own"]):
+    if name not in (*PROGRAMS, *OPENED.own):
         name = "?"
     return program_at(
-        OPENED["own"].get(name, name), root=options.get("root"), passes=options.get("passes")
+        OPENED.own.get(name, name), root=options.get("root"), passes=options.get("passes")
     )
 
 
-def rules_asked(asked: dict[str, Any], among: Collection[str]) -> tuple[str, ...]:
+def rules_asked(asked: WithoutRules, among: Collection[str]) -> tuple[str, ...]:
     """The rules to be left out, if they are among those that can be."""
-    rules = tuple(asked["without"].split(",")) if asked["without"] else ()
+    rules = tuple(asked.without.split(",")) if asked.without else ()
     if not set(rules) <= set(among):
         raise Wrong("there is no such rule")
     return rules
 
 
-def vertex_asked(asked: dict[str, Any], network: Network) -> int:
-    if asked["vertex"] not in network.vertices:
-        raise Wrong(f"the field vertex: there is no node {asked['vertex']}")
-    return asked["vertex"]
+def vertex_asked(asked: OfVertex, network: Network) -> int:
+    if asked.vertex is None or asked.vertex not in network.vertices:
+        raise Wrong(f"the field vertex: there is no node {asked.vertex}")
+    return asked.vertex

@@ -10,7 +10,9 @@ import time
 
 from lab.programs import TOP, built
 from lab.studio.asked import OPENED
-from lab.studio.fields import Asked, Tell, Told
+from lab.studio.answers import Build
+from lab.studio.messages import BuildCall, BuiltCall
+from lab.studio.telling import Tell
 from lab.wrong import Wrong
 
 PROGRAMS = ("forestplan", "forestplay")
@@ -40,7 +42,7 @@ class Building:
     def __init__(self, folder: str) -> None:
         self.process: subprocess.Popen[bytes] | None = None
         self.is_wanted = False
-        OPENED["log"] = os.path.join(folder, "build.log")
+        OPENED.log = self.log = os.path.join(folder, "build.log")
         signal.signal(WANTED, self.want)
 
     def want(self, *_: object) -> None:
@@ -48,8 +50,8 @@ class Building:
 
     def look(self) -> None:
         """Begins what is wanted, and takes note of what is done. Called again and again."""
-        if self.is_wanted and self.process is None and not OPENED["is_proved"]:
-            with open(OPENED["log"], "w", encoding="utf-8") as log:
+        if self.is_wanted and self.process is None and not OPENED.is_proved:
+            with open(self.log, "w", encoding="utf-8") as log:
                 self.process = subprocess.Popen(
                     [*BUILD, *PROGRAMS],
                     stdin=subprocess.DEVNULL,
@@ -59,11 +61,11 @@ class Building:
                 )
         self.is_wanted = False
         if self.process and self.process.poll() is not None:
-            OPENED["is_proved"] = self.process.returncode == 0 and are_built()
-            with open(OPENED["log"], "a", encoding="utf-8") as log:
+            OPENED.is_proved = self.process.returncode == 0 and are_built()
+            with open(self.log, "a", encoding="utf-8") as log:
                 log.write(
                     "the programs are proved and built\n"
-                    if OPENED["is_proved"]
+                    if OPENED.is_proved
                     else "ended: it isn't built\n"
                 )
             self.process = None
@@ -79,33 +81,42 @@ class Building:
                 return
 
 
-def begin(_asked: Asked, _tell: Tell) -> Told:
+def begin(_call: BuildCall, _tell: Tell) -> Build:
     """Asks for the build, and waits until it has begun."""
+    log = OPENED.log
     if shutil.which("rt") is None:
         raise Wrong(
             "the toolchain's command rt is not on the PATH, and without it nothing can be proved"
         )
-    if so_far()["ended"]:
-        os.unlink(OPENED["log"])
+    if log is None:
+        raise Wrong("nothing is built without the studio's server")
+    if build_so_far().ended:
+        os.unlink(log)
     os.kill(os.getppid(), WANTED)
-    while not os.path.exists(OPENED["log"]):
+    while not os.path.exists(log):
         time.sleep(0.1)
-    return so_far()
+    return build_so_far()
 
 
-def so_far(_asked: Asked | None = None, _tell: Tell | None = None) -> Told:
+def so_far(_call: BuiltCall, _tell: Tell) -> Build:
+    return build_so_far()
+
+
+def build_so_far() -> Build:
     """How far the build is, in its own words."""
+    if OPENED.log is None:
+        return Build(OPENED.is_proved, [], False)
     try:
-        with open(OPENED["log"], "rb") as log:
+        with open(OPENED.log, "rb") as log:
             begun = os.stat(log.fileno())
             log.seek(max(0, begun.st_size - MOST_SHOWN))
             lines = log.read(MOST_SHOWN).decode("utf-8", "replace").splitlines()
-    except (OSError, TypeError):
-        return {"proved": OPENED["is_proved"], "lines": [], "ended": False}
+    except OSError:
+        return Build(OPENED.is_proved, [], False)
     ended = lines[-1:] in (["the programs are proved and built"], ["ended: it isn't built"])
-    return {
-        "proved": OPENED["is_proved"],
-        "lines": lines[-12:] or ["it begins"],
-        "ended": ended,
-        "quiet": time.time() - begun.st_mtime,
-    }
+    return Build(
+        proved=OPENED.is_proved,
+        lines=lines[-12:] or ["it begins"],
+        ended=ended,
+        quiet=time.time() - begun.st_mtime,
+    )

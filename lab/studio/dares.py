@@ -8,7 +8,7 @@ from lab.pictures.layout import distances
 from lab.pictures.program_rounds import rounds_of
 from lab.pictures.watch_page import look_of
 from lab.schedules.stepwise import Stepwise
-from lab.studio.fields import Told
+from lab.studio.answers import DareJudged
 from lab.words import counted
 from lab.wrong import Wrong
 
@@ -23,8 +23,8 @@ DARES = {
 
 def judged(
     network: Network, program: Program, without: tuple[str, ...], steps: Iterable[str], dare: str
-) -> Told:
-    """{won, said} of steps: whether they win the dare, and how far they come."""
+) -> DareJudged:
+    """Whether steps win the dare, and how far they come."""
     if dare not in DARES:
         raise Wrong(f"there is no dare {dare}")
     player = Stepwise(network, program, without)
@@ -36,10 +36,10 @@ def judged(
         most = max([most, *(abs(made[v] - made[w]) for v, w in pairs)])
     count = counted(len(player.chosen), "step")
     if pairs:
-        return {"won": most >= least, "said": f"{most} of {least} pulses apart, in {count}"}
+        return DareJudged(most >= least, f"{most} of {least} pulses apart, in {count}")
     if dare == "wrong":
         said = player.fault or "nothing is wrong"
-        return {"won": bool(player.fault), "said": f"{said}, in {count}"}
+        return DareJudged(bool(player.fault), f"{said}, in {count}")
     return results_judged(player, network, program)
 
 
@@ -65,10 +65,10 @@ def results_of(network: Network, program: Program) -> list[str | int]:
     return [rounds.pulses[-1].results[v] for v in network.vertices]
 
 
-def results_judged(player: Stepwise, network: Network, program: Program) -> Told:
+def results_judged(player: Stepwise, network: Network, program: Program) -> DareJudged:
     looks = [look_of(player.state, v) for v in network.vertices]
-    if player.is_over or not all(look["e"] for look in looks):
-        return {"won": False, "said": "not all nodes have halted"}
-    if [look["c"] for look in looks] == results_of(network, program):
-        return {"won": False, "said": "they halted with the same results"}
-    return {"won": True, "said": "they halted with other results"}
+    if player.is_over or not all(look.done for look in looks):
+        return DareJudged(False, "not all nodes have halted")
+    if [look.found for look in looks] == results_of(network, program):
+        return DareJudged(False, "they halted with the same results")
+    return DareJudged(True, "they halted with other results")

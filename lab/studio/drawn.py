@@ -4,12 +4,12 @@ channels (`b`) and names (`n`), with `~` between them, as `10.20_90.20~1-2~i1-17
 The page writes it (address.js), and it is read here alone, for the page and for `studio --links`."""
 import re
 from collections.abc import Callable, Iterator
-from dataclasses import asdict, dataclass, field
-from typing import Any
+from dataclasses import dataclass, field
 from urllib.parse import unquote_to_bytes
 
 from lab.networks.fields import shown
 from lab.networks.network_text import MAX_CHANNEL
+from lab.pictures.page_data import Net, NetNode
 from lab.wrong import Wrong
 
 PLACE = re.compile(r"(-?[0-9]{1,6})\.(-?[0-9]{1,6})")
@@ -20,7 +20,7 @@ NUMBER, IDENTIFIER, CHANNEL = (re.compile(f"[0-9]{{1,{most}}}") for most in (5, 
 
 @dataclass
 class Node:
-    """A node as the page has it: an identifier is its digits, or empty for the node's own number."""
+    """A node, while it is read: an identifier is its digits, or empty for the node's own number."""
 
     x: int
     y: int
@@ -36,8 +36,9 @@ class Drawn:
     nodes: list[Node]
     edges: list[tuple[int, int]]
 
-    def for_page(self) -> dict[str, Any]:
-        return {"name": "", "nodes": [asdict(node) for node in self.nodes], "edges": self.edges}
+    def for_page(self) -> Net:
+        nodes = [NetNode(one.x, one.y, one.id, one.name, one.bars) for one in self.nodes]
+        return Net("", nodes, self.edges)
 
     def text(self) -> str:
         """In the DIMACS format, without places and names."""

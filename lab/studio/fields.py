@@ -1,22 +1,24 @@
 """The fields of a call: what each has to be, and the refusal that names one that isn't. So what answers a call gets
-values of the kinds that it expects, and nothing else."""
+values of the types that it expects, and nothing else.
+
+A call is a frozen dataclass of messages.py. `parsed_call` makes one of what a page has sent, by the types of its
+fields."""
 import base64
 import binascii
 import json
 import re
-from collections.abc import Callable, Collection
-from dataclasses import dataclass
-from typing import Any
+from collections.abc import Callable, Collection, Mapping
+from dataclasses import MISSING, dataclass, fields
+from functools import cache
+from types import NoneType, UnionType
+from typing import Annotated, Literal, TypeVar, Union, get_args, get_origin, get_type_hints
 
 from lab.networks.fields import shown
 from lab.wrong import Wrong
 
-# The fields of a call by their names, what it tells the page, and how it says how far it is.
-Asked = dict[str, Any]
-Told = dict[str, Any]
-Tell = Callable[..., None]
+Asked = TypeVar("Asked")
 # The value of a field, or what it has to be, as `Wrong` says it.
-Parse = Callable[[object], Any]
+Parse = Callable[[object], object]
 # A number of a call is no larger: no node, pulse or seed is.
 MOST_NUMBER = 10**9
 
@@ -26,8 +28,8 @@ class Field:
     """A field of a call. One that may be left out has a value then; `null` is as good as none."""
 
     takes: Parse
-    may_lack: bool = False
-    default: Any = None
+    may_lack: bool
+    default: object
 
 
 def text(value: object) -> str:
@@ -66,11 +68,11 @@ def data(value: object) -> bytes:
 
 
 def list_of(parse: Parse, length: int | None = None) -> Parse:
-    def parse_list(value: object) -> list[Any]:
+    def parse_list(value: object) -> tuple[object, ...]:
         if not isinstance(value, list) or length not in (None, len(value)):
             what = "a list" if length is None else f"a list of {length}"
             raise Wrong(f"{what} is asked for")
-        return list(map(parse, value))
+        return tuple(map(parse, value))
 
     return parse_list
 
@@ -92,20 +94,56 @@ def among(names: Collection[str]) -> Parse:
     return parse_name
 
 
-def maybe(parse: Parse, default: Any = None) -> Field:
-    return Field(parse, True, default)
+SIMPLE: dict[object, Parse] = {str: text, int: number, bool: truth, bytes: data}
 
 
-def fields_of(asked: dict[str, Any], fields: dict[str, Field]) -> dict[str, Any]:
-    """The values of all fields of a call, or the first field that isn't as it has to be."""
-    for name in asked:
-        if name not in fields:
-            known = ", ".join(fields) or "none"
-            raise Wrong(f"the call has no field {shown(name)}: it has {known}")
-    return {name: value_of(name, asked.get(name), field) for name, field in fields.items()}
+def parse_for(hint: object) -> Parse:
+    """What parses the values of a type: the parser that an `Annotated` has, or the usual one."""
+    if hint in SIMPLE:
+        return SIMPLE[hint]
+    kind, within = get_origin(hint), get_args(hint)
+    if kind is Annotated:
+        return parser_in(within[1])
+    if kind is Literal:
+        return among(within)
+    if kind in (Union, UnionType):
+        (only,) = (one for one in within if one is not NoneType)
+        return parse_for(only)
+    if kind is tuple:
+        length = None if within[-1] is Ellipsis else len(within)
+        return list_of(parse_for(within[0]), length)
+    raise TypeError(f"no field of a call is of the type {hint}")
 
 
-def value_of(name: str, value: object, field: Field) -> Any:
+def parser_in(metadata: object) -> Parse:
+    if not callable(metadata):
+        raise TypeError(f"{metadata} parses nothing")
+    return metadata
+
+
+@cache
+def fields_of(kind: type) -> dict[str, Field]:
+    """The fields of a kind of call, by their names."""
+    hints = get_type_hints(kind, include_extras=True)
+    return {
+        one.name: Field(parse_for(hints[one.name]), one.default is not MISSING, one.default)
+        for one in fields(kind)
+    }
+
+
+def parsed_call(kind: type[Asked], body: Mapping[str, object]) -> Asked:
+    """The call of this kind that a page has sent, or a refusal that names the first field that isn't as it has to
+    be."""
+    of: type = kind
+    known = fields_of(of)
+    for name in body:
+        if name not in known:
+            raise Wrong(f"the call has no field {shown(name)}: it has {', '.join(known) or 'none'}")
+    make: Callable[..., Asked] = kind
+    return make(**{name: value_of(name, body.get(name), field) for name, field in known.items()})
+
+
+def value_of(name: str, value: object, field: Field) -> object:
     if value is None:
         if field.may_lack:
             return field.default
@@ -116,7 +154,7 @@ def value_of(name: str, value: object, field: Field) -> Any:
         raise Wrong(f"the field {name} of the call: {why}") from None
 
 
-def object_of(body: bytes) -> dict[str, Any]:
+def object_of(body: bytes) -> dict[str, object]:
     """The object in JSON that a call is."""
     try:
         found = json.loads(body, object_pairs_hook=once_each)

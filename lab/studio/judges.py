@@ -1,5 +1,5 @@
 """Who answers: the proved programs, or before they are built the definitions of lab/, which are tested and not proved;
-`OPENED["is_proved"]` says which it is. Rounds are always those of the definitions. Once the programs are built, those
+`OPENED.is_proved` says which it is. Rounds are always those of the definitions. Once the programs are built, those
 of the colouring have to be what `forestplay rounds` writes; no other answers are compared here. A program in a file is
 always judged by the definitions."""
 import re
@@ -13,7 +13,7 @@ from lab.networks.plan_text import clashes
 from lab.pictures.program_rounds import is_own
 from lab.programs import called
 from lab.studio.asked import OPENED
-from lab.studio.fields import Told
+from lab.studio.answers import Judged, Replayed
 from lab.transcripts.check import whole_run
 from lab.transcripts.reading import Wrong as WrongEntry, read
 from lab.words import as_text
@@ -40,24 +40,22 @@ def text_from(name: str, words: list[str], network_text: str) -> str:
 
 def plan_of(network: Network, text: str) -> str:
     """The plan of a network, as a text."""
-    return (
-        text_from("forestplan", ["plain"], text)
-        if OPENED["is_proved"]
-        else plan_text(network).decode()
-    )
+    if OPENED.is_proved:
+        return text_from("forestplan", ["plain"], text)
+    return plan_text(network).decode()
 
 
 def rounds_of(network: Network, text: str) -> Rounds:
     """The rounds of the colouring, which those of the proved program have to be."""
     rounds = Rounds(network)
-    if OPENED["is_proved"] and text_from("forestplay", ["rounds"], text) != as_text(rounds.lines()):
+    if OPENED.is_proved and text_from("forestplay", ["rounds"], text) != as_text(rounds.lines()):
         raise Wrong("the rounds of forestplay aren't those of the definitions")
     return rounds
 
 
 def verdict_on(network: Network, text: str, plan: dict[int, int]) -> str:
     """What `check` says of a plan {vertex: channel}, as `proper 3` or `C4 vertices 1 2`."""
-    if OPENED["is_proved"]:
+    if OPENED.is_proved:
         lines = as_text(["plan", *(f"{v} {channel}" for v, channel in plan.items())])
         status, output, said = said_by("forestplan", ["check"], text, lines)
         return output.strip() if status == 0 else said.removeprefix("forestplan: ")
@@ -73,22 +71,22 @@ def verdict_on(network: Network, text: str, plan: dict[int, int]) -> str:
     return f"C4 vertices {same[0][0]} {same[0][1]}" if same else f"proper {max(plan.values())}"
 
 
-def by_definitions(network: Network, text: str, program: Program) -> Told:
-    """What they say of a whole transcript, and the line of its fault."""
+def by_definitions(network: Network, text: str, program: Program) -> tuple[str, int | None]:
+    """What they say of a whole transcript, and the line of its fault if it has one."""
     try:
-        said = whole_run(network, text.encode(), program)[1]
-        return {"ok": True, "said": said, "line": None, "by": PYTHON}
+        return whole_run(network, text.encode(), program)[1], None
     except WrongEntry as fault:
-        return {"ok": False, "said": str(fault), "line": fault.line, "by": PYTHON}
+        return str(fault), fault.line
 
 
-def judged(network: Network, network_text: str, text: str, program: Program) -> Told:
-    """What is said of a whole transcript: {entries, ok, said, by}."""
-    entries = {"entries": max(0, text.count("\n") - 1)}
-    if not OPENED["is_proved"] or is_own(program):
-        return entries | by_definitions(network, text, program)
+def judged(network: Network, network_text: str, text: str, program: Program) -> Judged:
+    """What is said of a whole transcript."""
+    entries = max(0, text.count("\n") - 1)
+    if not OPENED.is_proved or is_own(program):
+        said, line = by_definitions(network, text, program)
+        return Judged(ok=line is None, said=said, by=PYTHON, entries=entries)
     status, output, said = replayed(network_text, text, program)
-    return entries | {"ok": status == 0, "said": said or output, "by": MACHINE}
+    return Judged(ok=status == 0, said=said or output, by=MACHINE, entries=entries)
 
 
 def replayed(network_text: str, text: str, program: Program) -> tuple[int, str, str]:
@@ -99,14 +97,16 @@ def replayed(network_text: str, text: str, program: Program) -> tuple[int, str, 
 
 def beginning_judged(
     network: Network, network_text: str, entries: list[str], program: Program
-) -> Told:
-    """What is said of the first entries of a run, each without its stamp: {ok, said, pulses, wires, by}."""
+) -> Replayed:
+    """What is said of the first entries of a run, each without its stamp."""
     text = as_text([f"transcript 1 {network.nodes}", *entries])
-    if OPENED["is_proved"] and not is_own(program):
+    if OPENED.is_proved and not is_own(program):
         status, output, said = replayed(network_text, text, program)
         at = [int(found.group(1)) for found in re.finditer(r"^node \d+ pulse (\d+)", output, re.M)]
         flying = len(re.findall(r"\b(?:payload|ack|safe|close)\b", output))
-        return {"ok": status == 0, "said": said, "pulses": at, "wires": flying, "by": MACHINE}
+        return Replayed(
+            ok=status == 0, said=said, by=MACHINE, entries=len(entries), pulses=at, wires=flying
+        )
     state, said = NetState(network, program), ""
     try:
         for entry in read(text.encode(), program.name)[1]:
@@ -118,10 +118,11 @@ def beginning_judged(
                 ) from None
     except WrongEntry as fault:
         said = str(fault)
-    return {
-        "ok": not said,
-        "said": said,
-        "pulses": [state.nodes[v].pulse_number for v in network.vertices],
-        "wires": sum(map(len, state.link.values())),
-        "by": PYTHON,
-    }
+    return Replayed(
+        ok=not said,
+        said=said,
+        by=PYTHON,
+        entries=len(entries),
+        pulses=[state.nodes[v].pulse_number for v in network.vertices],
+        wires=sum(map(len, state.link.values())),
+    )

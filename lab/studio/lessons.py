@@ -4,6 +4,7 @@ import os
 import re
 
 from lab.programs import TOP
+from lab.studio.answers import LecturePlace, Lesson
 from lab.wrong import Wrong
 
 # Of a lesson's exercises those that are predictions, each with its place.
@@ -96,7 +97,7 @@ def lesson_of(number: int) -> tuple[str, str, str]:
     return title, ask, re.sub(r"\]\(LESSON_(\d)\.md[^)]*\)", r"](#\1-)", text)
 
 
-def lessons() -> list[dict[str, object]]:
+def lessons() -> list[Lesson]:
     """All lessons, as the studio's page has them: with the whole text, in Markdown, a hint and an answer."""
     page = page_of("ANSWERS.md")
     hints, answers = numbered(page, "Hints"), numbered(page, "Answers")
@@ -104,30 +105,30 @@ def lessons() -> list[dict[str, object]]:
     for number, (place, see, do) in enumerate(PLACES, 1):
         title, ask, text = lesson_of(number)
         found.append(
-            {
-                "number": number,
-                "title": title,
-                "ask": ask,
-                "open": place,
-                "see": see,
-                "do": do,
-                "text": text,
-                "hint": hints[number],
-                "answer": answers[number],
-                "questions": QUESTIONS.get(number, []),
-            }
+            Lesson(
+                number=number,
+                title=title,
+                ask=ask,
+                open=place,
+                see=see,
+                do=do,
+                text=text,
+                hint=hints[number],
+                answer=answers[number],
+                questions=QUESTIONS.get(number, []),
+            )
         )
     return found
 
 
-def lecture() -> list[dict[str, str]]:
-    """The places of the twenty minutes: {minutes, title, open, say}."""
+def lecture() -> list[LecturePlace]:
+    """The places of the twenty minutes."""
     rows = re.findall(
         r"^- \*\*(.*?)\*\*, \[(.*?)\]\(\S*?#(\S*?)\): (.*?)(?=^- |^$)",
         page_of("LECTURE.md"),
         re.M | re.S,
     )
     return [
-        {"minutes": minutes, "title": title, "open": place, "say": " ".join(say.split())}
+        LecturePlace(minutes, title, place, " ".join(say.split()))
         for minutes, title, place, say in rows
     ]

@@ -12,7 +12,8 @@ import sys
 import time
 import traceback
 from collections.abc import Callable
-from typing import Any
+from dataclasses import asdict, dataclass
+from typing import Literal
 
 from lab.door import PR_SET_PDEATHSIG, STOPS, held
 from lab.wrong import Wrong
@@ -25,18 +26,27 @@ TOO_LATE = f"it took more than {SECONDS} seconds, so it was ended"
 TOO_MUCH = "it took too much memory, so it was ended"
 
 
-def outcome(work: Callable[[], Any]) -> dict[str, Any]:
-    """What something gives, as {answer}, or why it gives nothing, as {wrong}; {fault} is one of the studio itself."""
+@dataclass(frozen=True)
+class Outcome:
+    """What something gives, or in words why it gives nothing: it was refused, it reached a limit, or the studio itself
+    has a fault."""
+
+    kind: Literal["answer", "refusal", "limit", "fault"]
+    answer: object = None
+    wrong: str = ""
+
+
+def outcome(work: Callable[[], object]) -> Outcome:
     try:
-        return {"answer": work()}
+        return Outcome("answer", work())
     except Wrong as why:
-        return {"wrong": str(why)}
+        return Outcome("refusal", wrong=str(why))
     except MemoryError:
-        return {"wrong": TOO_MUCH, "fault": False}
+        return Outcome("limit", wrong=TOO_MUCH)
     except Exception as why:  # noqa: BLE001
         at = traceback.extract_tb(why.__traceback__)[-1]
         said = f"{type(why).__name__}: {why} ({os.path.basename(at.filename)} line {at.lineno})"
-        return {"wrong": f"a fault of the studio itself: {said}", "fault": True}
+        return Outcome("fault", wrong=f"a fault of the studio itself: {said}")
 
 
 def begin() -> None:
@@ -56,8 +66,8 @@ def begin() -> None:
         resource.setrlimit(what, (most, most))
 
 
-def apart(work: Callable[[], str]) -> dict[str, Any]:
-    """The outcome of what a process of its own works out, within the limits; {wrong, fault} if there is none."""
+def apart(work: Callable[[], str]) -> Outcome:
+    """The outcome of what a process of its own works out, within the limits."""
     reader, writer = os.pipe()
     with held():
         child = os.fork()
@@ -81,26 +91,26 @@ def work_and_end(work: Callable[[], str], writer: int) -> None:
         for number in STOPS:
             signal.signal(number, signal.SIG_DFL if number != signal.SIGINT else signal.SIG_IGN)
         signal.pthread_sigmask(signal.SIG_UNBLOCK, STOPS)
-        os.write(writer, json.dumps(outcome(work)).encode())
+        os.write(writer, json.dumps(asdict(outcome(work))).encode())
     finally:
         os._exit(0)
 
 
-def all_of(reader: int, until: float) -> dict[str, Any]:
+def all_of(reader: int, until: float) -> Outcome:
     """What comes from the process before it ends, or the time is up."""
     said = b""
     while len(said) <= MOST_SAID:
         left = until - time.monotonic()
         if left <= 0 or not select.select([reader], [], [], left)[0]:
-            return {"wrong": TOO_LATE, "fault": False}
+            return Outcome("limit", wrong=TOO_LATE)
         part = os.read(reader, 1 << 16)
         if not part:
             break
         said += part
     try:
-        return json.loads(said)
+        return Outcome(**json.loads(said))
     except ValueError:
-        return {"wrong": "it took too much time or memory, so it was ended", "fault": False}
+        return Outcome("limit", wrong="it took too much time or memory, so it was ended")
 
 
 def end(child: int) -> None:

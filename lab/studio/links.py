@@ -7,6 +7,7 @@ from lab.studio.address import program_named
 from lab.studio.asked import network_asked, program_asked
 from lab.studio.dares import judged
 from lab.studio.limits import apart
+from lab.studio.messages import OfProgram
 from lab.studio.networks import opened_by
 from lab.wrong import Wrong
 
@@ -18,12 +19,12 @@ def judge(lines: list[str]) -> Iterator[tuple[str, bool]]:
         if not link:
             continue
         found = apart(partial(judged_link, link))
-        if "answer" in found:
-            yield f"{number}: {found['answer']}", True
+        if found.kind == "answer":
+            yield f"{number}: {found.answer}", True
         else:
             # What takes too much, and a fault of the studio, say nothing of the link.
-            what = "judged" if "fault" in found else "read"
-            yield f"{number}: can't be {what}: {found['wrong']}", False
+            what = "read" if found.kind == "refusal" else "judged"
+            yield f"{number}: can't be {what}: {found.wrong}", False
 
 
 def judged_link(link: str) -> str:
@@ -34,16 +35,15 @@ def judged_link(link: str) -> str:
     opened = opened_by(place)
     opened.address.refuse()
     values = opened.address.values
-    if "dare" not in values:
+    if values.dare is None:
         raise Wrong("it has no dare")
     if opened.text is None:
         raise Wrong("it has no network")
-    asked = {"network": opened.text, "program": program_named(values)}
+    asked = OfProgram(network=opened.text, program=program_named(values))
     network = network_asked(asked)
-    rules = tuple(values["without"].split(",")) if "without" in values else ()
-    found = judged(
-        network, program_asked(asked, network), rules, values.get("steps", []), values["dare"]
-    )
+    rules = tuple(values.without.split(",")) if values.without else ()
+    program = program_asked(asked, network)
+    found = judged(network, program, rules, values.steps or (), values.dare)
     without = f" without {','.join(rules)}" if rules else ""
-    verdict = "won" if found["won"] else "not won"
-    return f"{verdict}: {values['dare']}{without}: {found['said']}"
+    verdict = "won" if found.won else "not won"
+    return f"{verdict}: {values.dare}{without}: {found.said}"

@@ -2,10 +2,9 @@
 import os
 import re
 from argparse import ArgumentParser
-from collections.abc import Sequence
 from dataclasses import dataclass
 from math import isqrt, prod
-from typing import Any, NoReturn
+from typing import NoReturn
 
 from lab.definitions.programs import MAX_PASSES, PROGRAMS
 from lab.network import Network
@@ -15,17 +14,29 @@ from lab.networks.options import add_form, add_stated, stated_by
 from lab.networks.reading import read_any
 from lab.networks.stated import Unsaid, form_of
 from lab.networks.texts import text_of
+from lab.pictures.page_data import Net
 from lab.pictures.pages import net_of
 from lab.pictures.places import places_of
 from lab.programs import TOP
 from lab.schedules.policies import POLICIES
 from lab.schedules.rules import OF_PROGRAMS, OF_SCHEDULES, Rule
 from lab.studio.address import Address, Here, NAMES, lesson_opened, pairs_of, read_values
+from lab.studio.answers import (
+    Choice,
+    FileRead,
+    FileUnsaid,
+    FoundAddress,
+    Hello,
+    KindOfNetwork,
+    RuleSaid,
+    RulesSaid,
+)
 from lab.studio.asked import MOST_DRAWN, OPENED, network_asked
 from lab.studio.dares import DARES
 from lab.studio.drawn import drawn_of
-from lab.studio.fields import Asked, Tell, Told
 from lab.studio.lessons import lecture, lessons
+from lab.studio.messages import AddressCall, ExampleCall, HelloCall, MakeCall, ReadCall, TidyCall
+from lab.studio.telling import Tell
 from lab.wrong import Wrong
 
 # How many letters of a file's name are shown.
@@ -35,42 +46,40 @@ REACH = 0.26
 EXAMPLES = os.path.join(TOP, "examples")
 
 
-def shown(network: Network, said: Sequence[str] = ()) -> Told:
-    """A network as the page has it, and how it was read."""
+def shown(network: Network) -> Net:
+    """A network as the page has it."""
     if network.nodes > MOST_DRAWN:
         raise Wrong(
             f"{network.name}: the studio draws at most {MOST_DRAWN} nodes, and here are {network.nodes}"
         )
-    return net_of(network) | {"said": list(said)}
+    return net_of(network)
 
 
-def hello(_asked: Asked, _tell: Tell) -> Told:
+def hello(_call: HelloCall, _tell: Tell) -> Hello:
     """What there is to choose from."""
-    return {
-        "proved": OPENED["is_proved"],
-        "most": MOST_DRAWN,
-        "opened": OPENED["network"],
-        "examples": sorted(stem(file) for file in os.listdir(EXAMPLES) if file.endswith(".col")),
-        "kinds": {
-            name: {"sizes": kind.sizes, "chance": kind.is_by_chance} for name, kind in KINDS.items()
-        },
-        "programs": [*PROGRAMS, *OPENED["own"]],
-        "passes": MAX_PASSES,
-        "policies": POLICIES,
-        "rules": {
-            "orders": said_of(OF_SCHEDULES),
-            "rounds": {name: said_of(of) for name, of in OF_PROGRAMS.items()},
-        },
-        "lessons": lessons(),
-        "lecture": lecture(),
-        "dares": DARES,
+    return Hello(
+        proved=OPENED.is_proved,
+        most=MOST_DRAWN,
+        opened=OPENED.network,
+        examples=sorted(stem(file) for file in os.listdir(EXAMPLES) if file.endswith(".col")),
+        kinds={name: KindOfNetwork(kind.sizes, kind.is_by_chance) for name, kind in KINDS.items()},
+        programs=[*PROGRAMS, *OPENED.own],
+        passes=MAX_PASSES,
+        policies=POLICIES,
+        rules=RulesSaid(
+            orders=said_of(OF_SCHEDULES),
+            rounds={name: said_of(of) for name, of in OF_PROGRAMS.items()},
+        ),
+        lessons=lessons(),
+        lecture=lecture(),
+        dares=DARES,
         # How the page writes what an address has, by its name.
-        "address": {name: of.written for name, of in NAMES.items()},
-    }
+        address={name: of.written for name, of in NAMES.items()},
+    )
 
 
-def said_of(rules: dict[str, Rule]) -> dict[str, dict[str, str]]:
-    return {word: {"says": rule.says, "without": rule.without} for word, rule in rules.items()}
+def said_of(rules: dict[str, Rule]) -> dict[str, RuleSaid]:
+    return {word: RuleSaid(rule.says, rule.without) for word, rule in rules.items()}
 
 
 def example_text(name: str) -> str:
@@ -80,21 +89,21 @@ def example_text(name: str) -> str:
         return file.read()
 
 
-def example(asked: Asked, _tell: Tell) -> Told:
-    return shown(read_network(example_text(asked["name"]), asked["name"]))
+def example(call: ExampleCall, _tell: Tell) -> Net:
+    return shown(read_network(example_text(call.name), call.name))
 
 
 @dataclass
-class Opened:
+class Place:
     """What an address opens. `text` is its network in the DIMACS format and `network` the same for the page; both are
     None if it has none, and then the address is of the network that was there before."""
 
     address: Address
     text: str | None
-    network: dict[str, Any] | None
+    network: Net | None
 
 
-def opened_by(place: str, before: Here = Here()) -> Opened:
+def opened_by(place: str, before: Here = Here()) -> Place:
     """What an address opens, after the `#`; refused if its network can't be read."""
     pairs, unread = pairs_of(place)
     pairs = lesson_opened(pairs)
@@ -110,42 +119,35 @@ def opened_by(place: str, before: Here = Here()) -> Opened:
     elif {"example", "net"} & set(unread):
         raise Wrong("the address has two networks: one of them")
     here = before if network is None else here_of(network)
-    return Opened(read_values(pairs, unread, here), text, network)
+    return Place(read_values(pairs, unread, here), text, network)
 
 
-def here_of(network: dict[str, Any]) -> Here:
+def here_of(network: Net) -> Here:
     """What the values of an address are of, of a network as the page has it."""
-    return Here(len(network["nodes"]), {(v, w) for v, w in network["edges"]})
+    return Here(len(network.nodes), set(network.edges))
 
 
-def address(asked: Asked, _tell: Tell) -> Told:
-    """What an address says, for the page that follows it: `nodes` and `edges` are those that it has."""
-    before = OPENED["network"]
-    here = Here(asked["nodes"], {(v, w) for v, w in asked["edges"]})
-    if not asked["nodes"] and before:
-        here = here_of(before)
-    opened = opened_by(asked["place"], here)
-    return {
-        "network": opened.network,
-        "values": opened.address.values,
-        "unread": opened.address.faults(),
-    }
+def address(call: AddressCall, _tell: Tell) -> FoundAddress:
+    """What an address says, for the page that follows it."""
+    here = Here(call.nodes, set(call.edges))
+    if not call.nodes and OPENED.network:
+        here = here_of(OPENED.network)
+    opened = opened_by(call.place, here)
+    return FoundAddress(opened.network, opened.address.values, opened.address.faults())
 
 
-def file_read(asked: Asked, _tell: Tell) -> Told:
-    """A file that was dropped on the page, or the page's question if something of it isn't stated.
-
-    What is stated are the words of a command line.
-    """
-    name = asked["name"][:MOST_NAME]
+def file_read(call: ReadCall, _tell: Tell) -> FileRead | FileUnsaid:
+    """A file that was dropped on the page, or the page's question if something of it isn't stated."""
+    name = call.name[:MOST_NAME]
     try:
-        stated = stated_by(command_line().parse_args(list(asked["stated"])))
+        stated = stated_by(command_line().parse_args(list(call.stated)))
         form = form_of(name, name, stated)
-        return shown(*read_any(asked["data"], name, form, stated))
+        network, said = read_any(call.data, name, form, stated)
+        net = shown(network)
+        return FileRead(net.name, net.nodes, net.edges, said)
     except Unsaid as why:
-        choices = [{"stated": words, "means": means} for words, means in why.choices]
-        asks = {"choices": choices, "wanted": why.wanted, "titles": why.titles}
-        return {"unsaid": str(why), **asks}
+        choices = [Choice(words, means) for words, means in why.choices]
+        return FileUnsaid(str(why), choices, why.wanted, why.titles)
 
 
 class Options(ArgumentParser):
@@ -169,13 +171,13 @@ def whole_number(said: str, name: str) -> int:
     return int(said)
 
 
-def make(asked: Asked, _tell: Tell) -> Told:
-    kind = asked["kind"]
-    sizes = [whole_number(asked["sizes"].get(size, ""), size) for size in KINDS[kind].sizes]
+def make(call: MakeCall, _tell: Tell) -> Net:
+    kind = call.kind
+    sizes = [whole_number(call.sizes.get(size, ""), size) for size in KINDS[kind].sizes]
     nodes = sizes[0] if kind == "random" else prod(sizes)
     if nodes > MOST_DRAWN:
         raise Wrong(f"the studio draws at most {MOST_DRAWN} nodes")
-    seed = [whole_number(asked["seed"], "seed")] if KINDS[kind].is_by_chance else []
+    seed = [whole_number(call.seed, "seed")] if KINDS[kind].is_by_chance else []
     more: list[float] = [REACH, *seed] if kind == "disk" else [*seed]
     network = read_network(text_of(KINDS[kind].make(*sizes, *more)), kind)
     network.name = "-".join(map(str, [kind, *sizes, *more]))
@@ -195,8 +197,8 @@ def by_shape(kind: str, nodes: int, *_: int) -> dict[int, tuple[float, float]]:
     }
 
 
-def tidy(asked: Asked, _tell: Tell) -> Told:
-    network = network_asked(asked)
+def tidy(call: TidyCall, _tell: Tell) -> Net:
+    network = network_asked(call)
     network.places = {}
     network.places = places_of(network)
     return shown(network)

@@ -16,7 +16,9 @@ from lab.studio.asked import (
     rules_asked,
     vertex_asked,
 )
-from lab.studio.fields import Asked, Tell, Told
+from lab.studio.answers import Predicted
+from lab.studio.messages import PredictCall, WaitsCall
+from lab.studio.telling import Tell
 from lab.words import in_words
 from lab.wrong import Wrong
 
@@ -25,18 +27,18 @@ NEEDED = {"acks": "its payloads are acknowledged", "safes": "its neighbours are 
 NOT_NEEDED = {"acks": "acknowledgements", "safes": "safes"}
 
 
-def predict(asked: Asked, _tell: Tell) -> Told:
-    """{right, found, why} of what is said of a node after a pulse; of the colouring in a forest, or in its merge."""
-    network = network_asked(asked, MOST_ROUNDS)
-    program = program_asked(asked, network)
-    v, pulse, last = vertex_asked(asked, network), asked["pulse"], program.last_pulse(network)
+def predict(call: PredictCall, _tell: Tell) -> Predicted:
+    """Whether it is right what is said of a node after a pulse; of the colouring in a forest, or in its merge."""
+    network = network_asked(call, MOST_ROUNDS)
+    program = program_asked(call, network)
+    v, pulse, last = vertex_asked(call, network), call.pulse, program.last_pulse(network)
     if not 1 <= pulse <= last:
         raise Wrong(f"the field pulse: there is no pulse {pulse}, only 1 to {last}")
     if program is Colouring:
-        found, why = of_colouring(Rounds(network), v, pulse, asked["forest"])
+        found, why = of_colouring(Rounds(network), v, pulse, call.forest)
     else:
         found, why = of_program(ProgramRounds(network, program), v, pulse)
-    return {"right": words(asked["said"]) == words(found), "found": found, "why": why}
+    return Predicted(words(call.said) == words(found), found, why)
 
 
 def words(said: str) -> str:
@@ -86,17 +88,17 @@ def of_program(rounds: ProgramRounds, v: int, pulse: int) -> tuple[str, str]:
     return rounds.pulses[pulse].results[v], f"It reads {in_words(read) or 'nothing'}."
 
 
-def waits(asked: Asked, _tell: Tell) -> Told:
+def waits(call: WaitsCall, _tell: Tell) -> Predicted:
     """The same of what a node waits for after some steps, as `ack 2, safe 3`: the word, and of whom."""
-    network = network_asked(asked, MOST_RUN)
-    v = vertex_asked(asked, network)
-    program = program_asked(asked, network)
-    player = Stepwise(network, program, rules_asked(asked, OF_SCHEDULES))
-    player.follow(asked["steps"].split("_"))
+    network = network_asked(call, MOST_RUN)
+    v = vertex_asked(call, network)
+    program = program_asked(call, network)
+    player = Stepwise(network, program, rules_asked(call, OF_SCHEDULES))
+    player.follow(call.steps.split("_"))
     found, why = waited(player, v)
-    said = sorted(filter(None, map(words, asked["said"].split(","))))
+    said = sorted(filter(None, map(words, call.said.split(","))))
     is_right = said == found or not found and said == ["nothing"]
-    return {"right": is_right, "found": ", ".join(found) or "nothing", "why": why}
+    return Predicted(is_right, ", ".join(found) or "nothing", why)
 
 
 def waited(player: Stepwise, v: int) -> tuple[list[str], str]:

@@ -13,6 +13,7 @@ from lab.schedules.policies import Policy
 from lab.schedules.rules import OF_SCHEDULES
 from lab.schedules.simulate import Player, events_of, text_of_run
 from lab.schedules.stepwise import Stepwise
+from lab.studio.answers import JudgedText, Replayed, RunPart, StepsFound, WholeRun
 from lab.studio.asked import (
     MOST_DRAWN,
     MOST_RUN,
@@ -23,8 +24,9 @@ from lab.studio.asked import (
     rules_asked,
 )
 from lab.studio.dares import judged as dare_judged, results_of
-from lab.studio.fields import Asked, Tell, Told
-from lab.studio.judges import beginning_judged, by_definitions, judged, text_from
+from lab.studio.judges import PYTHON, beginning_judged, by_definitions, judged, text_from
+from lab.studio.messages import Held, JudgeCall, ReplayCall, RunCall, RunPageCall, StepsCall
+from lab.studio.telling import Tell
 from lab.transcripts.reading import line_of
 from lab.wrong import Wrong
 
@@ -36,30 +38,30 @@ KINDS = "payload", "ack", "safe", "close"
 MOST_BY_CHANCE = 200
 
 
-def held_of(asked: Asked, net: Network) -> tuple[set[tuple[int, int]], set[int]]:
+def held_of(held: Held, net: Network) -> tuple[set[tuple[int, int]], set[int]]:
     """The links and nodes that wait."""
-    slow = {(min(edge), max(edge)) for edge in asked["slow"]}
-    lazy = set(asked["lazy"])
+    slow = {(min(edge), max(edge)) for edge in held.slow}
+    lazy = set(held.lazy)
     if not slow <= set(net.edges) or not lazy <= set(net.neighbours):
         raise Wrong("the fields slow, lazy: a link or a node that waits isn't in this network")
     return slow, lazy
 
 
-def played(asked: Asked, network: Network, program: Program, tell: Tell) -> tuple[str, Run]:
+def played(call: RunCall, network: Network, program: Program, tell: Tell) -> tuple[str, Run]:
     """(transcript, run) by a seed, which no thread made; steps of somebody's may come first."""
     most = least_wires(network, program)
     if most > MOST_WIRES_PLAYED:
         raise Wrong(
             f"a run has more than {most:,} wires: take the threads, since a seeded run is played slowly"
         )
-    if asked["policy"] is None:
+    if call.policy is None:
         raise Wrong("the call lacks its field policy: a run by a seed has one")
     policy = Policy(
-        asked["policy"], network.vertices, network.edges, asked["seed"], *held_of(asked, network)
+        call.policy, network.vertices, network.edges, call.seed, *held_of(call, network)
     )
     player = Player(network, program)
     made = Steps(player.state)
-    for step in first_steps(asked, network, program):
+    for step in first_steps(call.steps, network, program):
         made.add(player.make(*step))
     # About: twice a wire for each of its puts and takes, and as many again for the payloads and their acknowledgements.
     of, next_part = 2 * most + network.nodes * program.last_pulse(network), PART
@@ -69,54 +71,54 @@ def played(asked: Asked, network: Network, program: Program, tell: Tell) -> tupl
             tell(min(len(player.made), of), of)
         if len(player.made) == next_part:
             next_part *= 2
-            tell(part=shown(Run("the run", network, made.by_stamp())))
+            tell(part=run_part(Run("the run", network, made.by_stamp())))
     return text_of_run(network.nodes, player.made, program), Run(
         "the run", network, made.by_stamp()
     )
 
 
 def first_steps(
-    asked: Asked, net: Network, program: Program
+    steps: str, net: Network, program: Program
 ) -> Iterator[tuple[str, int, int | None]]:
     """(kind, vertex, port) of the events that steps of somebody's come to."""
-    if not asked["steps"]:
+    if not steps:
         return  # even the greetings are the policy's, as `forestlab simulate` plays them
     stepwise = Stepwise(net, program)
-    stepwise.follow(asked["steps"].split("_"))
+    stepwise.follow(steps.split("_"))
     for _, kind, v, port, _ in events_of("\n".join(stepwise.lines), "the steps"):
         yield kind, v, port
 
 
-def shown(found: Run) -> Told:
+def run_part(found: Run) -> RunPart:
     """What is shown of a run."""
-    return {"table": found.table(), "last": found.last, "pulses": found.pulses, "cut": found.is_cut}
+    return RunPart(found.table(), found.last, found.pulses, found.is_cut)
 
 
-def by_threads(asked: Asked, program: Program) -> str:
-    if not OPENED["is_proved"]:
+def by_threads(call: RunCall, program: Program) -> str:
+    if not OPENED.is_proved:
         raise Wrong("threads run the proved programs, which aren't built yet: take a run by a seed")
     name = "forestplan" if program is Colouring else "forestplay"
     words = (
         ["transcript"] if program is Colouring else ["run", "--transcript", *program_words(program)]
     )
-    workers = processors.workers(asked["workers"])
-    capacity = asked["capacity"]
+    workers = processors.workers(call.workers)
     return text_from(
-        name, [*words, f"--workers={workers}", f"--capacity={capacity}"], asked["network"]
+        name, [*words, f"--workers={workers}", f"--capacity={call.capacity}"], call.network
     )
 
 
-def run(asked: Asked, tell: Tell) -> Told:
+def run(call: RunCall, tell: Tell) -> WholeRun:
     """A run: its transcript, the rows that the page follows, the judge's verdict, and whether its payloads are those of
     the rounds."""
-    network = network_asked(asked, MOST_RUN)
-    program = program_asked(asked, network)
-    if asked["transcript"]:
-        text, found = asked["transcript"], None
-    elif asked["how"] == "threads" and not is_own(program):
-        text, found = by_threads(asked, program), None
+    network = network_asked(call, MOST_RUN)
+    program = program_asked(call, network)
+    found = None
+    if call.transcript:
+        text = call.transcript
+    elif call.how == "threads" and not is_own(program):
+        text = by_threads(call, program)
     else:
-        text, found = played(asked, network, program, tell)
+        text, found = played(call, network, program, tell)
     if found is None:
         lines = text.splitlines(keepends=True)
         if text.startswith("transcript 2 "):
@@ -124,33 +126,38 @@ def run(asked: Asked, tell: Tell) -> Told:
             del lines[MOST_ENTRIES + 3 :]
         found = run_of_text("the run", "".join(lines), network, program=program)
     same, results = compared(found, network, program)
-    return shown(found) | {
-        "text": text,
-        "judge": judged(network, asked["network"], text, program),
-        "same": same,
-        "results": results,
-        "costs": {kind: len(re.findall(f"^.* put \\d+ {kind}", text, re.M)) for kind in KINDS},
-        "of": singled_out(asked, network),
-    }
+    return WholeRun(
+        table=found.table(),
+        last=found.last,
+        pulses=found.pulses,
+        cut=found.is_cut,
+        text=text,
+        judge=judged(network, call.network, text, program),
+        same=same,
+        results=results,
+        costs={kind: len(re.findall(f"^.* put \\d+ {kind}", text, re.M)) for kind in KINDS},
+        of=singled_out(call, network),
+    )
 
 
-def run_page(asked: Asked, _tell: Tell) -> str:
+def run_page(call: RunPageCall, _tell: Tell) -> str:
     """The same of a run, as the command `picture watch` draws it."""
-    network = network_asked(asked, MOST_RUN)
-    program = program_asked(asked, network)
-    return draw([run_of_text("the run", asked["transcript"], network, program=program)])
+    network = network_asked(call, MOST_RUN)
+    program = program_asked(call, network)
+    return draw([run_of_text("the run", call.transcript, network, program=program)])
 
 
-def singled_out(asked: Asked, network: Network) -> str | None:
+def singled_out(call: RunCall, network: Network) -> str | None:
     """The link or the node that the policy has chosen by its seed, if it chooses one."""
-    if asked["transcript"] or asked["how"] == "threads":
+    if call.transcript or call.how == "threads" or call.policy is None:
         return None
-    policy = Policy(asked["policy"], network.vertices, network.edges, asked["seed"])
-    of = policy.chosen
+    of = Policy(call.policy, network.vertices, network.edges, call.seed).chosen
     return of and (f"node {of}" if isinstance(of, int) else "the link {}–{}".format(*of))
 
 
-def compared(found: Run, network: Network, program: Program) -> tuple[list[int], list[str | int]]:
+def compared(
+    found: Run, network: Network, program: Program
+) -> tuple[tuple[int, int, int], list[str | int]]:
     """(pulses whose payloads are those of the rounds, pulses compared, payloads), and what the rounds find."""
     there, results = rounds_of(network, program), results_of(network, program)
     pulses = range(found.pulses[0], found.pulses[1] + 1)
@@ -159,69 +166,73 @@ def compared(found: Run, network: Network, program: Program) -> tuple[list[int],
         for p in pulses
     }
     same = sum(sent[p] == found.payloads(p) for p in pulses)
-    return [same, len(pulses), sum(map(len, sent.values()))], results
+    return (same, len(pulses), sum(map(len, sent.values()))), results
 
 
-def replay(asked: Asked, _tell: Tell) -> Told:
+def replay(call: ReplayCall, _tell: Tell) -> Replayed:
     """What the judge says of the first entries of a run: it plays them, and says where each node is. Without stamps a
     beginning of a run is no fault."""
-    network = network_asked(asked, MOST_RUN)
-    lines = asked["transcript"].splitlines()
-    entries = [line.partition(" ")[2] for line in lines[1:]]
-    return {"entries": len(entries)} | beginning_judged(
-        network, asked["network"], entries, program_asked(asked, network)
+    network = network_asked(call, MOST_RUN)
+    entries = [line.partition(" ")[2] for line in call.transcript.splitlines()[1:]]
+    return beginning_judged(network, call.network, entries, program_asked(call, network))
+
+
+def judge(call: JudgeCall, _tell: Tell) -> JudgedText:
+    """What is said of a transcript, whoever wrote it: in words by the definitions, and by the proved machine."""
+    network, text = network_asked(call, MOST_DRAWN), call.transcript
+    program = program_asked(call, network)
+    proved = judged(network, call.network, text, program) if OPENED.is_proved else None
+    said, line = by_definitions(network, text, program)
+    return JudgedText(
+        ok=line is None,
+        said=said,
+        line=line,
+        by=PYTHON,
+        proved=proved,
+        before=call.network.count("\n") + 1,
     )
 
 
-def judge(asked: Asked, _tell: Tell) -> Told:
-    """What is said of a transcript, whoever wrote it: in words by the definitions, and by the proved machine."""
-    network, text = network_asked(asked, MOST_DRAWN), asked["transcript"]
-    program = program_asked(asked, network)
-    proved = judged(network, asked["network"], text, program) if OPENED["is_proved"] else None
-    return by_definitions(network, text, program) | {
-        "proved": proved,
-        "before": asked["network"].count("\n") + 1,
-    }
-
-
-def follow(player: Stepwise, asked: Asked, held: tuple[set[tuple[int, int]], set[int]]) -> None:
+def follow(player: Stepwise, call: StepsCall, held: tuple[set[tuple[int, int]], set[int]]) -> None:
     """Makes the steps that are listed, and plays what is left to chance, with some links and nodes held up."""
-    if asked["list"] is not None:
-        player.follow_list(asked["list"])
+    if call.list is not None:
+        player.follow_list(call.list)
     else:
-        player.follow(asked["steps"].split("_"))
+        player.follow(call.steps.split("_"))
     if len(player.chosen) > MOST_STEPS:
         raise Wrong(f"at most {MOST_STEPS:,} steps are made by hand; No clock plays the rest")
-    if asked["by"]:
-        player.by_chance(min(asked["by"], MOST_BY_CHANCE), asked["seed"], *held)
-    if asked["in_step"]:
+    if call.by:
+        player.by_chance(min(call.by, MOST_BY_CHANCE), call.seed, *held)
+    if call.in_step:
         player.in_step(*held)
 
 
-def steps(asked: Asked, _tell: Tell) -> Told:
+def steps(call: StepsCall, _tell: Tell) -> StepsFound:
     """A run that is made step by step: where it is after some steps, or the events of a `list`, and what can come next.
     `by` steps more are left to chance, or up to all nodes' next pulse `in step`."""
-    network = network_asked(asked, MOST_RUN)
-    program = program_asked(asked, network)
-    without = rules_asked(asked, OF_SCHEDULES)
+    network = network_asked(call, MOST_RUN)
+    program = program_asked(call, network)
+    without = rules_asked(call, OF_SCHEDULES)
     player = Stepwise(network, program, without)
-    follow(player, asked, held_of(asked, network))
-    wires = [[v, w, player.words_on(v, w)] for v in network.vertices for w in network.neighbours[v]]
-    told = {
-        "made": player.chosen,
-        "steps": [] if player.is_over else player.possible(),
-        "last": player.state.nodes[1].last,
-        "looks": [look_of(player.state, v) for v in network.vertices],
-        "wires": [row for row in wires if row[2]],
-        "said": player.said,
-        "fault": player.fault,
-        "over": player.is_over,
-        "list": player.lines,
-        "entries": len(player.made),
-    }
-    if asked["dare"]:
-        told["dare"] = dare_judged(network, program, without, player.chosen, asked["dare"])
-    if without or player.is_over:
-        return told
-    lines = [line_of(entry) for entry in player.made]
-    return told | {"judge": beginning_judged(network, asked["network"], lines, program)}
+    follow(player, call, held_of(call, network))
+    wires = [(v, w, player.words_on(v, w)) for v in network.vertices for w in network.neighbours[v]]
+    dare = judge_found = None
+    if call.dare:
+        dare = dare_judged(network, program, without, player.chosen, call.dare)
+    if not without and not player.is_over:
+        lines = [line_of(entry) for entry in player.made]
+        judge_found = beginning_judged(network, call.network, lines, program)
+    return StepsFound(
+        made=player.chosen,
+        steps=[] if player.is_over else player.possible(),
+        last=player.state.nodes[1].last,
+        looks=[look_of(player.state, v) for v in network.vertices],
+        wires=[row for row in wires if row[2]],
+        said=player.said,
+        fault=player.fault,
+        over=player.is_over,
+        list=player.lines,
+        entries=len(player.made),
+        dare=dare,
+        judge=judge_found,
+    )

@@ -25,6 +25,7 @@ from collections.abc import Callable, Iterator
 from typing import Any
 
 from lab.pictures import pages
+from lab.pictures.page_data import as_object
 from lab.programs import TOP
 from lab.studio import limits
 from lab.studio.building import Building
@@ -146,7 +147,7 @@ class Answer:
         self.handler, self.lock, self.told = handler, threading.Lock(), 0.0
 
     def line(self, **what: object) -> None:
-        words = json.dumps(what, separators=(",", ":"), ensure_ascii=False)
+        words = json.dumps(what, separators=(",", ":"), ensure_ascii=False, default=as_object)
         text = words.encode(errors="replace") + b"\n"
         with self.lock:
             self.handler.wfile.write(text)
@@ -260,8 +261,9 @@ class Handler(http.server.BaseHTTPRequestHandler):
         answer = Answer(self)
         with limited(self, lambda why: answer.line(wrong=why)):
             found = limits.outcome(lambda: CALLS[name].answer(asked, answer.tell))
-        found.pop("fault", None)
-        return answer.line(**found)
+        if found.kind == "answer":
+            return answer.line(answer=found.answer)
+        return answer.line(wrong=found.wrong)
 
 
 @contextlib.contextmanager

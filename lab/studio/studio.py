@@ -122,11 +122,11 @@ def open_browser(address: str, folder: str) -> None:
     webbrowser.open("file://" + path)
 
 
-def opened(path: str) -> tuple[Network, list[str]]:
-    """The network that the command line names, and what is said of it."""
+def opened(path: str) -> Network:
+    """The network that the command line names."""
     try:
         form = form_read(path, Stated())
-        return read_any(network_bytes(path), text_name(path), form, Stated())
+        return read_any(network_bytes(path), text_name(path), form, Stated())[0]
     except Unsaid as why:
         raise Wrong(
             commands_for(why, ["network", "read"], [path], " | forestlab studio -")
@@ -140,8 +140,9 @@ def main(words: list[str]) -> int:
     with tempfile.TemporaryDirectory(prefix="forestplan-studio-") as folder:
         try:
             if given.network is not None:
-                OPENED["network"] = shown(*opened(given.network))
-            OPENED.update(own=own_programs(given.own), is_proved=are_built())
+                OPENED.network = shown(opened(given.network))
+            OPENED.own = own_programs(given.own)
+            OPENED.is_proved = are_built()
             server = server_at(given.port, folder)
         except Wrong as why:
             print(f"studio: {why}", file=sys.stderr)
@@ -158,7 +159,7 @@ def judge_links(given: Namespace) -> int:
     """Says of each link of a file whether it wins its dare."""
     are_judged = True
     try:
-        OPENED.update(own=own_programs(given.own))
+        OPENED.own = own_programs(given.own)
         for said, is_judged in judge(text_at(given.links).split("\n")):
             print(one_line(said), flush=True)
             are_judged = are_judged and is_judged

@@ -14,8 +14,8 @@ SEVERAL = {
     **dict.fromkeys("main".split(), 14),
     **dict.fromkeys("command_line".split(), 11),
     **dict.fromkeys("text_of".split(), 6),
-    **dict.fromkeys("fields_of shown".split(), 5),
-    **dict.fromkeys("Rounds listed run".split(), 4),
+    **dict.fromkeys("fields_of".split(), 5),
+    **dict.fromkeys("Rounds listed run shown".split(), 4),
     **dict.fromkeys(
         (
             "Entry Found Refused Run check columns_of judged legend number rounds_of said_of "

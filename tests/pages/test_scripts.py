@@ -4,6 +4,7 @@ by jsconfig.json and the types in comments, and `eslint` none of the rules of .e
 
 - The types say which elements a page has, as its HTML does: a module can ask for no other.
 - No file is left out: none turns a check off."""
+import json
 import os
 import pathlib
 import re
@@ -29,6 +30,20 @@ KINDS = {
 # Where Debian's packages have their modules: another node than Debian's doesn't look there. And the rules are in a file
 # of the form that eslint had up to its version 8.
 SETTINGS = {"NODE_PATH": "/usr/share/nodejs:/usr/lib/nodejs", "ESLINT_USE_FLAT_CONFIG": "false"}
+# A module that asks the server, rightly and wrongly: a field of another name, of another type, one too few, one too
+# many in a value that isn't written where it is asked, a call that there isn't, and a field that the answer hasn't.
+PLANTED = """\
+import {call} from "./api.js";
+const network = "", more = {network, vertex: 1, wy: 1}, one = {network, vertex: 1};
+call("why", {network, vertex: 1}).then(found => found && found.lines);
+call("why", one);
+call("why", {network, vertx: 1});  // wrong
+call("why", {network, vertex: "1"});  // wrong
+call("why", {network});  // wrong
+call("why", more);  // wrong
+call("wy", {network, vertex: 1});  // wrong
+call("why", {network, vertex: 1}).then(found => found && found.line);  // wrong
+"""
 
 
 def elements_of(html: str) -> dict[str, str]:
@@ -56,6 +71,25 @@ class Scripts(FilesCase):
 
     def test_types(self) -> None:
         self.run_clean("tsc", "-p", "jsconfig.json")
+
+    def test_a_call_that_the_server_does_not_know(self) -> None:
+        """A page that asks for something else than the calls of lab/studio/messages.py, or reads something else of an
+        answer, is a fault of a type: each line that `PLANTED` marks, and none of the others."""
+        need(self, "tsc")
+        folders = [os.path.join(TOP, folder) for folder in PAGES]
+        settings = {
+            "extends": os.path.join(TOP, "jsconfig.json"),
+            "compilerOptions": {"rootDirs": [self.folder, *folders]},
+            "include": [self.file("planted.js", PLANTED)],
+            "files": [os.path.join(folder, "types.d.ts") for folder in folders]
+            + [os.path.join(folders[0], "data.d.ts"), os.path.join(folders[1], "calls.d.ts")],
+        }
+        path = self.file("jsconfig.json", json.dumps(settings))
+        done = subprocess.run(["tsc", "-p", path], cwd=TOP, capture_output=True, text=True)
+        found = {int(line) for line in re.findall(r"planted\.js\((\d+),", done.stdout)}
+        lines = enumerate(PLANTED.split("\n"), 1)
+        wanted = {number for number, line in lines if line.endswith("// wrong")}
+        self.same("the faults", (found, len(wanted)), (wanted, 6))
 
     def test_rules(self) -> None:
         self.run_clean("eslint", "--format", "unix", *PAGES)

@@ -4,7 +4,10 @@ writes in the same letters, and shows again; random states come back; and what c
 import json
 import random
 
-from lab.studio.address import NAMES, TABS
+from typing import get_args
+
+from lab.studio.address import NAMES
+from lab.studio.answers import TabName
 from tests.pages.test_studio_page import Page
 from tests.programs.test_addresses import TWO, random_state, rounded, stored
 
@@ -119,9 +122,9 @@ class StudioAddresses(Page):
                 self.same(place[:200], self.written(given), place)
 
     def test_random_states(self):
-        source, names = random.Random(SEED), set()
+        source, names, tabs = random.Random(SEED), set(), get_args(TabName)
         for k in range(STATES):
-            state = whole_state(random_state(source) | {"tab": TABS[k % len(TABS)]})
+            state = whole_state(random_state(source) | {"tab": tabs[k % len(tabs)]})
             self.begin()
             place = self.written(state)
             names |= {part.partition("=")[0] for part in place[1:].split("&")}

@@ -38,7 +38,7 @@ class Watch(PictureCase):
         part = data_of(self.page("petersen", text, options=["--pulses", "3..5"]))
         (run,) = part["runs"]
         row = self.rows_of("pulses 3 to 5")
-        shown = [run["looks"][run["rows"][at][2]]["p"] for at in (0, -1)]
+        shown = [run["looks"][run["rows"][at][2]]["pulse"] for at in (0, -1)]
         row("those shown", [part["pulses"], shown], [[3, 5], [3, 5]])
         first = [row[:2] for row in whole["rows"]].index(run["rows"][0][:2])
         before = {row[1]: whole["looks"][row[2]] for row in whole["rows"][:first]}

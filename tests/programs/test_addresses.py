@@ -11,15 +11,18 @@ import re
 import shutil
 import subprocess
 import time
+from typing import get_args
 from unittest import mock
 
 from lab.definitions.programs import program_at
 from lab.networks.network_text import read_network
+from lab.pictures.page_data import Net, as_object
 from lab.schedules.policies import POLICIES
 from lab.schedules.rules import OF_PROGRAMS, OF_SCHEDULES
 from lab.schedules.stepwise import Stepwise
 from lab.studio import limits
-from lab.studio.address import NAMES, PICTURES, TABS, Here
+from lab.studio.address import NAMES, Here
+from lab.studio.answers import PictureKind, TabName, Values
 from lab.studio.dares import DARES
 from lab.studio.links import judge, judged_link
 from lab.studio.networks import opened_by
@@ -101,7 +104,7 @@ def random_state(source):
 
     values = {
         "net": network,
-        "tab": source.choice(TABS),
+        "tab": source.choice(get_args(TabName)),
         "program": program,
         "passes": source.randint(1, 64),
         "root": source.choice(vertices),
@@ -121,7 +124,7 @@ def random_state(source):
         "without": ",".join(some(source, list(OF_SCHEDULES), 4)),
         "dare": source.choice(list(DARES)),
         "plan": [source.randint(0, 9999) for _ in range(source.randint(0, nodes))],
-        "kind": source.choice(PICTURES),
+        "kind": source.choice(get_args(PictureKind)),
         "lesson": source.randint(1, 7),
     }
     always = ("net", "tab", "program")
@@ -149,7 +152,8 @@ def read_back(place):
     """(network, values) of an address, as the page gets them."""
     opened = opened_by(place)
     opened.address.refuse()
-    found = json.loads(json.dumps([opened.network, opened.address.values]))
+    words = json.dumps([opened.network, opened.address.values], default=as_object)
+    found = json.loads(words)
     return found[0], {name: value for name, value in found[1].items() if name != "net"}
 
 
@@ -282,13 +286,13 @@ class Addresses(Case):
         """An address without a network is of the one that the page has, and a lesson opens its place."""
         here = Here(2, {(1, 2)})
         found = opened_by("tab=run&slow=2-1&node=2", here)
-        wanted = {"tab": "run", "slow": [(1, 2)], "node": 2}
+        wanted = Values(tab="run", slow=[(1, 2)], node=2)
         self.same("its network is kept", (found.network, found.address.values), (None, wanted))
-        self.same("an empty one", (opened_by("net=~", here).network or {})["nodes"], [])
+        self.same("an empty one", opened_by("net=~", here).network, Net("", [], []))
         values = opened_by("lesson=6").address.values
-        self.same("a lesson's place", (values["tab"], values["without"]), ("adversary", "safes"))
+        self.same("a lesson's place", (values.tab, values.without), ("adversary", "safes"))
         values = opened_by(f"{TWO}&tab=check&lesson=6").address.values
-        self.same("another place", (values["tab"], "without" in values), ("check", False))
+        self.same("another place", (values.tab, values.without), ("check", None))
 
 
 class Links(Case):

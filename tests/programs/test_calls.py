@@ -10,8 +10,8 @@ from lab.definitions.nodes import Colouring
 from lab.studio import building, limits, runs
 from lab.studio.asked import OPENED
 from lab.studio.calls import CALLS
-from lab.studio.fields import object_of
-from lab.wrong import Wrong
+from lab.studio.fields import fields_of, object_of
+from lab.studio.messages import RunCall
 from tests.cases import FilesCase
 
 EDGE = "p edge 2 1\ne 1 2\n"
@@ -86,6 +86,44 @@ DEFAULTS = {
     **{"steps": "", "without": "", "forest": 0, "how": "seed", "workers": 4, "capacity": 4},
     **{"pulses": [], "by": 0, "in_step": False, "dare": None, "policy": None, "list": None},
 }
+# The sentence of each refusal of a malformed call. The server's other tests ask only for its beginning.
+AT_NODE = {"network": EDGE, "vertex": 1}
+REFUSALS: tuple[tuple[str, dict, str], ...] = (
+    ("why", {"network": EDGE}, "the call lacks its field vertex"),
+    ("why", AT_NODE | {"vertx": 1}, "the call has no field vertx: it has network, name, vertex"),
+    ("hello", {"x": 1}, "the call has no field x: it has none"),
+    ("why", AT_NODE | {"network": 7}, "the field network of the call: a text is asked for"),
+    (
+        "why",
+        AT_NODE | {"network": "\ud800"},
+        "the field network of the call: a text of whole letters is asked for, and this has half of one",
+    ),
+    ("why", AT_NODE | {"vertex": "x"}, "the field vertex of the call: a whole number is asked for"),
+    (
+        "why",
+        AT_NODE | {"vertex": 10**9 + 1},
+        "the field vertex of the call: a whole number of at most 1,000,000,000 is asked for",
+    ),
+    ("steps", RUN | {"in_step": 1}, "the field in_step of the call: true or false is asked for"),
+    (
+        "read",
+        {"name": "x", "data": "?"},
+        "the field data of the call: bytes in base 64 are asked for",
+    ),
+    ("check", {"network": EDGE, "plan": 1}, "the field plan of the call: a list is asked for"),
+    ("run", RUN | {"slow": [[1]]}, "the field slow of the call: a list of 2 is asked for"),
+    ("make", {"kind": "disk", "sizes": 1}, "the field sizes of the call: an object is asked for"),
+    (
+        "picture",
+        RUN | {"kind": "x"},
+        "the field kind of the call: there is no x: there are plan, results, rounds, bits, why, run",
+    ),
+    (
+        "predict",
+        AT_NODE | {"pulse": 1, "said": []},
+        "the field said of the call: a whole number is asked for",
+    ),
+)
 
 
 def text_of(asked):
@@ -98,22 +136,20 @@ class Calls(FilesCase):
     def setUp(self):
         # No button is pressed, and nothing is built.
         self.enterContext(mock.patch.object(building.shutil, "which", lambda name: None))
-        self.enterContext(mock.patch.dict(OPENED, {"is_proved": False}))
+        self.enterContext(mock.patch.object(OPENED, "is_proved", False))
 
     def outcome(self, name, body):
         """What is answered to a call with this body, in words if it is refused."""
-        try:
-            asked = object_of(body)
-        except Wrong as why:
-            return {"wrong": str(why)}
-        return limits.outcome(lambda: CALLS[name].answer(asked, lambda *_, **__: None))
+        return limits.outcome(
+            lambda: CALLS[name].answer(object_of(body), lambda done=0, of=0, part=None: None)
+        )
 
     def is_no_fault(self, row, found):
-        self.note(row[:300], found.get("fault") is not True, found.get("wrong"))
+        self.note(row[:300], found.kind != "fault", found.wrong)
 
     def names_it(self, row, field, found):
-        words = found.get("wrong", "an answer")
-        self.note(row[:300], not found.get("fault") and f"field {field}" in words, words[:2000])
+        words = found.wrong or "an answer"
+        self.note(row[:300], found.kind == "refusal" and f"field {field}" in words, words[:2000])
 
     def test_all_are_here(self):
         """Each field of each call is in a call of the list, and each call of the list is good."""
@@ -121,7 +157,18 @@ class Calls(FilesCase):
         for name, asked in GOOD:
             fields[name] |= set(asked)
             self.is_no_fault(f"{name} {asked}", self.outcome(name, text_of(asked)))
-        self.same("all fields", fields, {name: set(call.fields) for name, call in CALLS.items()})
+        wanted = {name: set(fields_of(call.asked)) for name, call in CALLS.items()}
+        self.same("all fields", fields, wanted)
+
+    def test_refusals(self):
+        """What is said of each kind of a malformed call."""
+        for name, asked, wanted in REFUSALS:
+            found = self.outcome(name, text_of(asked))
+            self.same(wanted, (found.kind, found.wrong), ("refusal", wanted))
+        for body in (b"", b"[]", b"{", b"\xff", b"[" * 100_000):
+            self.same(body[:9], self.outcome("hello", body).wrong, "a call is an object in JSON")
+        twice = self.outcome("hello", b'{"a": 1, "a": 1}').wrong
+        self.same("a field twice", twice, "the call has its field a twice")
 
     def test_left_out(self):
         """A field that a call needs is named; without another one it is answered, or refused with a reason."""
@@ -130,7 +177,7 @@ class Calls(FilesCase):
                 less = {other: value for other, value in asked.items() if other != field}
                 found = self.outcome(name, text_of(less))
                 row = f"{name} without {field}"
-                if CALLS[name].fields[field].may_lack:
+                if fields_of(CALLS[name].asked)[field].may_lack:
                     self.is_no_fault(row, found)
                 else:
                     self.names_it(row, field, found)
@@ -154,7 +201,7 @@ class Calls(FilesCase):
                 for value in VALUES:
                     row = f"{name} {field}={value!a}"
                     found = self.outcome(name, text_of(asked | {field: value}))
-                    may_lack = value is None and CALLS[name].fields[field].may_lack
+                    may_lack = value is None and fields_of(CALLS[name].asked)[field].may_lack
                     if type(value) in types or may_lack:
                         self.is_no_fault(row, found)
                     else:
@@ -168,9 +215,9 @@ class Calls(FilesCase):
 
         line, code = fault.__code__.co_firstlineno + 1, os.path.basename(fault.__code__.co_filename)
         found = limits.outcome(lambda: fault())
-        self.assertTrue(found["fault"])
-        self.assertIn("KeyError", found["wrong"])
-        self.assertIn(f"({code} line {line})", found["wrong"])
+        self.assertEqual(found.kind, "fault")
+        self.assertIn("KeyError", found.wrong)
+        self.assertIn(f"({code} line {line})", found.wrong)
 
     def test_twice(self):
         """A field that is there twice is named, and one whose value is doubled is no fault."""
@@ -185,14 +232,14 @@ class Calls(FilesCase):
 
     def test_processors(self):
         """A run by threads asks for as many workers as the page does, but no more than there are processors."""
-        asked = {"workers": 4, "capacity": 2, "network": EDGE}
+        call = RunCall(network=EDGE, workers=4, capacity=2)
         for usable, wanted in ((1, 1), (3, 3), (16, 4)):
             with (
-                mock.patch.dict(OPENED, {"is_proved": True}),
+                mock.patch.object(OPENED, "is_proved", True),
                 mock.patch("os.sched_getaffinity", return_value=range(usable)),
                 mock.patch.object(runs, "text_from") as called,
             ):
-                runs.by_threads(asked, Colouring)
+                runs.by_threads(call, Colouring)
             words = called.call_args.args[1]
             self.same(
                 f"{usable} processors", words, ["transcript", f"--workers={wanted}", "--capacity=2"]

@@ -6,7 +6,7 @@ import re
 import subprocess
 import sys
 
-from build import completion, help_texts
+from build import completion, help_texts, page_types
 from build.__main__ import MODULES
 from lab.__main__ import COMMANDS as OF_LAB
 from tests import TOP
@@ -106,6 +106,11 @@ def completed(script: str, line: str) -> tuple[set[str], bytes]:
 
 
 class Commands(Case):
+    def test_page_types(self):
+        """The types of what the pages ask and get are those that `python3 build page-types` writes."""
+        for path, text in page_types.page_types().items():
+            self.same(path, text_in(path), text)
+
     def test_help_texts(self):
         """The table has each command of a program, and lab/help/ their texts as `python3 build help-texts` writes them;
         test_black_box.py compares these with the programs'."""

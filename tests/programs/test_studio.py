@@ -398,7 +398,7 @@ class Answers(Server):
             start,
         )
         done = self.found("steps", network=EDGE, by=200, seed="3")
-        found = [look["c"] for look in done["looks"]]
+        found = [look["found"] for look in done["looks"]]
         self.note("chance ends it", found == [1, 2] and done["judge"]["ok"], done)
         other = self.found("steps", network=EDGE, by=200, seed="4")
         self.note("by its seed", other["made"] != done["made"], other)
@@ -410,18 +410,18 @@ class Answers(Server):
             turn,
         )
         held = self.found("steps", network=TRIANGLE, slow=[[1, 2]], by=200)
-        at = [look["p"] for look in held["looks"]]
+        at = [look["pulse"] for look in held["looks"]]
         self.note(
             "a held link holds its nodes", at[0] == at[1] == 0 and "1-2" in held["steps"], held
         )
         held = self.found("steps", network=ROW, lazy=[1], by=200)
         self.note(
             "a held pulse holds no message",
-            [look["p"] for look in held["looks"]] == [0, 1, 2],
+            [look["pulse"] for look in held["looks"]] == [0, 1, 2],
             held["looks"],
         )
         step = self.found("steps", network=TRIANGLE, in_step=True)
-        self.note("in step", [look["p"] for look in step["looks"]] == [1, 1, 1], step["looks"])
+        self.note("in step", [look["pulse"] for look in step["looks"]] == [1, 1, 1], step["looks"])
         early = "3-1_1-3_1-2_2-1_1-2_2-1"
         wrong = self.found("steps", network=TRIANGLE, without="acks,safes", steps="1")
         self.note("without safes and acks", "without `hello 2` from 2" in wrong["fault"], wrong)

@@ -5,15 +5,15 @@ has taken a wire is read off the steps."""
 import itertools
 from collections import defaultdict
 from collections.abc import Iterator
-from typing import Any
 
 from lab.definitions.programs import PROGRAMS, program_at
 from lab.networks.network_text import network_of
 from lab.pictures.watch_page import look_of
 from lab.schedules.rules import OF_SCHEDULES
 from lab.schedules.stepwise import Stepwise
-from lab.studio.calls import CALLS
-from lab.studio.predictions import waited
+from lab.studio.answers import Predicted
+from lab.studio.messages import WaitsCall
+from lab.studio.predictions import waited, waits
 from tests.cases import Case
 
 ALONE, EDGE, ROW = "p edge 1 0\n", "p edge 2 1\ne 1 2\n", "p edge 3 2\ne 1 2\ne 2 3\n"
@@ -60,10 +60,10 @@ class Walk:
 
 def said_of(player: Stepwise, v: int) -> tuple[set[str], str]:
     """What a node waits for as its picture says it, and in one word whether it goes on."""
-    look: dict[str, Any] = look_of(player.state, v)
-    waits = {f"{what} {w}" for what, w in look["w"]}
-    is_last = look["p"] == player.state.nodes[v].last
-    return waits, "done" if look["e"] else "waits" if waits or is_last else "may"
+    look = look_of(player.state, v)
+    waits = {f"{what} {w}" for what, w in look.waits}
+    is_last = look.pulse == player.state.nodes[v].last
+    return waits, "done" if look.done else "waits" if waits or is_last else "may"
 
 
 def taken_by(player: Stepwise) -> dict[tuple[int, str, int], set[int]]:
@@ -140,10 +140,9 @@ class States(Case):
 
 
 class Calls(Case):
-    def waits(self, steps: str, said: str, rules: str = "safes") -> dict[str, Any]:
-        asked = {"network": EDGE, "without": rules, "steps": steps, "vertex": 1, "said": said}
-        answer: dict[str, Any] = CALLS["waits"].answer(asked, lambda **_: None)
-        return answer
+    def waits(self, steps: str, said: str, rules: str = "safes") -> Predicted:
+        call = WaitsCall(network=EDGE, without=rules, steps=steps, vertex=1, said=said)
+        return waits(call, lambda done=0, of=0, part=None: None)
 
     def test_answers(self) -> None:
         """Without safes a node waits for none, so `nothing` is right as soon as its pulse is possible."""
@@ -155,6 +154,6 @@ class Calls(Case):
             ("", "1-2_2-1", "ack 2, safe 2"),
         ):
             got = self.waits(steps, said, rules)
-            self.same(f"{said} without {rules}", (got["right"], got["found"]), (True, said))
+            self.same(f"{said} without {rules}", (got.right, got.found), (True, said))
             wrong = self.waits(steps, "safe 2, ack 1", rules)
-            self.same(f"another answer without {rules}", wrong["right"], False)
+            self.same(f"another answer without {rules}", wrong.right, False)

@@ -19,7 +19,7 @@ export function roundsLegend(place, film) {
 }
 
 export class RoundsFilm {
-  /** @param {Film} found @param {Net} net */
+  /** @param {RoundsFound} found @param {Net} net */
   constructor(found, net) {
     this.found = found;
     this.net = net;
@@ -142,7 +142,7 @@ export class RoundsFilm {
     return links;
   }
   // The messages of a pulse, `part` of the way. `why` fades those that didn't decide the chosen node's channel.
-  /** @param {Stage} stage @param {number} p @param {number} part @param {number} chosen @param {Why | null} why @returns {Marks} */
+  /** @param {Stage} stage @param {number} p @param {number} part @param {number} chosen @param {WhyFound | null} why @returns {Marks} */
   messages(stage, p, part, chosen, why) {
     const heard = new Set(why ? why.messages.map(m => m.join(" ")) : []), shown = [];
     const size = Math.max(9, Math.min(12, stage.radius * 0.6));

@@ -47,8 +47,8 @@ export function queueMarks(stage, v, w, wires, look) {
 export function alphaMarks(stage, is, v, x, y, r) {
   /** @type {Marks} */
   const parts = [mark("circle", {cx: x, cy: y, r, fill: fillOf(is), stroke: INK, "stroke-width": 1.6}),
-    words(x, y, r * 0.9, INK, is.p, {"font-weight": "bold"})];
-  const due = byNeighbour(is.w.slice().reverse()), kept = byNeighbour(is.k);
+    words(x, y, r * 0.9, INK, is.pulse, {"font-weight": "bold"})];
+  const due = byNeighbour(is.waits.slice().reverse()), kept = byNeighbour(is.keeps);
   for (const w of stage.near(v)) {
     if (!due.has(w) && !kept.has(w)) continue;
     const m = stage.middle(v, w), far = Math.hypot(m[0] - x, m[1] - y) || 1;
@@ -56,12 +56,12 @@ export function alphaMarks(stage, is, v, x, y, r) {
     parts.push(mark("circle", {cx: x + (m[0] - x) / far * r, cy: y + (m[1] - y) / far * r, r: Math.max(3, r * 0.2),
       fill: kept.has(w) ? hue : WHITE, stroke: hue, "stroke-width": 2}));
   }
-  if (typeof is.c === "string") parts.push(...resultWords(x, y + r + 10, 11, is.c, stage.least));
-  else if (is.c) parts.push(...channelCircle(x + 0.95 * r, y + 0.75 * r, Math.max(6, r * 0.5), is.c));
+  if (typeof is.found === "string") parts.push(...resultWords(x, y + r + 10, 11, is.found, stage.least));
+  else if (is.found) parts.push(...channelCircle(x + 0.95 * r, y + 0.75 * r, Math.max(6, r * 0.5), is.found));
   return parts;
 }
 /** @param {Look} is */
-function fillOf(is) { return is.e ? PALE.close : is.s ? PALE.safe : WHITE; }
+function fillOf(is) { return is.done ? PALE.close : is.safe ? PALE.safe : WHITE; }
 /** @param {OfNeighbour[]} list @returns {Map<number, string>} */
 function byNeighbour(list) { return new Map(list.map(([what, w]) => [w, what])); }
 /** @param {OfNeighbour[]} list */
@@ -73,18 +73,18 @@ function grouped(list) {
 // What a node waits for, in words. After the `last` pulse there is none that it could make.
 /** @param {Look} is @param {number} last */
 export function waitsWords(is, last) {
-  if (is.e) return "done";
-  return grouped(is.w) || (is.p < last ? `nothing: may make pulse ${is.p + 1}` : "nothing: it has only to close its links");
+  if (is.done) return "done";
+  return grouped(is.waits) || (is.pulse < last ? `nothing: may make pulse ${is.pulse + 1}` : "nothing: it has only to close its links");
 }
 // What a node has and waits for, in words, for whoever doesn't see its marks.
 /** @param {Look} is @param {number} last */
 export function lookWords(is, last) {
-  const waits = is.e ? "done" : "waits for " + waitsWords(is, last);
-  return [`pulse ${is.p}`, foundWords(is), waits].filter(Boolean).join(", ");
+  const waits = is.done ? "done" : "waits for " + waitsWords(is, last);
+  return [`pulse ${is.pulse}`, foundWords(is), waits].filter(Boolean).join(", ");
 }
 // What a node has found, in words.
 /** @param {Look} is */
-export function foundWords(is) { return typeof is.c === "string" ? is.c : is.c ? `channel ${is.c}` : ""; }
+export function foundWords(is) { return typeof is.found === "string" ? is.found : is.found ? `channel ${is.found}` : ""; }
 // A table of what each node (or one of many) waits for and keeps. `more(v)` gives a last column.
 /** @param {Look[]} looks @param {WaitsOptions} options */
 export function waitsTable(looks, {last, only = null, lit = null, head = "", more = () => ""}) {
@@ -92,8 +92,8 @@ export function waitsTable(looks, {last, only = null, lit = null, head = "", mor
   shown.append(row("th", ["node", "pulse", "waits for", "has, and keeps early", head].filter((w, k) => k < 4 || w)));
   looks.forEach((is, k) => {
     if (looks.length > 12 && only !== k + 1) return;
-    const keeps = [grouped(is.h), is.k.length ? "early: " + grouped(is.k) : ""].filter(Boolean).join("; ");
-    const cells = [k + 1, is.p, waitsWords(is, last), keeps, more(k + 1, is)];
+    const keeps = [grouped(is.has), is.keeps.length ? "early: " + grouped(is.keeps) : ""].filter(Boolean).join("; ");
+    const cells = [k + 1, is.pulse, waitsWords(is, last), keeps, more(k + 1, is)];
     const line = row("td", head ? cells : cells.slice(0, 4));
     if (lit === k + 1) line.className = "on";
     shown.append(line);
@@ -181,7 +181,7 @@ export class RunFilm {
   /** @param {Stage} stage @param {number} stamp @param {RunOptions} options */
   draw(stage, stamp, {at = this.rowsBy(stamp), node = null, only = false, slow = [], lazy = []} = {}) {
     const last = this.last(at), waits = new Set(slow.map(e => e.join("-")));
-    const isWord = typeof this.table.start[0].c === "string";
+    const isWord = typeof this.table.start[0].found === "string";
     stage.draw({node: (v, x, y, r) => alphaMarks(stage, this.look(v, at), v, x, y, r), bars: false, apart: 4.6,
       above: () => this.wires(stage, stamp, at, {node, only}), below: isWord,
       ring: v => last && last[1] === v ? "var(--glow)" : node === v ? "var(--edge)" : null,

@@ -20,7 +20,7 @@ function show(place) {
   element("when").textContent = "stamp " + Math.floor(place);
   element("said").textContent = films[0].said(at);
   element("table").replaceChildren(waitsTable(films[0].looks(at), {last: D.last, only: chosen, lit: last && last[1], head: "found",
-    more: (v, is) => is.c || ""}));
+    more: (v, is) => is.found || ""}));
   return `#entry-${at}` + (chosen ? `-node-${chosen}` : "");
 }
 /** @param {number} place @param {RunOptions} options */
@@ -31,7 +31,7 @@ function showTwo(place, options) {
     const there = film.atPulse(place);
     film.draw(stages[n], there.stamp, {...options, at: there.at});
     table.append(row("td", [`${D.runs[n].name}: ${there.said}`, Math.floor(there.stamp),
-      film.looks(there.at).map(is => is.p).join(" ")]));
+      film.looks(there.at).map(is => is.pulse).join(" ")]));
   });
   element("when").textContent = "pulse " + p;
   const after = place > p || p > D.pulses[1];

@@ -42,8 +42,8 @@ function answerOf({answer, wrong}) {
   return answer;
 }
 // The answer; null if a later call of the key, or cancel, ended it.
-/** @type {<K extends keyof Calls>(name: K, asked?: object, options?: CallOptions) => Promise<Calls[K] | null>} */
-export async function call(name, asked = {}, {key = name, progress, part} = {}) {
+/** @type {<K extends keyof Asks, A extends Asks[K]>(name: K, asked: A & Only<A, Asks[K]>, options?: CallOptions) => Promise<Answers[K] | null>} */
+export async function call(name, asked, {key = name, progress, part} = {}) {
   cancel(key);
   const control = new AbortController();
   running.set(key, control);
@@ -69,10 +69,10 @@ export async function call(name, asked = {}, {key = name, progress, part} = {}) 
 // What there is to choose from. A token counts when the server has taken it: a wrong one in an address takes away none
 // that was kept.
 export async function hello() {
-  const got = await call("hello").catch(fault => {
+  const got = await call("hello", {}).catch(fault => {
     if (!kept || token === kept) throw fault;
     token = kept;
-    return call("hello");
+    return call("hello", {});
   });
   if (got) localStorage.setItem(KEPT, token);
   return got;

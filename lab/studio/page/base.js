@@ -162,7 +162,7 @@ export async function tried(key, said, does) {
   return true;
 }
 // Asks for something, and does what its answer is for, unless a later call of the key has ended it.
-/** @type {<K extends keyof Calls>(name: K, asked: object, said: string, does: (got: Calls[K]) => unknown, key?: string) => Promise<boolean>} */
+/** @type {<K extends keyof Asks, A extends Asks[K]>(name: K, asked: A & Only<A, Asks[K]>, said: string, does: (got: Answers[K]) => unknown, key?: string) => Promise<boolean>} */
 export function asks(name, asked, said, does, key = name) {
   return tried(key, said, async () => {
     const got = await call(name, asked, {key});

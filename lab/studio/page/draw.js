@@ -6,7 +6,7 @@ import {blank, channelCircle, html, targetOf} from "./marks.js";
 import * as model from "./model.js";
 import {change, net, neighbours, text} from "./model.js";
 
-/** @type {{plan: Plan | null, fresh: boolean}} */
+/** @type {{plan: PlanFound | null, fresh: boolean}} */
 export const drawn = {plan: null, fresh: false};
 let timer = 0;
 
@@ -174,7 +174,7 @@ export async function openFile(file, stated = [], name = null) {
   });
 }
 // Nothing is guessed: what isn't said of a file is asked. Of a table without standard titles any columns may be meant.
-/** @param {File} file @param {string[]} stated @param {string | null} name @param {Unsaid} found */
+/** @param {File} file @param {string[]} stated @param {string | null} name @param {FileUnsaid} found */
 function askWhat(file, stated, name, {unsaid, choices, wanted, titles}) {
   /** @type {(means: string, words: () => string[]) => HTMLButtonElement} */
   const say = (means, words) => {
@@ -268,7 +268,7 @@ by("file").onchange = () => {
 };
 
 // The tab Pictures: what the command `picture` draws.
-/** @type {Record<Kind, string>} */
+/** @type {Record<PictureKind, string>} */
 const KINDS = {
   plan: "The plan.", results: "What the nodes have found at the end.",
   rounds: "A row for each node; of the colouring, for each node of each forest.",
@@ -277,10 +277,10 @@ const KINDS = {
 const OF_RUN = ["run"], OF_NODE = ["why", "bits"];
 // Those that draw any program.
 const OF_PROGRAM = ["results", "rounds", ...OF_RUN];
-/** @type {Kind} */
+/** @type {PictureKind} */
 let kind = "rounds";
 // The node of a picture of one. Of `why` it is said if none is chosen.
-/** @param {Kind} kind */
+/** @param {PictureKind} kind */
 function vertexOf(kind) {
   if (!OF_NODE.includes(kind)) return null;
   if (kind === "why" && !seen.node) by("kindsaid").textContent += " None is chosen, so it is node 1.";
@@ -313,7 +313,7 @@ function askPicture() {
     by("keep").download = `${net.name || "network"}-${kind}.svg`;
   });
 }
-/** @type {Kind[]} */
+/** @type {PictureKind[]} */
 const ALL_KINDS = ["plan", "results", "rounds", "bits", "why", "run"];
 ALL_KINDS.forEach(one => {
   const button = html("button", one, {"data-kind": one});

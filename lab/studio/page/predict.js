@@ -22,7 +22,7 @@ export class Question {
     place.replaceChildren(html("p", is.words));
     if (is.call) place.append(this.form(is), html("p", null, {role: "status"}));
   }
-  /** @param {Asked} is */
+  /** @param {OfRounds | OfWaits} is */
   form(is) {
     const form = html("form", null, {class: "row chips"});
     const said = html("input", null, {size: 14, "aria-label": "your answer"});
@@ -34,15 +34,18 @@ export class Question {
     form.onsubmit = event => { event.preventDefault(); if (said.value.trim()) this.judge(is, said.value); };
     return form;
   }
-  /** @param {Asked} is @param {string} said */
+  /** @param {OfRounds | OfWaits} is @param {string} said */
   judge(is, said) {
-    return asks(is.call || "predict", {...is.asked, said}, "looking for the answer", ({right, found, why}) => {
+    /** @param {Predicted} is */
+    const show = ({right, found, why}) => {
       const place = by(this.id).lastElementChild, look = html("button", "look", {type: "button", class: "quiet"});
       if (!place) return;
       look.onclick = this.look || null;
       place.className = "verdict " + (right ? "good" : "bad");
       place.replaceChildren(right ? `✓ Yes: ${found}. ` : `✗ Not ${said}: ${found}. `, html("span", why + " ",
         {class: "soft"}), ...(this.look ? [look] : []));
-    });
+    };
+    return is.call === "waits" ? asks("waits", {...is.asked, said}, "looking for the answer", show)
+      : asks("predict", {...is.asked, said}, "looking for the answer", show);
   }
 }

@@ -25,7 +25,7 @@ function show(is) {
 async function ask(name) {
   clearTimeout(timer);
   try {
-    const is = await call(name);
+    const is = await call(name, {});
     if (!is) return;
     wrong("", "built");
     if (is.proved && !hello().proved) { await ready(); return show(is); }

@@ -77,8 +77,7 @@ function bitsOf(v) {
     kept);
   bits.ontoggle = () => {
     if (!bits.open || kept.childNodes.length) return;
-    const asked = {network: text(), kind: "bits", vertex: v, forest: rounds.forest};
-    asks("picture", asked, "drawing", svg => {
+    asks("picture", {network: text(), kind: "bits", vertex: v, forest: rounds.forest}, "drawing", svg => {
       kept.append(picture(svg, `bit steps of node ${v}`));
       setTimeout(() => bits.scrollIntoView({block: "nearest"}), 100);
       kept.onclick = () => go("pictures", {kind: "bits"});

@@ -144,7 +144,7 @@ function showAt() {
   if (run.judgedAt !== at) say("judgehere", "");
   const results = run.found ? run.found.results : [], last = film.last(at);
   /** @type {(v: number, is: Look) => boolean} */
-  const isFound = (v, is) => is.c === results[v - 1] && (is.e === 1 || is.p === film.found.last);
+  const isFound = (v, is) => is.found === results[v - 1] && (is.done || is.pulse === film.found.last);
   fill("table", `${at} ${seen.node}`, () => [waitsTable(film.looks(at), {last: film.found.last, only: seen.node, lit: last && last[1],
     head: "found in the rounds", more: (v, is) => resultSaid(results[v - 1]) + (isFound(v, is) ? " ✓" : "")})]);
   showRounds(film.looks(at));
@@ -155,8 +155,8 @@ function resultSaid(result) { return typeof result === "number" ? `channel ${res
 /** @param {Look[]} looks */
 function apart(looks) {
   /** @type {(pairs: Edge[]) => number} */
-  const most = pairs => Math.max(0, ...pairs.map(([v, w]) => Math.abs(looks[v - 1].p - looks[w - 1].p)));
-  const pulses_ = looks.map(is => is.p), low = pulses_.indexOf(Math.min(...pulses_)) + 1;
+  const most = pairs => Math.max(0, ...pairs.map(([v, w]) => Math.abs(looks[v - 1].pulse - looks[w - 1].pulse)));
+  const pulses_ = looks.map(is => is.pulse), low = pulses_.indexOf(Math.min(...pulses_)) + 1;
   const high = pulses_.indexOf(Math.max(...pulses_)) + 1, far = most([[low, high]]);
   return far ? `Pulses: neighbours are at most ${most(net.edges)} apart, nodes ${low} and ${high} are ${far} apart.`
     : "All nodes are at the same pulse.";
@@ -165,7 +165,7 @@ function apart(looks) {
 /** @param {Look[]} looks */
 function showRounds(looks) {
   if (!by("beside").checked || !rounds.film || rounds.of !== programNamed() + text()) return say("besidesaid", "");
-  const p = seen.node ? looks[seen.node - 1].p : Math.min(...looks.map(is => is.p));
+  const p = seen.node ? looks[seen.node - 1].pulse : Math.min(...looks.map(is => is.pulse));
   small.refit();
   rounds.film.draw(small, Math.min(p, rounds.film.last), {forest: rounds.forest, node: seen.node, quiet: true});
   by("small").setAttribute("aria-label", `the rounds, pulse ${p}`);
@@ -184,7 +184,7 @@ function verdicts(found, film, which) {
   judged.textContent = of + (judge.ok ? `✓ ${judge.by} accepts these ${entries} entries, a whole run.`
     : `✗ ${judge.by}: ${judge.said}`);
   const end = film.table.rows.length;
-  const ends = found.results.every((result, k) => film.look(k + 1, end).c === result);
+  const ends = found.results.every((result, k) => film.look(k + 1, end).found === result);
   const said = `${same === pulses_ ? "✓" : "✗"} Beside the rounds: the same payloads in ${same} of ${pulses_} pulses `
     + `(${payloads.toLocaleString("en")} of them)`;
   compared.className = "verdict " + (same === pulses_ ? "good" : "bad");
@@ -209,7 +209,7 @@ async function judgeHere() {
 /** @param {Replayed} is @param {RunFilm} film @param {number} at */
 function sayJudged(is, film, at) {
   run.judgedAt = at;
-  const agrees = is.ok && is.pulses.every((p, k) => p === film.look(k + 1, at).p);
+  const agrees = is.ok && is.pulses.every((p, k) => p === film.look(k + 1, at).pulse);
   by("judgehere").className = "verdict " + (agrees ? "good" : "bad");
   by("judgehere").textContent = !is.ok ? `✗ Up to here: ${is.said}` : `${agrees ? "✓" : "✗"} Up to here it accepts `
     + `${is.entries.toLocaleString("en")} entries; its nodes are ${agrees ? "at the pulses shown" : "elsewhere"}, and `

@@ -21,7 +21,7 @@ const KEYED = 9;
 
 // How many calls are under way.
 let asking = 0;
-/** @param {object} more */
+/** @param {Partial<StepsCall>} more */
 async function ask(more = {}) {
   const {slow, lazy} = seen, {without, made, dare} = steps, program = programNamed();
   begun(1);
@@ -32,7 +32,7 @@ async function ask(more = {}) {
 /** @param {number} more */
 function begun(more) { asking += more; }
 // A step is made after the one before: a click that comes too early is none.
-/** @param {object} more */
+/** @param {Partial<StepsCall>} more */
 function goOn(more) { if (!asking) ask(more); }
 /** @param {string[]} made */
 function from(made) { goOn({steps: made.join("_")}); }
@@ -58,7 +58,7 @@ function showAt() {
   const is = steps.found;
   if (!is || is.looks.length !== net.nodes.length) return false;
   const slow = new Set(seen.slow.map(e => e.join("-")));
-  const isWord = typeof is.looks[0].c === "string";
+  const isWord = typeof is.looks[0].found === "string";
   stage.draw({node: (v, x, y, r) => alphaMarks(stage, is.looks[v - 1], v, x, y, r), bars: false, apart: 4.6,
     below: isWord, ring: v => isFree(String(v)) ? "var(--good)" : v === seen.node ? "var(--edge)" : null,
     says: v => saysOf(is, v),
@@ -78,8 +78,8 @@ function showAt() {
 /** @param {StepsFound} is @param {number} v */
 function saysOf(is, v) {
   const look = is.looks[v - 1];
-  if (steps.predicts) return `pulse ${look.p}`;
-  return is.over ? [`pulse ${look.p}`, foundWords(look)].filter(Boolean).join(", ") : lookWords(look, is.last);
+  if (steps.predicts) return `pulse ${look.pulse}`;
+  return is.over ? [`pulse ${look.pulse}`, foundWords(look)].filter(Boolean).join(", ") : lookWords(look, is.last);
 }
 // Why nothing goes on, or that all is done; what is under way then is taken by nodes that have halted.
 /** @param {StepsFound} is @returns {[string, string] | null} */
@@ -88,8 +88,8 @@ function endWords(is) {
     const isTake = (steps.made[steps.made.length - 1] || "").includes("-");
     return [`${isTake ? "The node can’t take that" : "Its program refuses that"}, so the run ends here: go back.`, "bad"];
   }
-  if (is.looks.every(look => look.e)) {
-    return [`All have halted: ${is.looks.map(look => look.c).join(", ")}.`
+  if (is.looks.every(look => look.done)) {
+    return [`All have halted: ${is.looks.map(look => look.found).join(", ")}.`
       + (is.steps.length ? " What is still under way changes no result." : ""), "good"];
   }
   if (!is.steps.length) return ["Nothing can happen, and not all are done.", "bad"];
@@ -107,7 +107,7 @@ function sayWhere(is) {
 }
 /** @param {Replayed} judge @param {StepsFound} is */
 function judgement(judge, is) {
-  const agrees = judge.ok && judge.pulses.every((p, k) => p === is.looks[k].p);
+  const agrees = judge.ok && judge.pulses.every((p, k) => p === is.looks[k].pulse);
   const where = agrees ? "at these pulses" : "elsewhere";
   const said = judge.ok ? `accepts these ${is.entries} entries, and its nodes are ${where}.` : judge.said;
   return html("p", `${agrees ? "✓" : "✗"} ${judge.by} ${said}`, {class: agrees ? "good" : "bad"});
@@ -128,7 +128,7 @@ function listSteps(is) {
       seen.lazy.includes(v) ? "let go" : "hold its pulse", {class: "quiet", "data-key": "hold " + v,
         "aria-label": `hold the pulse of node ${v}`, "aria-pressed": seen.lazy.includes(v)});
     hold.onclick = () => { toggleLazy(v); show(); };
-    line.append(html("b", `node ${v} `), html("span", `pulse ${look.p}${steps.predicts || is.over ? "" : ": " + waitsWords(look, is.last)} `,
+    line.append(html("b", `node ${v} `), html("span", `pulse ${look.pulse}${steps.predicts || is.over ? "" : ": " + waitsWords(look, is.last)} `,
       {class: "soft"}), hold);
     (byNode.get(v) || []).forEach(step => {
       const free = isFree(step), button = html("button", null, {"data-step": step, "data-key": step,
@@ -155,7 +155,7 @@ function kindOf(is, step) { return step.includes("-") ? wireOf(is, step).split("
 /** @param {StepsFound} is @param {string} step */
 function saidOf(is, step) {
   const [v, w, place] = step.split("-").map(Number);
-  if (!w) return `make pulse ${is.looks[v - 1].p + 1}`;
+  if (!w) return `make pulse ${is.looks[v - 1].pulse + 1}`;
   return `${wireOf(is, step).replace(/^payload \d+ /, "")} from ${w}` + (place ? `, before ${place} others` : "");
 }
 tabs.adversary = {

@@ -316,7 +316,7 @@ function folded(title, words) {
   return place;
 }
 // A place of the lecture, with what is to be said there.
-/** @param {Place} place */
+/** @param {LecturePlace} place */
 function showPlace(place) {
   const box = by("lesson"), close = html("button", "close", {class: "quiet"});
   close.onclick = () => { box.hidden = true; };

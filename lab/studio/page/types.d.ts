@@ -1,7 +1,5 @@
-// The types of the studio's modules, besides those of lab/pictures/page/types.d.ts: what the page holds, and what the
-// server answers (lab/studio/calls.py).
-
-type TabName = "draw" | "rounds" | "run" | "adversary" | "check" | "pictures";
+// The types of the studio's modules, besides those of lab/pictures/page/ and of what they ask of the server and get
+// (calls.d.ts): what the page holds.
 
 // The network that is drawn. `example` is the name of the example that it is, if it is one.
 interface Drawn extends Net { example: string; }
@@ -9,39 +7,8 @@ interface Drawn extends Net { example: string; }
 interface Renumbering { removed?: number | null; restored?: number | null; }
 type Change = "edit" | "move" | "undo" | "load";
 
-// A policy and its seed.
-interface Order { policy: string; seed: string; }
-// What an address says, by its names (lab/studio/address.py).
-interface Values {
-  example?: string;
-  net?: string;
-  tab?: TabName;
-  program?: string;
-  passes?: number;
-  root?: number | null;
-  lesson?: number | null;
-  slow?: Edge[];
-  lazy?: number[];
-  node?: number | null;
-  at?: number;
-  play?: boolean;
-  forest?: number;
-  broken?: string;
-  predict?: boolean;
-  without?: string;
-  dare?: string;
-  steps?: string[];
-  other?: Order | null;
-  how?: string;
-  policy?: string;
-  seed?: string;
-  beside?: boolean;
-  plan?: number[];
-  kind?: Kind;
-}
 // What is written into an address: of what isn't said, nothing.
 type State = {[Name in Exclude<keyof Values, "net">]?: Values[Name] | null} & {net?: Net | null};
-type Written = "network" | "word" | "text" | "number" | "flag" | "rules" | "list" | "run";
 
 // The tabs. `more` is what a click elsewhere hands on; `step` is a step that is chosen on the stage.
 interface More {
@@ -50,7 +17,7 @@ interface More {
   fresh?: boolean;
   transcript?: string;
   steps?: string[];
-  kind?: Kind;
+  kind?: PictureKind;
 }
 interface Tab {
   hint(): string;
@@ -89,108 +56,16 @@ interface Seen {
   slow: Edge[];
   lazy: number[];
 }
-// A picture of the tab Pictures.
-type Kind = "plan" | "results" | "rounds" | "bits" | "why" | "run";
+// A question on a node, and the call that judges its answer, if it can be answered. A pick is an answer that is tapped.
+interface Hint { words: string; call?: undefined; picks?: undefined; }
+interface OfRounds { words: string; call: "predict"; asked: Omit<PredictCall, "said">; picks: string[]; }
+interface OfWaits { words: string; call: "waits"; asked: Omit<WaitsCall, "said">; picks?: undefined; }
+type Asked = Hint | OfRounds | OfWaits;
 
-// A question on a node, and the call that judges its answer. A pick is an answer that is tapped.
-interface Asked { words: string; call?: "predict" | "waits"; asked?: object; picks?: string[]; }
-
-// What the calls answer.
-interface Rule { says: string; without: string; }
-type Rules = Record<string, Rule>;
-interface Lesson {
-  number: number;
-  title: string;
-  ask: string;
-  open: string;
-  see: string;
-  do: string;
-  text: string;
-  hint: string;
-  answer: string;
-  questions: [string, string][];
-}
-interface Place { minutes: string; title: string; open: string; say: string; }
-interface Hello {
-  proved: boolean;
-  most: number;
-  opened: Net | null;
-  examples: string[];
-  kinds: Record<string, {sizes: string[], chance: boolean}>;
-  programs: string[];
-  passes: number;
-  policies: Record<string, string>;
-  rules: {orders: Rules, rounds: Record<string, Rules>};
-  lessons: Lesson[];
-  lecture: Place[];
-  dares: Record<string, string>;
-  address: Record<string, Written>;
-}
-interface FoundAddress { network: Net | null; values: Values; unread: string; }
-// A file that was read; or what isn't said of it.
-interface Read extends Net { said: string[]; unsaid?: undefined; }
-interface Unsaid {
-  unsaid: string;
-  choices: {stated: string[], means: string}[];
-  wanted: string[];
-  titles: string[];
-}
-interface Plan { plan: number[]; allowed: number; degree: number; bars: number; last: number; forests: number; }
-interface GoodPlan { ok: true; said: string; at: number[]; code?: undefined; }
-interface BadPlan { ok: false; said: string; at: number[]; code: string; words: string; do: string; }
-interface Broken { here: boolean; words: string[]; found?: Net | null; picture?: string | null; }
-interface Judged { ok: boolean; said: string; by: string; entries: number; }
-interface WholeRun extends RunFound {
-  cut: boolean;
-  text: string;
-  judge: Judged;
-  same: [number, number, number];
-  results: (number | string)[];
-  costs: Record<string, number>;
-  of: string | null;
-}
-interface Replayed extends Judged { pulses: number[]; wires: number; }
-interface JudgedText { ok: boolean; said: string; line: number | null; by: string; proved: Judged | null; before: number; }
-interface StepsFound {
-  made: string[];
-  steps: string[];
-  last: number;
-  looks: Look[];
-  wires: [number, number, string[]][];
-  said: string;
-  fault: string | null;
-  over: boolean;
-  list: string[];
-  entries: number;
-  dare?: {won: boolean, said: string};
-  judge?: Replayed;
-}
-interface Predicted { right: boolean; found: string; why: string; }
-interface Build { proved: boolean; lines: string[]; ended: boolean; quiet?: number; }
-interface Calls {
-  hello: Hello;
-  address: FoundAddress;
-  example: Net;
-  read: Read | Unsaid;
-  make: Net;
-  tidy: Net;
-  plan: Plan;
-  check: GoodPlan | BadPlan;
-  rounds: Film;
-  rounds_page: string;
-  why: Why;
-  broken: Broken;
-  picture: string;
-  run: WholeRun;
-  run_page: string;
-  replay: Replayed;
-  judge: JudgedText;
-  steps: StepsFound;
-  predict: Predicted;
-  waits: Predicted;
-  build: Build;
-  built: Build;
-}
+// The rules that can be left out, by their names.
+type Rules = Record<string, RuleSaid>;
+// What a call asks has the fields of the call and no others.
+type Only<Asked, Fields> = Record<Exclude<keyof Asked, keyof Fields>, never>;
 // `progress` is told how far a call is, and `part` a part of a run that is under way.
 interface CallOptions {
   key?: string;
@@ -350,7 +225,7 @@ interface Window { studio: object; }
 // What the tabs hold. `of` is what a film is of: the program and the network.
 interface Rounds {
   forest: number;
-  why: Why | null;
+  why: WhyFound | null;
   whyOf: number | null;
   film: import("./rounds.js").RoundsFilm | null;
   of: string | null;

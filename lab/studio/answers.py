@@ -1,0 +1,311 @@
+"""What the page gets: a class for each answer, which becomes an object of JSON as those of lab/pictures/page_data.py.
+
+lab/studio/page/calls.d.ts has the same for the page's JavaScript. `python3 build page-types` writes it from here.
+"""
+from collections.abc import Mapping, Sequence
+from dataclasses import dataclass
+from typing import Literal
+
+from lab.network import Edge
+from lab.pictures.page_data import Look, Net, RunFound
+
+TabName = Literal["draw", "rounds", "run", "adversary", "check", "pictures"]
+# A picture of the tab Pictures.
+PictureKind = Literal["plan", "results", "rounds", "bits", "why", "run"]
+# How the page writes a value of an address.
+Written = Literal["network", "word", "text", "number", "flag", "rules", "list", "run"]
+
+
+@dataclass(frozen=True)
+class KindOfNetwork:
+    """What is asked for of a kind of network: its sizes, and a seed if it is made by chance."""
+
+    sizes: Sequence[str]
+    chance: bool
+
+
+@dataclass(frozen=True)
+class RuleSaid:
+    """A rule that can be left out, in words."""
+
+    says: str
+    without: str
+
+
+@dataclass(frozen=True)
+class RulesSaid:
+    """The rules of the synchroniser and its links, and those of each program's rounds."""
+
+    orders: Mapping[str, RuleSaid]
+    rounds: Mapping[str, Mapping[str, RuleSaid]]
+
+
+@dataclass(frozen=True)
+class Lesson:
+    """A lesson: where it begins in the studio, what to see there and what to do; its text in Markdown; and its
+    exercises that are predictions, each with its place."""
+
+    number: int
+    title: str
+    ask: str
+    open: str
+    see: str
+    do: str
+    text: str
+    hint: str
+    answer: str
+    questions: Sequence[tuple[str, str]]
+
+
+@dataclass(frozen=True)
+class LecturePlace:
+    """A place of the lecture, and what is to be said there."""
+
+    minutes: str
+    title: str
+    open: str
+    say: str
+
+
+@dataclass(frozen=True)
+class Hello:
+    """What there is to choose from."""
+
+    proved: bool
+    most: int
+    opened: Net | None
+    examples: Sequence[str]
+    kinds: Mapping[str, KindOfNetwork]
+    programs: Sequence[str]
+    passes: int
+    policies: Mapping[str, str]
+    rules: RulesSaid
+    lessons: Sequence[Lesson]
+    lecture: Sequence[LecturePlace]
+    dares: Mapping[str, str]
+    address: Mapping[str, Written]
+
+
+@dataclass(frozen=True)
+class Order:
+    """A policy and its seed."""
+
+    policy: str
+    seed: str
+
+
+@dataclass(frozen=True, kw_only=True)
+class Values:
+    """What an address says, by its names (address.py)."""
+
+    example: str | None = None
+    net: str | None = None
+    program: str | None = None
+    tab: TabName | None = None
+    passes: int | None = None
+    root: int | None = None
+    slow: Sequence[Edge] | None = None
+    lazy: Sequence[int] | None = None
+    node: int | None = None
+    at: float | None = None
+    forest: int | None = None
+    broken: str | None = None
+    predict: bool | None = None
+    play: bool | None = None
+    how: str | None = None
+    policy: str | None = None
+    seed: str | None = None
+    other: Order | None = None
+    beside: bool | None = None
+    steps: Sequence[str] | None = None
+    without: str | None = None
+    dare: str | None = None
+    plan: Sequence[int] | None = None
+    kind: PictureKind | None = None
+    lesson: int | None = None
+
+
+@dataclass(frozen=True)
+class FoundAddress:
+    """What an address says: its network, if it has one, and its values. `unread` is what can't be read, in words."""
+
+    network: Net | None
+    values: Values
+    unread: str
+
+
+@dataclass(frozen=True)
+class FileRead(Net):
+    """A file that was read, and how."""
+
+    said: Sequence[str]
+    unsaid: None = None
+
+
+@dataclass(frozen=True)
+class Choice:
+    """The words of a command line that state what a file is, and what they mean."""
+
+    stated: Sequence[str]
+    means: str
+
+
+@dataclass(frozen=True)
+class FileUnsaid:
+    """What isn't stated of a file. If a table has none of the columns that are wanted, `titles` are those that it
+    has."""
+
+    unsaid: str
+    choices: Sequence[Choice]
+    wanted: Sequence[str]
+    titles: Sequence[str]
+
+
+@dataclass(frozen=True)
+class PlanFound:
+    """The plan of a network, and what the network comes to."""
+
+    plan: Sequence[int]
+    allowed: int
+    degree: int
+    bars: int
+    last: int
+    forests: int
+
+
+@dataclass(frozen=True)
+class GoodPlan:
+    said: str
+    at: Sequence[int]
+    ok: Literal[True] = True
+    code: None = None
+
+
+@dataclass(frozen=True)
+class BadPlan:
+    """A plan that isn't proper: the nodes where it isn't, its code, what this means and what to do."""
+
+    said: str
+    at: Sequence[int]
+    code: str
+    words: str
+    do: str
+    ok: Literal[False] = False
+
+
+@dataclass(frozen=True)
+class WhyFound:
+    """Why a node has its channel: in words, the nodes whose identifiers decided it, and the messages (pulse, from,
+    to)."""
+
+    lines: Sequence[str]
+    identifiers: Sequence[int]
+    messages: Sequence[tuple[int, int, int]]
+
+
+@dataclass(frozen=True)
+class Broken:
+    """What goes wrong without some rules: `here`, or in the network that was found."""
+
+    here: bool
+    words: Sequence[str]
+    found: Net | None
+    picture: str | None
+
+
+@dataclass(frozen=True, kw_only=True)
+class Judged:
+    """A verdict and who gives it, of a transcript of so many entries."""
+
+    ok: bool
+    said: str
+    by: str
+    entries: int
+
+
+@dataclass(frozen=True, kw_only=True)
+class Replayed(Judged):
+    """A verdict on the beginning of a run: the nodes' pulses, and how many wires are on their way."""
+
+    pulses: Sequence[int]
+    wires: int
+
+
+@dataclass(frozen=True)
+class JudgedText:
+    """What is said of a transcript, with the line of its fault: by the definitions, and if it is built by the proved
+    machine. It counts lines from the network's first one, so `before` says how many those are."""
+
+    ok: bool
+    said: str
+    line: int | None
+    by: str
+    proved: Judged | None
+    before: int
+
+
+@dataclass(frozen=True)
+class RunPart(RunFound):
+    """A part of a run; `cut` says that the rest isn't shown."""
+
+    cut: bool
+
+
+@dataclass(frozen=True)
+class WholeRun(RunPart):
+    """A run: its transcript, its verdict, how many pulses have the payloads of the rounds (of how many, of how many
+    payloads), what the rounds find, its wires by their kinds, and the link or the node that its policy has chosen.
+    """
+
+    text: str
+    judge: Judged
+    same: tuple[int, int, int]
+    results: Sequence[int | str]
+    costs: Mapping[str, int]
+    of: str | None
+
+
+@dataclass(frozen=True)
+class DareJudged:
+    """Whether steps win a dare, and how far they come."""
+
+    won: bool
+    said: str
+
+
+@dataclass(frozen=True)
+class StepsFound:
+    """Where a run is that is made by steps: those made, those that can come next, its last pulse, its nodes, the wires
+    of its links (from, to), what was done last, and what is wrong."""
+
+    made: Sequence[str]
+    steps: Sequence[str]
+    last: int
+    looks: Sequence[Look]
+    wires: Sequence[tuple[int, int, Sequence[str]]]
+    said: str
+    fault: str | None
+    over: bool
+    list: Sequence[str]
+    entries: int
+    dare: DareJudged | None = None
+    judge: Replayed | None = None
+
+
+@dataclass(frozen=True)
+class Predicted:
+    """Whether a student was right, what the definitions find, and why."""
+
+    right: bool
+    found: str
+    why: str
+
+
+@dataclass(frozen=True)
+class Build:
+    """How far the build is, in its own words; `quiet` is for how many seconds it has said nothing."""
+
+    proved: bool
+    lines: Sequence[str]
+    ended: bool
+    quiet: float | None = None

@@ -1,0 +1,385 @@
+// Written by `python3 build page-types` from lab/studio/answers.py, messages.py and calls.py.
+
+type TabName = "draw" | "rounds" | "run" | "adversary" | "check" | "pictures";
+
+type PictureKind = "plan" | "results" | "rounds" | "bits" | "why" | "run";
+
+type Written = "network" | "word" | "text" | "number" | "flag" | "rules" | "list" | "run";
+
+interface KindOfNetwork {
+  sizes: string[];
+  chance: boolean;
+}
+
+interface RuleSaid {
+  says: string;
+  without: string;
+}
+
+interface RulesSaid {
+  orders: Record<string, RuleSaid>;
+  rounds: Record<string, Record<string, RuleSaid>>;
+}
+
+interface Lesson {
+  number: number;
+  title: string;
+  ask: string;
+  open: string;
+  see: string;
+  do: string;
+  text: string;
+  hint: string;
+  answer: string;
+  questions: [string, string][];
+}
+
+interface LecturePlace {
+  minutes: string;
+  title: string;
+  open: string;
+  say: string;
+}
+
+interface Hello {
+  proved: boolean;
+  most: number;
+  opened: Net | null;
+  examples: string[];
+  kinds: Record<string, KindOfNetwork>;
+  programs: string[];
+  passes: number;
+  policies: Record<string, string>;
+  rules: RulesSaid;
+  lessons: Lesson[];
+  lecture: LecturePlace[];
+  dares: Record<string, string>;
+  address: Record<string, Written>;
+}
+
+interface Order {
+  policy: string;
+  seed: string;
+}
+
+interface Values {
+  example?: string;
+  net?: string;
+  program?: string;
+  tab?: TabName;
+  passes?: number;
+  root?: number;
+  slow?: [number, number][];
+  lazy?: number[];
+  node?: number;
+  at?: number;
+  forest?: number;
+  broken?: string;
+  predict?: boolean;
+  play?: boolean;
+  how?: string;
+  policy?: string;
+  seed?: string;
+  other?: Order;
+  beside?: boolean;
+  steps?: string[];
+  without?: string;
+  dare?: string;
+  plan?: number[];
+  kind?: PictureKind;
+  lesson?: number;
+}
+
+interface FoundAddress {
+  network: Net | null;
+  values: Values;
+  unread: string;
+}
+
+interface FileRead extends Net {
+  said: string[];
+  unsaid?: undefined;
+}
+
+interface Choice {
+  stated: string[];
+  means: string;
+}
+
+interface FileUnsaid {
+  unsaid: string;
+  choices: Choice[];
+  wanted: string[];
+  titles: string[];
+}
+
+interface PlanFound {
+  plan: number[];
+  allowed: number;
+  degree: number;
+  bars: number;
+  last: number;
+  forests: number;
+}
+
+interface GoodPlan {
+  said: string;
+  at: number[];
+  ok: true;
+  code?: undefined;
+}
+
+interface BadPlan {
+  said: string;
+  at: number[];
+  code: string;
+  words: string;
+  do: string;
+  ok: false;
+}
+
+interface WhyFound {
+  lines: string[];
+  identifiers: number[];
+  messages: [number, number, number][];
+}
+
+interface Broken {
+  here: boolean;
+  words: string[];
+  found: Net | null;
+  picture: string | null;
+}
+
+interface Judged {
+  ok: boolean;
+  said: string;
+  by: string;
+  entries: number;
+}
+
+interface Replayed extends Judged {
+  pulses: number[];
+  wires: number;
+}
+
+interface JudgedText {
+  ok: boolean;
+  said: string;
+  line: number | null;
+  by: string;
+  proved: Judged | null;
+  before: number;
+}
+
+interface RunPart extends RunFound {
+  cut: boolean;
+}
+
+interface WholeRun extends RunPart {
+  text: string;
+  judge: Judged;
+  same: [number, number, number];
+  results: (number | string)[];
+  costs: Record<string, number>;
+  of: string | null;
+}
+
+interface DareJudged {
+  won: boolean;
+  said: string;
+}
+
+interface StepsFound {
+  made: string[];
+  steps: string[];
+  last: number;
+  looks: Look[];
+  wires: [number, number, string[]][];
+  said: string;
+  fault: string | null;
+  over: boolean;
+  list: string[];
+  entries: number;
+  dare?: DareJudged;
+  judge?: Replayed;
+}
+
+interface Predicted {
+  right: boolean;
+  found: string;
+  why: string;
+}
+
+interface Build {
+  proved: boolean;
+  lines: string[];
+  ended: boolean;
+  quiet?: number;
+}
+
+interface OfNetwork {
+  network: string;
+  name?: string | null;
+}
+
+interface OfProgram extends OfNetwork {
+  program?: string | null;
+}
+
+interface Held {
+  slow?: [number, number][] | null;
+  lazy?: number[] | null;
+}
+
+interface AfterSteps {
+  steps?: string | null;
+}
+
+interface WithoutRules {
+  without?: string | null;
+}
+
+interface Seeded {
+  seed?: number | string | null;
+}
+
+type HelloCall = Record<string, never>;
+
+interface AddressCall {
+  place: string;
+  nodes?: number | null;
+  edges?: [number, number][] | null;
+}
+
+interface ExampleCall {
+  name: string;
+}
+
+interface ReadCall {
+  name: string;
+  data: string;
+  stated?: string[] | null;
+}
+
+interface MakeCall {
+  kind: string;
+  sizes: Record<string, number | string>;
+  seed?: number | string | null;
+}
+
+interface TidyCall extends OfNetwork {}
+
+interface PlanCall extends OfNetwork {}
+
+interface CheckCall extends OfNetwork {
+  plan: number[];
+}
+
+interface RoundsCall extends OfProgram {}
+
+interface RoundsPageCall extends OfProgram {}
+
+interface WhyCall extends OfNetwork {
+  vertex: number;
+}
+
+interface BrokenCall extends WithoutRules, OfProgram {}
+
+interface PictureCall extends OfProgram {
+  kind: PictureKind;
+  vertex?: number | null;
+  forest?: number | null;
+  transcript?: string | null;
+  pulses?: number[] | null;
+}
+
+interface RunCall extends Seeded, AfterSteps, Held, OfProgram {
+  how?: string | null;
+  policy?: string | null;
+  workers?: number | null;
+  capacity?: number | null;
+  transcript?: string | null;
+}
+
+interface OfTranscript extends OfProgram {
+  transcript: string;
+}
+
+interface RunPageCall extends OfTranscript {}
+
+interface ReplayCall extends OfTranscript {}
+
+interface JudgeCall extends OfTranscript {}
+
+interface StepsCall extends Seeded, WithoutRules, AfterSteps, Held, OfProgram {
+  list?: string | null;
+  dare?: string | null;
+  by?: number | null;
+  in_step?: boolean | null;
+}
+
+interface PredictCall extends OfProgram {
+  forest?: number | null;
+  vertex: number;
+  pulse: number;
+  said: number | string;
+}
+
+interface WaitsCall extends AfterSteps, WithoutRules, OfProgram {
+  vertex: number;
+  said: number | string;
+}
+
+type BuildCall = Record<string, never>;
+
+type BuiltCall = Record<string, never>;
+
+interface Asks {
+  hello: HelloCall;
+  address: AddressCall;
+  example: ExampleCall;
+  read: ReadCall;
+  make: MakeCall;
+  tidy: TidyCall;
+  plan: PlanCall;
+  check: CheckCall;
+  rounds: RoundsCall;
+  rounds_page: RoundsPageCall;
+  why: WhyCall;
+  broken: BrokenCall;
+  picture: PictureCall;
+  run: RunCall;
+  run_page: RunPageCall;
+  replay: ReplayCall;
+  judge: JudgeCall;
+  steps: StepsCall;
+  predict: PredictCall;
+  waits: WaitsCall;
+  build: BuildCall;
+  built: BuiltCall;
+}
+interface Answers {
+  hello: Hello;
+  address: FoundAddress;
+  example: Net;
+  read: FileRead | FileUnsaid;
+  make: Net;
+  tidy: Net;
+  plan: PlanFound;
+  check: GoodPlan | BadPlan;
+  rounds: RoundsFound;
+  rounds_page: string;
+  why: WhyFound;
+  broken: Broken;
+  picture: string;
+  run: WholeRun;
+  run_page: string;
+  replay: Replayed;
+  judge: JudgedText;
+  steps: StepsFound;
+  predict: Predicted;
+  waits: Predicted;
+  build: Build;
+  built: Build;
+}
