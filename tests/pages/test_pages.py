@@ -246,7 +246,8 @@ class Pages(FilesCase):
         for page in LESSONS[:-1]:
             head, text, foot = text_in(page).split("\n\n---\n\n")
             title, minutes, exercise = found_in(
-                r"^# (\d\. .*)\n\n\*[^*]*\*\s*\((\d+) minutes, and (\d+) more for the exercise;", head
+                r"^# (\d\. .*)\n\n\*[^*]*\*\s*\((\d+) minutes, and (\d+) more for the exercise;",
+                head,
             ).groups()
             row = f"| [{title}]({os.path.basename(page)}) | {minutes} | {exercise} |"
             self.note(f"{page}: its row", row in listed, row)

@@ -61,7 +61,11 @@ class Pages(Case):
             (talking, protocol.MOST_LETTERS, r"up to ([\d,]+) letters"),
             (talking, processes.LAST_LINES, r"shows the last (\w+) lines"),
             (teaching, len(MISTAKES.MISTAKES), r"writes ([\d,]+)\s+wrong nodes"),
-            (teaching, len(MISTAKES.MISTAKES) - 2, r"finds\s+([\d,]+) of these mistakes; the other two"),
+            (
+                teaching,
+                len(MISTAKES.MISTAKES) - 2,
+                r"finds\s+([\d,]+) of these mistakes; the other two",
+            ),
             (workshop, len(cases.NETWORKS.split(",")), r"plays (\w+) networks under"),
             (workshop, len(POLICIES), r"networks under (\w+) policies"),
             (workshop, 10 * len(cases.NETWORKS.split(",")), r"workshop alpha --runs ([\d,]+) -- "),
