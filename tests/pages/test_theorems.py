@@ -1,8 +1,9 @@
 """Checks docs/claim/THEOREMS.md and CITATION.cff against the code. Nothing is compiled.
 
 - Each function and clause that the page names is in the code, and so is each field that it names with its record.
-- For each theorem, the page says how many files and lines of definitions its statement reaches; and how many lines of
-  code, definitions and proofs there are. A number of lines may be 5 percent off, so that a small change needs no other.
+- For each theorem, the page says with which files a reader begins, and how many files and lines of definitions its
+  statement reaches, as the clauses that it names say it (statements.py); and how many lines of code, definitions and
+  proofs there are. A number of lines may be 5 percent off, so that a small change needs no other.
 - It says how many planted bugs CI tries, how many crates a first call proves, and what crates of theorems it leaves.
 - CITATION.cff has the version of this tree.
 """
@@ -13,10 +14,10 @@ from build.crate_lists import listed, with_below
 from lab.version import NUMBER
 from tests import TOP
 from tests.cases import FilesCase, found_in, text_in
+from tests.pages.statements import TESTS, named, reached, roots_of
 from tests.pages.test_pages import crate_files, named_clauses, tables_of, unknown_clauses
 
 PAGE = os.path.join("docs", "claim", "THEOREMS.md")
-TESTS = ("checks", "worker_checks")
 MOST_OFF = 0.05
 
 
@@ -24,23 +25,27 @@ def crate_of(path):
     return os.path.relpath(path, TOP).split(os.sep)[1]
 
 
-def imported(path):
-    """The files of specs/ of these crates that a file of specs/ imports. The kit's have no file here."""
-    for crate, module in re.findall(r"^ *use Rattle\.(\w+)\.specs\.([\w.]+)", text_in(path), re.M):
-        file = os.path.join("crates", crate, "specs", *module.strip(".").split(".")) + ".antt"
-        if os.path.exists(os.path.join(TOP, file)):
-            yield file
+def said_in(page, name):
+    """The functions and clauses that a row of the table is about: those of a theorem, or of some of its parts."""
+    found = found_in(r"^Theorem (\d)(?: \((\w)\))?(?: to \((\w)\))?$", name)
+    number, first, last = found[1], found[2] or "a", found[3] or found[2] or "z"
+    section = found_in(rf"\n## Theorem {number}:(.*?)(?=\n## )", page, re.S)[1]
+    _, *parts = re.split(r"^- \*\*\((\w)\)\*\*", section.partition("*How far")[0], flags=re.M)
+    for letter, part in zip(parts[::2], parts[1::2]):
+        if first <= letter <= last:
+            yield from named_clauses(part)
 
 
-def reached(paths):
-    """The files that some files reach, themselves among them."""
-    found, left = set(), list(paths)
-    while left:
-        path = left.pop()
-        if path not in found:
-            found.add(path)
-            left += imported(path)
-    return found
+def to_read(page, name):
+    """The files that a statement reaches: of its definitions, and of the types and traits that these name."""
+    if name == "`Simulates`":
+        return reached(["crates/alpha_laws/specs/Simulates.antt"])
+    said = said_in(page, name)
+    return reached(set().union(*(roots_of(named(path), clauses) for path, clauses in said)))
+
+
+def of_kind(paths, ending):
+    return {path for path in paths if path.endswith(ending)}
 
 
 def lines_to_read(paths):
@@ -63,12 +68,12 @@ class Theorems(FilesCase):
         self.note(name, abs(number - real) <= MOST_OFF * real, f"{number}, and it is {real}")
 
     def test_clauses(self):
-        named = named_clauses(text_in(PAGE))
+        cited = named_clauses(text_in(PAGE))
         crates: dict[str, dict[str, set[str]]] = {}
-        for path, said in named:
+        for path, said in cited:
             missing = unknown_clauses(path, said, crates)
             self.note(f"{PAGE} {path}", not missing, f"not in the code: {missing}")
-        self.note("clauses of the theorems", len(named) > 30, f"{len(named)} are found")
+        self.note("clauses of the theorems", len(cited) > 30, f"{len(cited)} are found")
 
     def test_fields(self):
         """Fields that are named with their record, in the files of the table of words."""
@@ -84,18 +89,25 @@ class Theorems(FilesCase):
         fields = re.findall(r"^  pub (\w+) :", simulates, re.M)
         self.same("fields of Simulates", (len(fields), "thirteen fields" in page), (13, True))
 
+    def judged(self, name, roots, files, lines, code):
+        """The rows of what there is to read to judge a statement."""
+        paths = to_read(text_in(PAGE), name)
+        definitions = of_kind(paths, ".antt")
+        begun = of_kind(reached(re.findall(r"`(crates/\S+)`", roots)), ".antt")
+        self.same(f"what is read to judge {name}", begun, definitions)
+        self.same(f"files to judge {name}", int(files), len(definitions))
+        self.near(f"lines to judge {name}", lines, lines_to_read(definitions))
+        self.same(f"files of code to judge {name}", int(code), len(paths - definitions))
+
     def test_how_much(self):
-        for _, _, rows in tables_of(text_in(PAGE).split("\n")):
-            if rows[0] == ["To judge", "Begin with", "Files", "Lines"]:
-                self.note("rows of what there is to read", len(rows) == 8, rows)
-                for name, roots, files, lines in rows[2:]:
-                    paths = reached(re.findall(r"`(crates/\S+)`", roots))
-                    self.same(f"files to judge {name}", int(files), len(paths))
-                    self.near(f"lines to judge {name}", lines, lines_to_read(paths))
-            if rows[0] == ["What", "Lines"]:
-                for name, lines in rows[2:]:
-                    part = found_in(r"crates/\*/(\w+)", name)[1]
-                    self.near(f"lines of {part}", lines, lines_of_part(part))
+        tables = {tuple(rows[0]): rows[2:] for _, _, rows in tables_of(text_in(PAGE).split("\n"))}
+        judged = tables["To judge", "Begin with", "Files", "Lines", "Code"]
+        self.note("rows of what there is to read", len(judged) == 7, judged)
+        for row in judged:
+            self.judged(*row)
+        for name, lines in tables["What", "Lines"]:
+            part = found_in(r"crates/\*/(\w+)", name)[1]
+            self.near(f"lines of {part}", lines, lines_of_part(part))
         below = with_below(["forestplan"], listed())
         first = " ".join(text_in(PAGE).split()).partition("It proves the ")[2]
         self.same("crates of a first call", first.split()[0], str(len(below)))

@@ -24,7 +24,7 @@ class Waits(FilesCase):
         return {path for path, _ in named_clauses(said)}
 
     def test_calls_that_may_wait(self) -> None:
-        every = list(functions())
+        every = functions()
         public = {one.path for one in every if one.public and "Wait" in bounds_of(one)}
         self.note("there are calls that may wait", len(public) > 20, public)
         self.same("calls that may not return", self.listed("Calls that may not return"), public)
