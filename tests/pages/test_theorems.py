@@ -19,6 +19,8 @@ from tests.pages.test_pages import crate_files, named_clauses, tables_of, unknow
 
 PAGE = os.path.join("docs", "claim", "THEOREMS.md")
 MOST_OFF = 0.05
+# What every row of what there is to read has with it.
+FIRST = "crates/alpha_laws/specs/Simulates.antt"
 
 
 def crate_of(path):
@@ -39,7 +41,7 @@ def said_in(page, name):
 def to_read(page, name):
     """The files that a statement reaches: of its definitions, and of the types and traits that these name."""
     if name == "`Simulates`":
-        return reached(["crates/alpha_laws/specs/Simulates.antt"])
+        return reached([FIRST])
     said = said_in(page, name)
     return reached(set().union(*(roots_of(named(path), clauses) for path, clauses in said)))
 
@@ -95,6 +97,8 @@ class Theorems(FilesCase):
         definitions = of_kind(paths, ".antt")
         begun = of_kind(reached(re.findall(r"`(crates/\S+)`", roots)), ".antt")
         self.same(f"what is read to judge {name}", begun, definitions)
+        first = of_kind(reached([FIRST]), ".antt")
+        self.note(f"{name} has the files of the first row", first <= definitions, first)
         self.same(f"files to judge {name}", int(files), len(definitions))
         self.near(f"lines to judge {name}", lines, lines_to_read(definitions))
         self.same(f"files of code to judge {name}", int(code), len(paths - definitions))
