@@ -82,6 +82,8 @@ class Changes(ast.NodeVisitor):
         self.looks = False
 
     def add(self, node: ast.expr, new: str) -> None:
+        if ast.unparse(ast.parse(new)) == ast.unparse(node):
+            return
         begin = self.starts[node.lineno - 1] + node.col_offset
         end = self.starts[(node.end_lineno or node.lineno) - 1] + (node.end_col_offset or 0)
         self.found.append(changed(self.file, self.data, node.lineno, begin, end, new))

@@ -4,11 +4,13 @@ Each call is a process in a namespace of its own, since what is changed may end 
 import dataclasses
 import faulthandler
 import json
+import math
 import os
 import resource
 import shutil
 import subprocess
 import sys
+import time
 import unittest
 from collections.abc import Iterator
 from dataclasses import dataclass
@@ -17,8 +19,9 @@ from tests import TOP
 from tests.by_hand.changes import Change
 from tests.settings import BUILT, NAMED
 
-# A test ends after so many seconds, and its process after so many of a processor: a change may loop without an end.
-LONGEST, MOST_BUSY = 300, 90
+# A test ends after so many seconds, and each of its processes after so many of a processor: a change may loop without
+# an end.
+LONGEST, MOST_BUSY = 300, 60
 # The time of the first file that is written, which an archive can keep.
 FIRST_TIME = 1_000_000_000
 # What a copy doesn't need.
@@ -79,10 +82,13 @@ class Copy:
             self.write(file, data)
         self.before.clear()
 
-    def called(self, names: list[str], seconds: float) -> tuple[list[Row], bool]:
+    def called(
+        self, names: list[str], seconds: float, most: int = MOST_BUSY
+    ) -> tuple[list[Row], bool]:
         """The rows of tests up to the first that fails, and whether that is where the time was up: none begins after
-        so many seconds of processors. One that ends its process has no row."""
-        asked = {"names": names, "seconds": seconds, "rows": self.rows}
+        so many seconds of processors, and the processes of a test end after `most`. One that ends its process has no
+        row."""
+        asked = {"names": names, "seconds": seconds, "rows": self.rows, "most": most}
         for folder in (self.tmp, self.compiled):
             os.makedirs(folder, exist_ok=True)
             os.chmod(folder, 0o1777)
@@ -128,9 +134,11 @@ def processor_seconds() -> float:
     return sum(os.times()[:4])
 
 
-def row_of(name: str) -> Row:
+def row_of(name: str, most: int) -> Row:
     """Runs a test up to its first row that fails."""
     faulthandler.dump_traceback_later(LONGEST, exit=True)
+    most += math.ceil(time.process_time())
+    resource.setrlimit(resource.RLIMIT_CPU, (most, resource.getrlimit(resource.RLIMIT_CPU)[1]))
     busy, result = processor_seconds(), unittest.TestResult()
     result.failfast = True
     unittest.defaultTestLoader.loadTestsFromNames([f"tests.{name}"]).run(result)
@@ -138,12 +146,11 @@ def row_of(name: str) -> Row:
     return Row(name, processor_seconds() - busy, result.wasSuccessful(), is_skipped)
 
 
-def run(names: list[str], seconds: float, rows: str) -> None:
+def run(names: list[str], seconds: float, rows: str, most: int) -> None:
     """Runs tests, and writes a row for each, up to the first that fails, and an empty one if the time is up."""
-    resource.setrlimit(resource.RLIMIT_CPU, (MOST_BUSY, resource.getrlimit(resource.RLIMIT_CPU)[1]))
     with open(rows, "a", encoding="utf-8") as file:
         for name in names:
-            row = row_of(name)
+            row = row_of(name, most)
             file.write(json.dumps(dataclasses.asdict(row)) + "\n")
             file.flush()
             if not row.is_good:

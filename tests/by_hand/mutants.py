@@ -5,15 +5,15 @@ whether that is noticed.
       The right nodes of the workshop, minutes with the built programs: a change that no command of the pages shows is
       played in many runs, and printed. There it has to be right, too.
   python3 -m tests.by_hand.mutants lab [--seed 2026] [--count 300] [--package NAME ..]
-                                       [--jobs 2] [--seconds 3] [--minutes 600]
+                                       [--jobs 2] [--seconds 3] [--minutes 600] [--named FILE]
       lab/: so many changes by chance, as many of each package as its share of lines, some at a time. Each is made in
-      a copy of the tree, where tests of its package run (tests/by_hand/trials.py) up to the first that fails and
+      a copy of the tree, where tests of its package run (tests/by_hand/trials.py) up to the first that fails twice and
       passes without the change; they may take so many seconds of processors. After so many minutes none is begun.
       Tests that need the built programs run if TESTS_PLAN and TESTS_PLAY name them. It needs root, or another user who
       may make namespaces of processes. Each change is printed with the test that noticed it, and last how many were
       noticed, survived and are equal, by package: those that are equal stand in tests/by_hand/equal.txt, each as it is
       printed, with the reason in the next line, and aren't tried. One that survived may be noticed by a test that
-      wasn't asked, if not all were: look, and call that test.
+      wasn't asked, if not all were: write their lines to a FILE, and try these alone with more seconds.
   python3 -m tests.by_hand.mutants lab --list
       The changes that it would try."""
 import argparse
@@ -78,18 +78,19 @@ def drawn(seed: str, count: int, packages: list[str]) -> list[Change]:
     return found
 
 
-def equals() -> set[str]:
-    """The changes that make no difference."""
-    if not os.path.exists(EQUAL):
-        return set()
-    with open(EQUAL, encoding="utf-8") as file:
+def lines_of(path: str) -> set[str]:
+    """The changes that a file names, each in a line; lines that begin with blanks say why."""
+    with open(path, encoding="utf-8") as file:
         return {line for line in file.read().splitlines() if not line.startswith(" ")}
 
 
 def try_lab(given: argparse.Namespace) -> None:
     """Tries the changes, and prints what came out."""
     until = time.monotonic() + 60 * given.minutes
-    changes, known = drawn(given.seed, given.count, given.package), equals()
+    changes, known = drawn(given.seed, given.count, given.package), lines_of(EQUAL)
+    if given.named:
+        named = lines_of(given.named)
+        changes = [change for change in changes if change.name in named]
     if given.list:
         print("\n".join(f"{change.place} {change.name}" for change in changes))
         return
@@ -200,6 +201,7 @@ def main() -> None:
     words.add_argument("--jobs", type=int, default=2)
     words.add_argument("--seconds", type=float, default=3)
     words.add_argument("--minutes", type=float, default=600)
+    words.add_argument("--named", metavar="FILE")
     words.add_argument("--list", action="store_true")
     given = words.parse_args()
     # What is ended ends what it has started.

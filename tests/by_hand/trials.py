@@ -1,5 +1,6 @@
 """Tries changes of lab/ in copies of the tree (tests/by_hand/copies.py), some at a time, each by the tests of its
 package."""
+import math
 import os
 import queue
 import time
@@ -11,7 +12,7 @@ from dataclasses import dataclass
 
 from tests import TOP
 from tests.by_hand.changes import Change, package_of
-from tests.by_hand.copies import Copy, tests_in
+from tests.by_hand.copies import MOST_BUSY, Copy, tests_in
 
 # The modules with the tests of each package, by folder, in the order in which they are asked: first those that take
 # little and reach much. Before all of them come those that are called as the module that is changed.
@@ -123,7 +124,7 @@ class Trial:
         )
 
     def outcome(self, own: Copy, change: Change) -> Outcome:
-        """What notices a change: a test that fails with it, and not without it."""
+        """What notices a change: a test that fails with it, twice, and not without it."""
         names, spent, count = self.asked(change), 0.0, 0
         while names and spent < self.seconds:
             own.change(change)
@@ -138,16 +139,26 @@ class Trial:
             if is_late or len(good) == len(names):
                 return Outcome("", count, not is_late, spent)
             failed = names[len(good)]
-            if self.is_good(own, failed):
+            if self.is_sure(own, change, failed):
                 return Outcome(failed, count, True, spent)
-            self.bad.add(failed)
             names = names[len(good) + 1 :]
         return Outcome("", count, not names, spent)
 
-    def is_good(self, own: Copy, name: str) -> bool:
-        """Whether a test is good without a change."""
-        if name not in self.good:
-            for row in own.called([name], AGAIN)[0]:
-                if row.is_good:
-                    self.good[name] = row.busy
-        return name in self.good
+    def is_sure(self, own: Copy, change: Change, name: str) -> bool:
+        """Whether a test that failed is good without the change, now, and fails again with it. On a machine that does
+        other things a test may fail because it waits for a time, and notices nothing."""
+        busy = self.busy(own, name) or self.busy(own, name)
+        if busy is None:
+            self.bad.add(name)
+            return False
+        own.change(change)
+        try:
+            # A change that loops without an end has taken all that a test may take once.
+            return self.busy(own, name, math.ceil(5 * busy) + 5) is None
+        finally:
+            own.restore()
+
+    def busy(self, own: Copy, name: str, most: int = MOST_BUSY) -> float | None:
+        """The seconds of processors that a test takes in a copy as it is; None if it fails."""
+        rows, _ = own.called([name], AGAIN, min(most, MOST_BUSY))
+        return next((max(row.busy, 0.01) for row in rows if row.is_good), None)
