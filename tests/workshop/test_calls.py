@@ -2,6 +2,8 @@
 numbers of calls from the kernel's own tables. It needs no built program."""
 
 import errno
+import fcntl
+import mmap
 import operator
 import struct
 from unittest import mock
@@ -97,16 +99,19 @@ RING, KEYS_OF_X86_64, GETPID_OF_X32 = 425, 250, 0x40000000 + 39
 IPV4, LOCAL, VSOCK = 2, 1, 40
 # Set in the number of a machine whose words have 64 bits.
 OF_64_BITS = 0x80000000
+# What programs need of `fcntl` and `madvise`, by the names that Python has for the kernel's numbers.
+COMMANDS = "DUPFD GETFD SETFD GETFL SETFL SETOWN GETOWN DUPFD_CLOEXEC GETPIPE_SZ"
+ADVICE = "NORMAL RANDOM SEQUENTIAL WILLNEED DONTNEED FREE DONTFORK DOFORK HUGEPAGE NOHUGEPAGE DONTDUMP DODUMP"
 ROWS = (
+    *(("fcntl", (3, getattr(fcntl, f"F_{name}")), ALLOWED) for name in COMMANDS.split()),
+    *(("madvise", (0, 1, getattr(mmap, f"MADV_{name}")), ALLOWED) for name in ADVICE.split()),
     ("openat", (), ALLOWED),
     ("socket", (LOCAL,), ALLOWED),
     ("socket", (IPV4,), NO_CALL),
     ("socket", (VSOCK,), NO_CALL),
     ("socket", (LOCAL | 1 << 32,), NO_CALL),
-    ("fcntl", (3, 1), ALLOWED),
     ("fcntl", (3, 6), NO_CALL),
     ("fcntl", (3, 1031), NO_CALL),
-    ("madvise", (0, 1, 4), ALLOWED),
     ("madvise", (0, 1, 21), NO_CALL),
     ("flock", (), NO_CALL),
     ("sysinfo", (), NO_CALL),
