@@ -422,6 +422,8 @@ class Answers(Server):
         )
         step = self.found("steps", network=TRIANGLE, in_step=True)
         self.note("in step", [look["pulse"] for look in step["looks"]] == [1, 1, 1], step["looks"])
+        alone = self.found("steps", network="p edge 1 0\n", in_step=True)
+        self.same("a node alone", (alone["last"], alone["looks"][0]["pulse"]), (12, 1))
         early = "3-1_1-3_1-2_2-1_1-2_2-1"
         wrong = self.found("steps", network=TRIANGLE, without="acks,safes", steps="1")
         self.note("without safes and acks", "without `hello 2` from 2" in wrong["fault"], wrong)
