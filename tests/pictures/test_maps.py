@@ -38,6 +38,8 @@ PLAYED = {name: NETWORKS[name] for name in ("triangle", "petersen", "barred", "t
     "three": b"p edge 3 0\n",
     "three with bars": b"p edge 3 0\nb 1 1\nb 1 2\nb 3 2\n",
 }
+# What a picture says of the forests that it draws, if there are others: the first, the last, and the last of all.
+WHICH_FORESTS = r"Here forests? (\d+)(?: to (\d+))? of 0 to (\d+)"
 # What the player says of a merge pulse: the three-colour, the forest, the old colour and its channel.
 TURN = r"colour (\d+) in forest (\d+) and channel (\d+) so far .* K = (\d+), J = (\d+)"
 
@@ -129,8 +131,12 @@ class Maps(PictureCase):
         net = facts.network
         row = self.rows_of(f"rounds of {name}")
         row("its forests", titles(root, "colours"), [f"forest {f}" for f in drawn])
-        says = any(text.startswith("Here forest") for text in texts(root))
-        row("it says which are left out", says, len(drawn) < net.forest_count)
+        said = re.findall(WHICH_FORESTS, " ".join(texts(root)))
+        last = str(drawn[-1]) if len(drawn) > 1 else ""
+        wanted = [(str(drawn[0]), last, str(net.forest_count - 1))]
+        row("it says which are drawn", said, wanted if len(drawn) < net.forest_count else [])
+        legend = [number for _, _, number in numbered(root, "legend")]
+        row("the colours, and a channel", legend, [*"012345", "1"])
         # Of many steps of a merge those at which no node chooses have no column.
         every = [3 * facts.width] * len(drawn)
         if sum(every) > 40:

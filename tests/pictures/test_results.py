@@ -1,5 +1,7 @@
 """Pictures of what nodes have found, read off their marks; each result is worked by hand. Those of matching, of the
 independent set and of recolouring are stored."""
+import re
+
 from lab.pictures.palette import INK
 from tests.cases import example
 from tests.pictures.base import PictureCase
@@ -67,6 +69,17 @@ class Results(PictureCase):
             row("arrows", len(tips), arrows)
             row("filled", [v for v, group in groups.items() if marks(group, "filled")], filled)
             row("said", said in text, True)
+
+    def test_the_player_names_who_finds_something(self):
+        """In a star each leaf finds its layer in pulse 1, and twelve of them are named."""
+        for leaves, more in ((12, ""), (13, " ..")):
+            star = b"p edge %d %d\n" % (leaves + 1, leaves)
+            star += b"".join(b"e %d %d\n" % (v, leaves + 1) for v in range(1, leaves + 1))
+            options = ["--program", "layers", "--root", str(leaves + 1)]
+            film = data_of(self.drawn("player", star, *options))["film"]
+            said = re.findall(r"found by ([0-9, ]+?)( \.\.)?\.", film["pulses"][1]["said"])
+            named = ", ".join(map(str, range(1, 13)))
+            self.same(f"{leaves} leaves", said, [(named, more)])
 
     def test_the_player_draws_the_same(self):
         """Partners; and channels in the circles, of a program whose nodes have some."""

@@ -12,6 +12,8 @@ from tests.cases import example
 from tests.pictures.base import PictureCase
 from tests.pictures.marks import SVG, centre, ends, marks, parsed, texts, title
 
+# What the legend says of the fill of a mark.
+FAR = ["all at one pulse", "neighbours a pulse apart", "two", "more"]
 NETWORKS = {name: example(name) for name in ("two", "path", "triangle")}
 
 
@@ -47,6 +49,13 @@ def right_and_wrong(space, red):
     return good, Counter(space.depth[s] for s in red) + Counter(refusals(space))
 
 
+def apart_in(space, shown):
+    """How many pulses two neighbours are apart at most, in the states at these depths."""
+    states = [s for s in range(space.count) if space.depth[s] in shown]
+    nodes = map(space.nodes, states)
+    return max(abs(of[v].pulse - of[w].pulse) for of in nodes for v, w in space.links)
+
+
 def gaps_in(bold):
     """The steps of the bold run at whose end the next one doesn't begin."""
     return [step for step, after in pairwise(bold) if step[1] != after[0]]
@@ -56,6 +65,7 @@ class Schedules(PictureCase):
     def test_lattices(self):
         for name, without, window in (
             ("two", (), (0, 104)),
+            ("two", (), (0, 3)),
             ("two", (), None),
             ("path", (), None),
             ("path", (), (0, 20)),
@@ -85,7 +95,11 @@ class Schedules(PictureCase):
         row("its columns", [right[x] for x in columns], [good[far] for far in shown])
         row("red marks", [wrong[x] for x in columns], [bad[far] for far in shown])
         last = max(+(good + bad))
-        part = f"{low} to {high} of {last}" in " ".join(texts(root))
+        words = " ".join(texts(root))
+        row("one end", "ends in one state" in words, not space.faults)
+        kinds = [words for words in texts(root) if words in FAR]
+        row("how far neighbours are", kinds, FAR[: max(2, apart_in(space, shown) + 1)])
+        part = f"{low} to {high} of {last}" in words
         row("it says which part is drawn", part, (low, high) != (0, last))
         bold = sorted((*ends(group), title(group)) for group in marks(root, "bold"))
         row("the bold run is one", gaps_in(bold), [])
