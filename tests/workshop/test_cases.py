@@ -4,8 +4,11 @@ from dataclasses import replace
 from random import Random
 
 from lab.definitions.colours import bit, three
+from lab.workshop import cases as runs
 from lab.workshop.cases import KEPT, NETWORKS, cases_of, network_of, varied
 from lab.workshop.clock_run import OpenRun
+from lab.workshop.findings import Finding
+from lab.workshop.playing import Player
 from tests.cases import Case
 from tests.workshop.base import options_of
 
@@ -148,3 +151,33 @@ class Cases(Case):
                 for one in (case, cases[number])
             )
             self.same(f"case {number}", found, wanted)
+
+
+class Silent(Player):
+    """Plays programs that never answer, and keeps the numbers of the runs that were played."""
+
+    def __init__(self) -> None:
+        super().__init__(options_of("rounds", "--", "nothing"))
+        self.made: list[int] = []
+
+    def play(self, case: runs.Case) -> bool:
+        self.made.append(case.number)
+        case.run, case.finding = "played", Finding("silent", 1, 0, is_first=True)
+        return False
+
+
+class Mute(Case):
+    def test_two_runs_are_enough(self):
+        """They are on two networks, if there are two; and all others count as silent, too."""
+        for names, wanted in (
+            ("two two two two", [0, 3]),
+            ("two two path3 two", [0, 2]),
+            ("two", [0]),
+        ):
+            cases = [
+                runs.Case(number, network_of(name, Random("1")), "", "1")
+                for number, name in enumerate(names.split())
+            ]
+            player = Silent()
+            kinds = {case.wrong.kind for case in player.play_all(cases)}
+            self.same(names, (player.made, kinds), (wanted, {"silent"}))

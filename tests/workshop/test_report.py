@@ -3,7 +3,7 @@ from random import Random
 
 from lab.workshop.cases import Case, network_of
 from lab.workshop.findings import Finding
-from lab.workshop.report import league, table
+from lab.workshop.report import league, report, table
 from tests.cases import Case as Rows
 
 
@@ -52,3 +52,11 @@ class Tables(Rows):
         ]
         self.assertEqual(cells(league(cases)), wanted)
         self.assertEqual(league([case_of("ring5", "")]), [])
+
+    def test_which_is_shown(self):
+        """Of several runs the smallest one that is wrong, and it says so."""
+        wrong = case_of("two", "", is_right=False)
+        for cases in ([wrong], [wrong, case_of("path3", "")]):
+            said = [line for line in report(cases, wrong, 1.0) if line.endswith(": silent")]
+            with self.subTest(len(cases)):
+                self.assertEqual(["smallest" in line for line in said], [len(cases) > 1])
