@@ -25,8 +25,9 @@ from lab.networks.texts import text_of
 from lab.words import as_text, one_line, source_of, text_at, write
 from lab.wrong import Wrong
 
-# Kilometres: less than that no two sites are apart, and numbers of places have no such digits.
-LEAST_REACH = 1e-6
+# Kilometres: less than the first no two sites are apart, and numbers of places have no such digits; no two places on
+# the earth are much more than the second apart.
+LEAST_REACH, MOST_REACH = 1e-6, 20_000
 # What is said of a large network.
 NEAR = "numbered again by breadth first search; nodes keep their identifiers, and so their channels"
 
@@ -88,9 +89,10 @@ def numbered_text(given: Namespace, network: Network, head: Iterable[str] = ()) 
 
 def refuse_words(given: Namespace) -> None:
     """Refuses words that don't go together."""
-    if given.reach is not None and not (given.sites and LEAST_REACH <= given.reach <= 20000):
+    if given.reach is not None and not (given.sites and LEAST_REACH <= given.reach <= MOST_REACH):
         given.refuse(
-            f"--reach is for a table of --sites, and {LEAST_REACH:g} or more, which is a millimetre"
+            f"--reach is for a table of --sites, and from {LEAST_REACH:g}, a millimetre, to {MOST_REACH:,} km, "
+            "half of the way around the earth"
         )
     if given.file is None and given.reach is None:
         given.refuse("a FILE is wanted, or --sites with --reach")

@@ -58,6 +58,7 @@ class Sites(Case):
             "--sites s",
             "--sites s --reach 0",
             "--sites s --reach 1e-320",
+            "--sites s --reach 20001",
             "--channels x s",
             "- --sites -",
             "- --channels 6,6",
@@ -96,6 +97,19 @@ class Sites(Case):
             self.same(
                 f"places in {unit}", edges_of(self.read(None, table, "--reach 3")[1]), {(1, 2)}
             )
+
+    def test_far_on_the_globe(self):
+        """Along the equator, where a degree is 111.2 km; no two places are more than half of it apart."""
+        table = "site,lat,lon\nA,0,0\nB,0,90\nC,0,179\n"
+        for reach, wanted in (
+            (15_000, {(1, 2), (2, 3)}),
+            (19_950, {(1, 2), (2, 3), (1, 3)}),
+            (20_000, {(1, 2), (2, 3), (1, 3)}),
+        ):
+            text = self.read(None, table, f"--reach {reach}")[1]
+            self.same(f"less than {reach} km apart", edges_of(text), wanted)
+        farther = self.read(None, table, "--reach 20001")
+        self.refusal("farther", farther, 2, b"to 20,000 km")
 
     def test_columns(self):
         """A title that is stated is looked for in each table, and has to be in one."""
