@@ -28,6 +28,7 @@ COMMON = [
     (["--as", "pairs"], "a table (CSV) with a heading source,target"),
     (["--as", "edges"], "two nodes a line, with blanks between"),
     (["--as", "adjacency"], "a node and its neighbours a line, with blanks between"),
+    (["--as", "dimacs"], "the DIMACS format, with lines that begin with p and e"),
 ]
 WINDOWS = [(["--encoding", "cp1252"], "its letters are those of western Windows")]
 # Of endings that aren't read: a package of Debian, the ending of what its command makes, and the command.

@@ -267,10 +267,11 @@ class WholeRun(RunPart):
 
 @dataclass(frozen=True)
 class DareJudged:
-    """Whether steps win a dare, and how far they come."""
+    """Whether steps win a dare, and how far they come; and why nobody wins it, if that is proved."""
 
     won: bool
     said: str
+    impossible: str = ""
 
 
 @dataclass(frozen=True)

@@ -29,6 +29,22 @@ OPENED = Opened()
 MOST_DRAWN, MOST_ROUNDS, MOST_RUN = 400, 100, 40
 # Steps that are made by hand.
 MOST_STEPS = 6_000
+# What is shown of so many nodes at most, and which tabs show more.
+SHOWN_OF = {
+    MOST_RUN: ("A run without a clock, and its steps,", "Draw and Check"),
+    MOST_ROUNDS: ("The rounds", "Draw and Check"),
+}
+
+
+def unshown(most: int, nodes: int) -> str:
+    """Why so many nodes aren't shown, and what is to do."""
+    if most not in SHOWN_OF:
+        return f"the studio draws at most {most} nodes, and here are {nodes}"
+    what, tabs = SHOWN_OF[most]
+    return (
+        f"{what} can be seen of at most {most} nodes, and this network has {nodes}: the tabs {tabs} show it, "
+        "or open a smaller example"
+    )
 
 
 class OfVertex(Protocol):
@@ -57,7 +73,7 @@ def network_asked(asked: OfNetwork, most: int = MOST_DRAWN) -> Network:
     if network.nodes == 0:
         raise Wrong("no node yet")
     if network.nodes > most:
-        raise Wrong(f"this is shown of at most {most} nodes, and here are {network.nodes}")
+        raise Wrong(unshown(most, network.nodes))
     return network
 
 

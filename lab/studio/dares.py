@@ -5,7 +5,7 @@ from lab.definitions.nodes import Program
 from lab.definitions.rounds import Rounds
 from lab.network import Edge, Network
 from lab.pictures.layout import distances
-from lab.pictures.program_rounds import rounds_of
+from lab.pictures.program_rounds import is_own, rounds_of
 from lab.pictures.watch_page import look_of
 from lab.schedules.stepwise import Stepwise
 from lab.studio.answers import DareJudged
@@ -19,6 +19,20 @@ DARES = {
     "wrong": "have a node make a pulse with another inbox than that of its round",
     "results": "have all nodes halt with other results than those of the rounds",
 }
+
+# Why nobody wins a dare with all rules: it is proved, and where (docs/claim/THEOREMS.md). Of programs in files nothing is.
+PROVED = {
+    "apart": "neighbours are at most one pulse apart (Theorem 5)",
+    "wrong": "each pulse has the inbox of its round (Theorem 2)",
+    "results": "all nodes halt with the results of the rounds (Theorem 4)",
+}
+
+
+def impossible(program: Program, without: tuple[str, ...], dare: str) -> str:
+    """Why a dare can't be won, if it is proved that it can't; or nothing."""
+    if without or is_own(program) or dare not in PROVED:
+        return ""
+    return f"With all rules nobody wins it: it is proved that {PROVED[dare]}. Leave out a rule"
 
 
 def judged(

@@ -12,7 +12,7 @@ from lab.networks.kinds import KINDS
 from lab.networks.network_text import read_network, stem
 from lab.networks.options import add_form, add_stated, stated_by
 from lab.networks.reading import read_any
-from lab.networks.stated import Unsaid, form_of
+from lab.networks.stated import BY_MARK, COMPRESSED, Unsaid, form_of
 from lab.networks.texts import text_of
 from lab.pictures.page_data import Net
 from lab.pictures.pages import net_of
@@ -41,8 +41,10 @@ from lab.wrong import Wrong
 
 # How many letters of a file's name are shown.
 MOST_NAME = 80
-# How far two nodes of a random disk are joined, in sides of its square.
+# How far two nodes of a random disk are joined, in sides of its square; and the rows of a long row, in nodes of one: a
+# number between two rows is nearer to its own node.
 REACH = 0.26
+ROW_APART = 2
 EXAMPLES = os.path.join(TOP, "examples")
 
 
@@ -141,6 +143,7 @@ def file_read(call: ReadCall, _tell: Tell) -> FileRead | FileUnsaid:
     name = call.name[:MOST_NAME]
     try:
         stated = stated_by(command_line().parse_args(list(call.stated)))
+        check_text(call.data, name)
         form = form_of(name, name, stated)
         network, said = read_any(call.data, name, form, stated)
         net = shown(network)
@@ -148,6 +151,12 @@ def file_read(call: ReadCall, _tell: Tell) -> FileRead | FileUnsaid:
     except Unsaid as why:
         choices = [Choice(words, means) for words, means in why.choices]
         return FileUnsaid(str(why), choices, why.wanted, why.titles)
+
+
+def check_text(data: bytes, name: str) -> None:
+    """Refuses what is no text, as a picture: of it nothing is asked."""
+    if b"\0" in data and not data.startswith(tuple(BY_MARK)) and not data.startswith(COMPRESSED):
+        raise Wrong(f"{name}: this is no text, so no network can be read from it")
 
 
 class Options(ArgumentParser):
@@ -189,10 +198,10 @@ def by_shape(kind: str, nodes: int, *_: int) -> dict[int, tuple[float, float]]:
     """Where the nodes of a long row or ring are: it goes to and fro. What else has a shape has its places already."""
     if kind not in ("path", "ring") or nodes <= 40:
         return {}
-    wide = isqrt(3 * nodes // 2)
+    wide = isqrt(3 * nodes * ROW_APART // 2)
     rows = [divmod(k, wide) for k in range(nodes)]
     return {
-        k + 1: (wide - 1 - column if row % 2 else column, row)
+        k + 1: (wide - 1 - column if row % 2 else column, ROW_APART * row)
         for k, (row, column) in enumerate(rows)
     }
 

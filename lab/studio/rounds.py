@@ -9,7 +9,7 @@ from lab.networks.plan_text import read_plan
 from lab.pictures import broken_picture, player_page, why_picture
 from lab.pictures.page_data import RoundsFound
 from lab.pictures.pages import net_of
-from lab.pictures.picture import Source, Text, drawing
+from lab.pictures.picture import KINDS as KINDS_OF_PICTURES, Source, Text, drawing
 from lab.pictures.program_rounds import ProgramRounds
 from lab.schedules.ruled_rounds import ruled, smallest_wrong
 from lab.schedules.rules import OF_PROGRAMS
@@ -125,6 +125,13 @@ def picture(call: PictureCall, _tell: Tell) -> str:
     """A picture, as the command `picture` draws it."""
     network = network_asked(call)
     texts: list[Text] = []
+    most = KINDS_OF_PICTURES[call.kind].most
+    if most and network.nodes > most[0]:
+        # What a command line is told to use instead isn't on the page.
+        raise Wrong(
+            f"the picture {call.kind} has room for at most {most[0]} nodes, and this network has {network.nodes}: "
+            "the pictures plan and results have room for them"
+        )
     if call.kind == "plan":
         texts = [Text("the plan", plan_of(network, call.network))]
     if call.kind == "run":

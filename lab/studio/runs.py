@@ -2,6 +2,7 @@
 made step by step."""
 import re
 from collections.abc import Iterator
+from dataclasses import replace
 
 from lab import processors
 from lab.definitions.nodes import Colouring, Program
@@ -23,7 +24,7 @@ from lab.studio.asked import (
     program_asked,
     rules_asked,
 )
-from lab.studio.dares import judged as dare_judged, results_of
+from lab.studio.dares import impossible, judged as dare_judged, results_of
 from lab.studio.judges import PYTHON, beginning_judged, by_definitions, judged, text_from
 from lab.studio.messages import Held, JudgeCall, ReplayCall, RunCall, RunPageCall, StepsCall
 from lab.studio.telling import Tell
@@ -52,7 +53,12 @@ def played(call: RunCall, network: Network, program: Program, tell: Tell) -> tup
     most = least_wires(network, program)
     if most > MOST_WIRES_PLAYED:
         raise Wrong(
-            f"a run has more than {most:,} wires: take the threads, since a seeded run is played slowly"
+            f"a run of this network has more than {most:,} messages, and Python plays at most {MOST_WIRES_PLAYED:,}: "
+            + (
+                "take the threads, which are quick"
+                if OPENED.is_proved
+                else "open a smaller example, or build the proved programs, whose threads are quick"
+            )
         )
     if call.policy is None:
         raise Wrong("the call lacks its field policy: a run by a seed has one")
@@ -218,7 +224,10 @@ def steps(call: StepsCall, _tell: Tell) -> StepsFound:
     wires = [(v, w, player.words_on(v, w)) for v in network.vertices for w in network.neighbours[v]]
     dare = judge_found = None
     if call.dare:
-        dare = dare_judged(network, program, without, player.chosen, call.dare)
+        dare = replace(
+            dare_judged(network, program, without, player.chosen, call.dare),
+            impossible=impossible(program, without, call.dare),
+        )
     if not without and not player.is_over:
         lines = [line_of(entry) for entry in player.made]
         judge_found = beginning_judged(network, call.network, lines, program)

@@ -188,6 +188,7 @@ interface WholeRun extends RunPart {
 interface DareJudged {
   won: boolean;
   said: string;
+  impossible: string;
 }
 
 interface StepsFound {
