@@ -134,10 +134,10 @@ class StudioAddresses(Page):
     def test_refused(self):
         """What the command refuses the page refuses, too, and says what is wrong."""
         for words, said in (
-            (f"{TWO}~i1-1x7~b1-zz&tab=draw", "the identifier of node 1 is `1x7`"),
-            (f"{TWO}~b1-zz&tab=draw", "the channel `zz` is barred at node 1"),
+            (f"{TWO}~i1-1x7~b1-zz&tab=draw", "the identifier of node 1 is 1x7"),
+            (f"{TWO}~b1-zz&tab=draw", "the channel zz is barred at node 1"),
             (f"{TWO}&tab=adversary&dare=apart&dare=wrong", "dare (it is there twice)"),
-            (f"{TWO}&tab=adversary&steps=٣", "`٣` is no step"),
+            (f"{TWO}&tab=adversary&steps=٣", "٣ is no step"),
             (f"{TWO}&tab=rounds&program=layers&root=9", "root=9 (there is no node 9"),
             ("example=two&net=0.0&tab=draw", "one of them"),
         ):

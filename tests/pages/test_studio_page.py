@@ -188,22 +188,41 @@ class Page(Case):
 
 class Drawn(Page):
     def test_welcome(self):
-        """The rounds of a small network play before the first click, behind three buttons."""
+        """The rounds of a small network play before the first click: few sentences, each for a while, of which the last
+        one says what has been reached. What isn't needed isn't there."""
         self.page.go("about:blank")
         self.page.go(self.address)
         self.sees("it plays", "window.studio && studio.time.at > 2")
+        self.value(
+            "window.told = []; new MutationObserver(() => told.push(story.textContent))"
+            ".observe(story, {childList: true, characterData: true, subtree: true})"
+        )
         self.sees("to the end", "studio.time.at === 48 && !studio.time.timer", 90)
-        links = self.value("Array.from(document.querySelectorAll('#welcome a'), a => a.text)")
-        self.same("three buttons", links, ["Lesson 1", "An example", "Draw your own"])
+        said = self.value("story.textContent")
+        used = self.value("new Set(Object.values(studio.rounds.film.merged[48])).size")
+        self.note("it ends in a sentence", said.startswith(f"Done: {used} channels"), said)
+        self.note("after few others", len(self.value("told")) <= 4, self.value("told"))
+        for name in ("side", "time", "zoom", "hint", "unproved"):
+            shown = f"document.getElementById('{name}').getClientRects().length"
+            self.reads(f"without {name}", shown, 0)
+        self.reads("one primary action", "document.querySelectorAll('.primary').length", 1)
+        self.click_on("#replay")
+        self.sees("it plays again", "studio.time.timer && studio.time.at < 40")
         for number, wanted in (
-            (3, "studio.seen.tab === 'draw' && !studio.net.nodes.length"),
-            (2, "studio.seen.tab === 'draw' && studio.net.nodes.length === 10"),
+            (2, "studio.seen.tab === 'draw' && !studio.net.nodes.length"),
             (1, "studio.seen.lesson === 1"),
         ):
             self.value(f"document.querySelectorAll('#welcome a')[{number - 1}].click()")
-            self.sees(links[number - 1], wanted)
+            self.sees(f"button {number}", wanted)
             self.reads("without the buttons", "document.getElementById('welcome').hidden", True)
             self.reads("and steadily", "studio.time.speed.value", "1")
+        self.value("document.querySelector('h1 a').click()")
+        self.sees("the first screen again", "!document.getElementById('welcome').hidden")
+        self.sees("is there", "studio.rounds.film && studio.seen.tab === 'rounds'")
+        time.sleep(1)
+        self.click(1)
+        self.sees("a click on a node says why", "why.textContent.includes('why node 1')")
+        self.reads("beside it", "side.getClientRects().length", 1)
 
     def test_changes(self):
         """A button, and what plays, leave out the pulses in which nothing happens."""
@@ -730,7 +749,7 @@ class Drawn(Page):
             ("net=0.0_90.0~1-1", "a wrong edge"),
             ("net=x", "a place is X.Y"),
             (two + "~n1-%E0", "stands for no letter"),
-            (two + "_1-2", "the edge `1-2` twice"),
+            (two + "_1-2", "the edge 1-2 twice"),
             (two + "&tab=run&seed=%", "seed=% (the % in"),
             ("example=../x", "no example"),
             (two + "&tab=rounds&forest=99&node=9&at=-1", "left out: node=9 (there is no node 9"),
@@ -768,7 +787,8 @@ class Drawn(Page):
         for tab in TABS:
             self.click_on(f"[data-tab={tab}]")
             time.sleep(0.6)
-            self.reads(f"a name is a text in {tab}", "document.title", "forestplan studio")
+            said = self.value("document.title")
+            self.note(f"a name is a text in {tab}", said.endswith("forestplan"), said)
 
     def test_z_no_script_complained(self):
         faults = [fault for fault in self.page.faults if "favicon" not in fault]

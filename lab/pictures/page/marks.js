@@ -56,6 +56,17 @@ export function html(name, words = null, attributes = {}) {
   for (const key in attributes) element.setAttribute(key, String(attributes[key]));
   return element;
 }
+// A sentence of the server, in which what is between two backquotes is code.
+/** @param {string} said @returns {(string | HTMLElement)[]} */
+export function coded(said) {
+  return said.split("`").map((part, k, all) => k % 2 && k + 1 < all.length ? html("code", part) : k % 2 ? "`" + part : part);
+}
+/** @param {string} said @param {Attributes} attributes */
+export function sentence(said, attributes = {}) {
+  const place = html("p", null, attributes);
+  place.append(...coded(said));
+  return place;
+}
 // A row of a table, with `th` or `td`.
 /** @param {"th" | "td"} name @param {(string | number)[]} cells */
 export function row(name, cells) {

@@ -4,6 +4,8 @@ import {FADED, HALO, blank, channelCircle, colourSquare, html, hue, inkOn, mark,
 import {nameOf} from "./stage.js";
 
 const ORIENT = 1, SEED = 2, LAST_COLOUR = 12;
+// How far what lights a node up goes beyond its circle, in radiuses.
+const LIT = 0.4;
 // What the marks mean.
 /** @param {HTMLElement} place @param {RoundsFilm} film */
 export function roundsLegend(place, film) {
@@ -88,7 +90,7 @@ export class RoundsFilm {
   }
   /** @param {Stage} stage @param {number} p @param {number | null} forest @param {number} v @param {number} x @param {number} y @param {number} r @returns {Marks} */
   node(stage, p, forest, v, x, y, r) {
-    const pulse = this.found.pulses[p], lit = mark("circle", {cx: x, cy: y, r: 1.4 * r,
+    const pulse = this.found.pulses[p], lit = mark("circle", {cx: x, cy: y, r: (1 + LIT) * r,
       fill: "var(--chosen)", stroke: "var(--glow)", "stroke-width": 1.5});
     /** @type {Marks} */
     const parts = [];
@@ -99,7 +101,6 @@ export class RoundsFilm {
     } else if (v in this.merged[p]) {
       parts.push(v in pulse.chosen && lit, ...channelCircle(x, y, r, this.merged[p][v] + 1));
     } else parts.push(...blank(x, y, r));
-    if (pulse.step && !this.hasChosen(v, p)) parts.push(...this.turnMark(p, pulse.step[0], v, x, y, r));
     return parts;
   }
   // What a node of another program has found: in words, and by its colour; or its channel.
@@ -158,17 +159,22 @@ export class RoundsFilm {
     return shown;
   }
   /** @param {Stage} stage @param {number} at @param {RoundsOptions} options */
-  draw(stage, at, {forest = 0, node = null, why = null, quiet = false} = {}) {
+  draw(stage, at, {forest = 0, node = null, why = null, quiet = false, plain = false} = {}) {
     const p = Math.min(this.last, Math.floor(at)), pulse = this.found.pulses[p], shown = this.forestAt(p, forest);
     const names = new Set(why ? why.identifiers : []);
-    stage.draw({node: (v, x, y, r) => this.node(stage, p, shown, v, x, y, r), links: () => this.arrows(stage, p, shown),
+    /** @type {OfNode<Marks>} */
+    const turn = (v, x, y, r) => plain || !pulse.step || this.hasChosen(v, p) ? []
+      : this.turnMark(p, pulse.step[0], v, x, y, r);
+    stage.draw({node: (v, x, y, r) => [...this.node(stage, p, shown, v, x, y, r), ...turn(v, x, y, r)], links: () => this.arrows(stage, p, shown),
       above: () => quiet ? [] : this.messages(stage, p, at - p, forest, why),
-      below: Boolean(pulse.results && !this.channels || pulse.step),
+      below: Boolean(pulse.results && !this.channels || pulse.step && !plain),
       says: v => `pulse ${p}, ${this.words(v, p, shown)}`,
       label: pulse.results && !this.channels ? v => nameOf(this.net, v).slice(String(v).length).trim()
         : quiet ? v => stage.radius < 9 ? "" : String(v) : null,
       ring: v => v === node ? "var(--glow)" : names.has(v) ? "var(--edge)" : null,
-      edge: () => ({"stroke-width": p === 0 ? 1.6 : 0.8}), still: [this, p, forest, node, why, quiet]});
+      around: v => pulse.results ? pulse.new.includes(v) ? LIT * stage.radius : 0
+        : v in pulse.chosen ? LIT * stage.radius : 0,
+      edge: () => ({"stroke-width": p === 0 ? 1.6 : 0.8}), still: [this, p, forest, node, why, quiet, plain]});
     return p;
   }
   // [caption, sentence] of a pulse, with what the chosen node has found.

@@ -1,7 +1,7 @@
 // A picture of a network: where things are on the screen, what is drawn, and what is under the pointer.
 import {HALO, barMark, mark, patch, words} from "./marks.js";
 
-const LARGEST = 22, LETTERS = new Intl.Segmenter(), TURNS = /[\u0590-\u08FF\u200F\u202A-\u202E\u2066-\u2069]/;
+const LARGEST = 22, RING = 7, LETTERS = new Intl.Segmenter(), TURNS = /[\u0590-\u08FF\u200F\u202A-\u202E\u2066-\u2069]/;
 
 export class Stage {
   // `net` has nodes {x, y, id, name, bars} from 0, and edges [v, w] from 1.
@@ -30,6 +30,9 @@ export class Stage {
     /** @type {Spot[]} */
     this.spots = [];
     this.spotsOf = "";
+    // How far what is around a node goes beyond its circle.
+    /** @type {(v: number) => number} */
+    this.around = () => 0;
     /** @type {number[][]} */
     this.close = [];
     patch(svg, Array.from({length: 4}, () => mark("g", {}, [])));
@@ -196,7 +199,7 @@ export class Stage {
   arrow(a, b, stroke, width) {
     const m = this.middle(a, b), dx = this.X(b) - m[0], dy = this.Y(b) - m[1], far = Math.hypot(dx, dy) || 1;
     const ex = dx / far, ey = dy / far, size = Math.max(6, Math.min(10, this.radius * 0.6)), half = size * 0.45;
-    const tx = this.X(b) - ex * (this.radius + 2), ty = this.Y(b) - ey * (this.radius + 2);
+    const end = this.radius + this.around(b) + 2, tx = this.X(b) - ex * end, ty = this.Y(b) - ey * end;
     const bx = tx - ex * size, by = ty - ey * size;
     return [this.line(a, b, {stroke, "stroke-width": width}), mark("path", {fill: stroke,
       d: `M${tx} ${ty}L${bx - ey * half} ${by + ex * half}L${bx + ey * half} ${by - ex * half}Z`})];
@@ -260,11 +263,13 @@ export class Stage {
   // Draws all. `edge(v, w)` gives an edge's attributes, `node(v, x, y, r)` the marks of a node, `label(v)` its words;
   // `links()` and `above()` are marks; `ring(v)` is the colour of a ring around it, or nothing. `below` says that
   // something is written below each node. `still` is all that they depend on but for what is above: as long as it is
-  // the same, only that is drawn anew. `says(v)` is what a node shows, in words.
+  // the same, only that is drawn anew. `says(v)` is what a node shows, in words; `around(v)` is how far what `node`
+  // draws goes beyond the circle.
   /** @param {Drawing} drawing */
-  draw({edge, node, label, says = () => "", ring, links = () => [], above = () => [], bars = true, apart = 2.9,
-    below = false, still}) {
+  draw({edge, node, label, says = () => "", ring, around = () => 0, links = () => [], above = () => [], bars = true,
+    apart = 2.9, below = false, still}) {
     this.apart = apart;
+    this.around = v => Math.max(around(v), ring && ring(v) ? RING : 0);
     this.measure();
     const isStill = still && still.length === this.still.length && still.every((one, k) => one === this.still[k]);
     this.still = still || [];
@@ -296,12 +301,21 @@ export class Stage {
     }
     patch(this.over, above());
   }
+  // The place of a label, farther out where something around its node would cover it.
+  /** @param {number} v @param {{x: number, y: number}} spot @param {number} wide @param {number} size @returns {Point} */
+  outside(v, spot, wide, size) {
+    const dx = spot.x - this.X(v), dy = spot.y - this.Y(v), far = Math.hypot(dx, dy) || 1, around = this.around(v);
+    // The point of its box that is nearest to the node.
+    const gap = Math.hypot(Math.max(0, Math.abs(dx) - wide), Math.max(0, Math.abs(dy) - size / 2)) - this.radius - 1;
+    const more = around ? Math.max(0, around - gap) : 0;
+    return [spot.x + dx / far * more, spot.y + dy / far * more];
+  }
   /** @param {number} v @param {LookOfNode} look @returns {Mark} */
   group(v, {node, said, spot, size, says, ring, bars}) {
     const x = this.X(v), y = this.Y(v), r = this.radius, colour = ring && ring(v), own = this.net.nodes[v - 1].bars;
     /** @type {Marks} */
-    const parts = [colour && mark("circle", {cx: x, cy: y, r: r + 5, fill: "none", stroke: colour, "stroke-width": 4}),
-      ...node(v, x, y, r), words(spot.x, spot.y, size, "var(--soft)", said, HALO)];
+    const parts = [colour && mark("circle", {cx: x, cy: y, r: r + RING - 2, fill: "none", stroke: colour, "stroke-width": 4}),
+      ...node(v, x, y, r), words(...this.outside(v, spot, said.length * size * 0.3, size), size, "var(--soft)", said, HALO)];
     if (bars) own.slice(0, 4).forEach((bar, n) => parts.push(...barMark(x + r + 8 + n * 19, y + r + 5, 9, bar)));
     const more = `+${own.length - 4}`;
     if (bars && own.length > 4) parts.push(words(x + r + 90, y + r + 5, 11, "var(--wrong)", more, HALO));

@@ -26,6 +26,7 @@ interface Drawing {
   label?: ((v: number) => string) | null;
   says?: (v: number) => string;
   ring?: (v: number) => string | null;
+  around?: (v: number) => number;
   links?: () => Marks;
   above?: () => Marks;
   bars?: boolean;
@@ -46,7 +47,14 @@ interface LookOfNode {
 // Where a label is, in which direction, and how far it is from the node's edges.
 interface Spot { x: number; y: number; turn: number; least: number; }
 
-interface RoundsOptions { forest?: number; node?: number | null; why?: WhyFound | null; quiet?: boolean; }
+// `quiet` leaves out the messages, and `plain` the pairs by which turns are taken.
+interface RoundsOptions {
+  forest?: number;
+  node?: number | null;
+  why?: WhyFound | null;
+  quiet?: boolean;
+  plain?: boolean;
+}
 
 // A neighbour, and what is awaited of it, or what it has sent.
 type OfNeighbour = [string, number];

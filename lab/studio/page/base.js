@@ -1,7 +1,7 @@
 // What the tabs of the studio share: the stage, what is said of calls, and the tab that is seen.
 import {Wrong, call, cancel} from "./api.js";
 import {net} from "./model.js";
-import {element, html} from "./marks.js";
+import {coded, element, html} from "./marks.js";
 import {Stage} from "./stage.js";
 import {Time} from "./time.js";
 
@@ -71,6 +71,11 @@ export function go(tab, more) { hooks.go(tab, more); }
 export const KEYS = matchMedia("(pointer: coarse)").matches ? "" : "Space plays, arrows step.";
 // The place of the slider, as an address has it.
 export function timeAt() { return Math.round(time.at * 100) / 100; }
+// What an address asks for after the end is the end, and is said.
+/** @param {More} more @param {number} last @param {string} what */
+export function sayLast({asked = 0}, last, what) {
+  if (asked > last) hooks.leftOut(`at=${asked} (the last ${what} is ${last.toLocaleString("en")})`);
+}
 // What a screen reader says: at most once a second, and nothing while it plays.
 let announcing = 0, announced = 0;
 /** @param {string} words */
@@ -126,7 +131,7 @@ let busyWith = null;
 export function wrong(said, key = null) {
   // What went well takes back what it said before, and nothing else.
   if (!said && key && wrongKey !== key) return;
-  by("wrong").textContent = said || "";
+  by("wrong").replaceChildren(...coded(said || ""));
   wrongKey = key;
 }
 /** @param {string | null} said @param {string} key */

@@ -1,6 +1,6 @@
 // The tab Check: a plan that is typed or clicked, with the verdict on it, and transcripts.
 import {announce, asks, by, capital, hello, hooks, programNamed, show, stage, tabs} from "./base.js";
-import {blank, channelCircle, html, note} from "./marks.js";
+import {blank, channelCircle, html, note, sentence} from "./marks.js";
 import {net, neighbours, text} from "./model.js";
 
 /** @type {{plan: number[], verdict: GoodPlan | BadPlan | null, typed: number | null}} */
@@ -90,10 +90,10 @@ by("judged").onclick = () => asks("judge", {network: text(), transcript: by("tra
   // The machine counts lines from the network's first one.
   const said = proved && proved.said.replace(/line (\d+)/, (_, line) => `line ${line - is.before}`);
   place.className = "verdict " + (is.ok ? "good" : "bad");
-  place.replaceChildren(html("p", (is.ok ? "✓ " : "✗ ") + is.said));
+  place.replaceChildren(sentence((is.ok ? "✓ " : "✗ ") + is.said));
   // Without a first line all of it is read as more of the network.
   if (proved && is.line !== 1) {
-    place.append(html("p", proved.ok ? `✓ ${proved.by} accepts it, too.` : `✗ ${proved.by}: ${said}`));
+    place.append(sentence(proved.ok ? `✓ ${proved.by} accepts it, too.` : `✗ ${proved.by}: ${said}`));
   }
   if (is.line) choose(by("transcript"), is.line);
 });

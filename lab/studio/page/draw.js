@@ -2,7 +2,7 @@
 import {call, cancel} from "./api.js";
 import {all, announce, asks, by, count, endsOf, go, hang, hello, hooks, programNamed, seen, show, showOptions, stage,
   tabs, tried, whole, wrong} from "./base.js";
-import {blank, channelCircle, html, targetOf} from "./marks.js";
+import {blank, channelCircle, coded, html, targetOf} from "./marks.js";
 import * as model from "./model.js";
 import {change, net, neighbours, text} from "./model.js";
 
@@ -161,6 +161,7 @@ tabs.draw = {
 /** @param {File} file @param {string[]} stated @param {string | null} name */
 export async function openFile(file, stated = [], name = null) {
   by("unsaid").hidden = true;
+  by("notes").textContent = "";
   if (file.size > 4e6) return wrong("That file is larger than the studio reads.");
   const bytes = new Uint8Array(await file.arrayBuffer());
   let words = "";
@@ -198,12 +199,12 @@ function askWhat(file, stated, name, {unsaid, choices, wanted, titles}) {
   const chosen = () => ["--columns", choosers.map(quoted).join(",")];
   if (seen.tab !== "draw") go("draw");
   by("unsaid").hidden = false;
-  by("unsaidwhat").textContent = `${unsaid}. Say what it is:`;
+  by("unsaidwhat").replaceChildren(...coded(`${unsaid}. Say what it is:`));
   by("unsaidchoices").replaceChildren(...choices.map(({stated: more, means}) => say(means, () => more)));
   if (columns.length) by("unsaidchoices").append(...columns, say("read these", chosen));
 }
 // What is saved is a text or a page, for whoever has no studio.
-/** @param {string} words @param {string} ending */
+/** @param {string} words @param {string} ending What comes after the network's name. */
 function download(words, ending) {
   const type = ending === ".html" ? "text/html" : "text/plain", name = (net.name || "network") + ending;
   const link = html("a", null, {href: URL.createObjectURL(new Blob([words], {type})), download: name});
@@ -214,13 +215,13 @@ function download(words, ending) {
 export function save(what) {
   const asked = {network: text(), name: net.name, program: programNamed()};
   if (what === "network") return download(text(), ".col");
-  if (what === "rounds") return asks("rounds_page", asked, "making the page", page => download(page, ".html"));
+  if (what === "rounds") return asks("rounds_page", asked, "making the page", page => download(page, "-rounds.html"));
   return tried("save", "playing the run", async () => {
     const transcript = await tabs.run.transcript();
     if (!transcript) return;
     if (what === "transcript") return download(transcript, ".transcript");
     const page = await call("run_page", {...asked, transcript});
-    if (page) download(page, ".html");
+    if (page) download(page, "-run.html");
   });
 }
 // Making networks.

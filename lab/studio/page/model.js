@@ -48,6 +48,7 @@ export function redo() { if (future.length) tell("undo", {removed: swap(future, 
 export function depth() { return [past.length, future.length]; }
 /** @param {Net} found @param {string} example */
 export function load(found, example = "") {
+  tell("leave");
   replaced = net.nodes.length > 0 && !net.example;
   if (net.nodes.length) { past.push({text: kept(), removed: null}); future.length = 0; }
   lastKey = null;

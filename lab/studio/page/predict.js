@@ -1,6 +1,6 @@
 // Predict, then look: a question on the chosen node, whose answer the server judges, with the reason.
 import {asks, by} from "./base.js";
-import {html} from "./marks.js";
+import {coded, html} from "./marks.js";
 
 export class Question {
   // `ask()` gives the question that there is now, {words, call, asked, picks}, or null; `look()` leads to where its
@@ -42,8 +42,9 @@ export class Question {
       if (!place) return;
       look.onclick = this.look || null;
       place.className = "verdict " + (right ? "good" : "bad");
-      place.replaceChildren(right ? `✓ Yes: ${found}. ` : `✗ Not ${said}: ${found}. `, html("span", why + " ",
-        {class: "soft"}), ...(this.look ? [look] : []));
+      const reason = html("span", null, {class: "soft"});
+      reason.append(...coded(why + " "));
+      place.replaceChildren(right ? `✓ Yes: ${found}. ` : `✗ Not ${said}: ${found}. `, reason, ...(this.look ? [look] : []));
     };
     return is.call === "waits" ? asks("waits", {...is.asked, said}, "looking for the answer", show)
       : asks("predict", {...is.asked, said}, "looking for the answer", show);

@@ -1,8 +1,8 @@
 // The tab Rounds: the network at each pulse, why a node has its channel, and what goes wrong without a rule.
 import {call} from "./api.js";
-import {KEYS, all, announce, asks, by, capital, fill, go, hang, hello, hide, hooks, leftOutWords, picture, programNamed, ruleBoxes,
-  rulesOf, say, seen, show, showOptions, stage, tabs, time, timeAt, tried} from "./base.js";
-import {html, patch} from "./marks.js";
+import {KEYS, all, announce, asks, by, capital, count, fill, go, hang, hello, hide, hooks, leftOutWords, picture, programNamed, ruleBoxes,
+  rulesOf, say, sayLast, seen, show, showOptions, stage, tabs, time, timeAt, tried} from "./base.js";
+import {html, patch, sentence} from "./marks.js";
 import {load as load_, net, text} from "./model.js";
 import {Question} from "./predict.js";
 import {RoundsFilm, roundsLegend} from "./rounds.js";
@@ -20,6 +20,9 @@ const question = new Question("question", () => {
     asked: {network: text(), program: programNamed(), vertex: node, pulse: p + 1, forest}};
 }, () => time.set(Math.floor(time.at) + 1));
 
+// How often the tab has been entered.
+let entered = 0;
+
 /** @param {string} program */
 export async function load(program = programNamed()) {
   const asked = text(), key = program + asked;
@@ -31,13 +34,29 @@ export async function load(program = programNamed()) {
 }
 // The film, if it is of the program and the network that are chosen.
 function ready() { return rounds.film && rounds.of === programNamed() + text() ? rounds.film : null; }
+// The first screen's story of the rounds: few sentences, each for as long as it is read in.
+/** @param {RoundsFilm} film @param {number} p */
+function storyOf(film, p) {
+  if (p === film.last) return endOf(film.merged[p]);
+  if (p < 2) return "Each node knows only its own number, and tells it to its neighbours.";
+  return film.found.pulses[p].step ? "Now they take turns: each takes the least channel that it may have."
+    : "Each compares its number with a neighbour’s, again and again, until only 0, 1 and 2 are left.";
+}
+/** @param {Record<number, number>} chosen What each node has chosen, from 0. */
+function endOf(chosen) {
+  const alike = net.edges.filter(([v, w]) => chosen[v] === chosen[w]).length;
+  return alike ? `${count(alike, "link")} have one channel at both ends.`
+    : `Done: ${count(new Set(Object.values(chosen)).size, "channel")}, no two neighbours alike, and nobody was in charge.`;
+}
 function showAt() {
   const film = ready();
   if (!film) return false;
   const {node} = seen, why = rounds.whyOf === node ? rounds.why : null;
   rounds.forest = Math.min(rounds.forest, Math.max(0, film.forests - 1));
-  const p = film.draw(stage, time.at, {forest: rounds.forest, node, why}), [caption, said] = film.said(p, node);
+  const isFirst = !by("welcome").hidden, p = film.draw(stage, time.at, {forest: rounds.forest, node, why, plain: isFirst});
+  const [caption, said] = film.said(p, node);
   say("when", `pulse ${p} of ${film.last}`);
+  if (isFirst) say("story", storyOf(film, p));
   const ofNode = node ? ` Node ${node}: ${film.words(node, p, film.forestAt(p, rounds.forest))}.` : "";
   announce(`pulse ${p}. ${said}${ofNode}`);
   fill("said", caption + said, () => [said, html("br"), html("span", caption, {class: "soft"})]);
@@ -103,7 +122,7 @@ function askBroken() {
     const draw = html("button", "draw this smallest network"), back = html("button", "back to all rules");
     draw.onclick = () => { if (found) load_(found); };
     back.onclick = () => leaveOut("");
-    place.append(html("p", leftOutWords(rulesHere(), rounds.without), {class: "soft"}), html("p",
+    place.append(html("p", leftOutWords(rulesHere(), rounds.without), {class: "soft"}), sentence(
       words.map(capital).join(". ") + (found ? "; the picture is of a smallest network on which they go wrong." : "."),
       {class: here ? "bad" : ""}), found ? draw : "", " ", back);
     if (svg) hang(svg, "without " + rounds.without); else { stageHas(false); stage.fit(); show(); }
@@ -141,11 +160,14 @@ tabs.rounds = {
     showOptions();
     rounds.without = rulesOf(rulesHere(), rounds.without);
     showRules();
+    const mine = ++entered;
     tried("rounds", "asking for the rounds", async () => {
-      if (!await load() || seen.tab !== "rounds" || !rounds.film) return;
+      // Another place has been entered since.
+      if (!await load() || mine !== entered || seen.tab !== "rounds" || !rounds.film) return;
       time.range(0, rounds.film.last);
       roundsLegend(by("roundslegend"), rounds.film);
       time.set(time.at);
+      sayLast(more, rounds.film.last, "pulse");
       if (more.play) time.toggle();
       await askWhy();
     });

@@ -1,6 +1,6 @@
 // The tab No clock: a run by a seed or by real threads, its verdicts, another order or the rounds beside it.
 import {call} from "./api.js";
-import {KEYS, all, announce, by, capital, fill, hello, hide, messageOf, programNamed, progress, refill, say, seen, show,
+import {KEYS, all, announce, by, capital, fill, hello, hide, messageOf, programNamed, progress, refill, say, sayLast, seen, show,
   showOptions, stage, tabs, time, timeAt, toggleLazy, toggleSlow, tried, wrong} from "./base.js";
 import {net, text} from "./model.js";
 import {rounds} from "./rounds_tab.js";
@@ -62,7 +62,8 @@ async function loadOther() {
 }
 // The run, if it is of the program and the network that are chosen.
 function ready() { return run.film && run.of === programNamed() + text() ? run.film : null; }
-function ask() {
+/** @param {More} [more] */
+function ask(more = {}) {
   const isSeed = by("made").value === "seed";
   if (!run.other) run.film2 = null;
   all(".seeded").forEach(one => { one.hidden = !isSeed; });
@@ -79,7 +80,8 @@ function ask() {
   return tried("run", "playing the run", async () => {
     if (!await load() || seen.tab !== "run") return;
     if (by("beside").checked) await tabs.rounds.load();
-    place(time.at);
+    const last = place(time.at);
+    if (last) sayLast(more, last, run.film2 ? "pulse" : "stamp");
     if (run.found && run.found.of) by("policysaid").textContent += ` Here it is ${run.found.of}.`;
     judgeSoon();
   });
@@ -107,6 +109,7 @@ function place(at) {
   const [low, high] = run.film2 ? pulses(run.film, run.film2) : run.film.table.stamps;
   time.range(low, high);
   time.set(at);
+  return high;
 }
 // The pulses that both runs show; one more is their ends.
 /** @param {RunFilm} one @param {RunFilm} other */
@@ -242,7 +245,7 @@ tabs.run = {
     by("program").value = seen.program;
     showOptions();
     runLegend(by("runlegend"));
-    ask();
+    ask(more);
   },
   leave() {
     by("stage").classList.remove("two", "beside", "long");
@@ -272,7 +275,7 @@ tabs.run = {
     by("seed2").value = other ? other.seed : "2";
   },
 };
-[by("made"), by("policy"), by("seed"), by("workers"), by("capacity")].forEach(field => { field.onchange = ask; });
+[by("made"), by("policy"), by("seed"), by("workers"), by("capacity")].forEach(field => { field.onchange = () => ask(); });
 by("program").onchange = () => { seen.program = by("program").value; time.at = 0; tabs.run.enter(); };
 by("how").onsubmit = event => { event.preventDefault(); ask(); };
 by("again").onclick = () => {
@@ -282,7 +285,7 @@ by("again").onclick = () => {
 };
 by("forget").onclick = () => { Object.assign(run, {steps: [], transcript: null}); ask(); };
 by("payloads").onchange = show;
-by("beside").onchange = ask;
+by("beside").onchange = () => ask();
 [by("two"), by("policy2"), by("seed2")].forEach(field => {
   field.onchange = () => {
     run.other = by("two").checked ? {policy: by("policy2").value, seed: by("seed2").value} : null;

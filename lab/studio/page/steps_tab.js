@@ -1,7 +1,7 @@
 // The tab Adversary: whoever looks is the network, and chooses which message is taken next and which node pulses.
-import {all, announce, asks, by, go, hello, hooks, leftOutWords, programNamed, ruleBoxes, say, seen, show, showOptions,
+import {all, announce, asks, by, go, hello, hooks, leftOutWords, programNamed, ruleBoxes, seen, show, showOptions,
   stage, tabs, toggleLazy, toggleSlow} from "./base.js";
-import {html} from "./marks.js";
+import {coded, html, sentence} from "./marks.js";
 import {net, text} from "./model.js";
 import {Question} from "./predict.js";
 import {alphaMarks, foundWords, heldEdge, lookWords, queueMarks, waitsWords} from "./run.js";
@@ -67,7 +67,7 @@ function showAt() {
   sayWhere(is);
   question.show();
   by("dared").className = is.dare && is.dare.won ? "good" : "soft";
-  say("dared", is.dare ? `${is.dare.won ? "☑ Won" : "☐ Not yet"}: ${is.dare.said}.` : "");
+  by("dared").replaceChildren(...coded(is.dare ? dareWords(is.dare) : ""));
   listSteps(is);
   by("list").value = is.list.join("\n") + "\n";
   by("list").scrollTop = by("list").scrollHeight;
@@ -80,6 +80,11 @@ function saysOf(is, v) {
   const look = is.looks[v - 1];
   if (steps.predicts) return `pulse ${look.pulse}`;
   return is.over ? [`pulse ${look.pulse}`, foundWords(look)].filter(Boolean).join(", ") : lookWords(look, is.last);
+}
+// How far a dare is; and of one that nobody can win that it is proved.
+/** @param {{won: boolean, said: string, impossible: string}} dare */
+function dareWords({won, said, impossible}) {
+  return `${won ? "☑ Won" : "☐ Not yet"}: ${said}.${impossible ? ` ${impossible}.` : ""}`;
 }
 // Why nothing goes on, or that all is done; what is under way then is taken by nodes that have halted.
 /** @param {StepsFound} is @returns {[string, string] | null} */
@@ -99,7 +104,7 @@ function endWords(is) {
 function sayWhere(is) {
   const box = by("stepsaid"), {judge} = is, n = steps.made.length, end = endWords(is);
   const lines = [html("b", n ? `${n}: ${is.said}.` : "Nothing has happened yet: choose what comes first.")];
-  if (is.fault) lines.push(html("p", `✗ ${is.fault}.`, {class: "bad"}));
+  if (is.fault) lines.push(sentence(`✗ ${is.fault}.`, {class: "bad"}));
   if (end) lines.push(html("p", end[0], {class: end[1]}));
   if (judge) lines.push(judgement(judge, is));
   box.replaceChildren(...lines);
@@ -110,7 +115,7 @@ function judgement(judge, is) {
   const agrees = judge.ok && judge.pulses.every((p, k) => p === is.looks[k].pulse);
   const where = agrees ? "at these pulses" : "elsewhere";
   const said = judge.ok ? `accepts these ${is.entries} entries, and its nodes are ${where}.` : judge.said;
-  return html("p", `${agrees ? "✓" : "✗"} ${judge.by} ${said}`, {class: agrees ? "good" : "bad"});
+  return sentence(`${agrees ? "✓" : "✗"} ${judge.by} ${said}`, {class: agrees ? "good" : "bad"});
 }
 // What can happen now, node by node, as buttons; of a large network the chosen node's, or the first ones.
 /** @param {StepsFound} is */

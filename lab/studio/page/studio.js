@@ -8,7 +8,7 @@ import {check} from "./check.js";
 import {rounds} from "./rounds_tab.js";
 import {run} from "./run_tab.js";
 import {steps} from "./steps_tab.js";
-import {blank, html, targetOf} from "./marks.js";
+import {blank, coded, html, targetOf} from "./marks.js";
 import * as model from "./model.js";
 import {textOf} from "./text.js";
 import {change, net, text} from "./model.js";
@@ -32,12 +32,23 @@ hooks.show = () => {
   by("empty").hidden = net.nodes.length > 0;
   say("hint", isReplaced ? "Undo (Ctrl-Z, or in Draw) brings your drawing back." : tab.hint());
   say("name", [net.name, seen.program].filter(one => one && one !== "colouring").map(one => "· " + one).join(" "));
+  document.title = titleSeen();
   by("slider").setAttribute("aria-valuetext", by("when").textContent || "");
   hooks.link();
 };
+// The title of the page, by which the browser's list of places tells them apart.
+function titleSeen() {
+  if (!by("welcome").hidden) return "forestplan studio";
+  const tab = all("nav button").find(one => one.dataset.tab === seen.tab), lesson = seen.lesson && `lesson ${seen.lesson}`;
+  const program = seen.program === "colouring" ? "" : seen.program;
+  return [tab && tab.textContent, net.name, program, lesson, "forestplan"].filter(Boolean).join(" · ");
+}
 hooks.go = (name, more = {}) => {
   time.stop();
   isReplaced = false;
+  // An address that is still being followed isn't wanted any more.
+  follows++;
+  isFollowing = false;
   left[seen.tab] = time.at;
   // The browser's way back leads to the tab before, and to its place.
   link();
@@ -47,12 +58,14 @@ hooks.go = (name, more = {}) => {
   enter(more);
   link();
 };
-let isWelcomed = false;
+let isEntered = false;
+/** @param {More} more */
 function enter(more = {}) {
-  const name = seen.tab;
-  if (isWelcomed || !by("welcome").hidden) by("speed").value = isWelcomed ? "3" : "1";
-  by("welcome").hidden = !isWelcomed;
-  isWelcomed = false;
+  const name = seen.tab, isWelcome = Boolean(more.welcome);
+  isEntered = true;
+  if (isWelcome || !by("welcome").hidden) by("speed").value = isWelcome ? "3" : "1";
+  by("welcome").hidden = !isWelcome;
+  document.body.classList.toggle("first", isWelcome);
   // What another tab has asked for isn't wanted any more.
   CALLS.forEach(cancel);
   all("nav button").forEach(one => {
@@ -95,7 +108,14 @@ function leaveWhatIsGone() {
   seen.slow = seen.slow.filter(e => model.hasEdge(e[0], e[1]));
   seen.lazy = seen.lazy.filter(v => v <= net.nodes.length);
 }
+// What takes the place of a network leaves the way back to it.
+function keepPlace() {
+  if (isFollowing || !net.nodes.length) return;
+  link();
+  history.pushState(null, "", location.href);
+}
 model.onChange((what, numbers) => {
+  if (what === "leave") return keepPlace();
   renumber(numbers);
   // Moving changes no plan, and the text only when the node is there.
   isMoved = what === "move";
@@ -201,6 +221,8 @@ svg.onpointerup = event => {
   fingers.delete(event.pointerId);
   if (!was || was.moved) return was && hooks.link();
   if (seen.tab !== "draw" && !net.nodes.length) return;
+  // Who clicks on the first screen wants to know more.
+  if (!by("welcome").hidden) { time.stop(); enter(); }
   tabs[seen.tab].click(was.v, was.v ? null : stage.edgeAt(event), event, was.step);
 };
 svg.onpointercancel = event => { fingers.delete(event.pointerId); drag = apart = null; show(); };
@@ -246,19 +268,28 @@ function stateSeen() {
 }
 // What moves before the first click: the rounds of a small network, behind the first buttons.
 function welcome() {
-  isWelcomed = true;
   const play = matchMedia("(prefers-reduced-motion: reduce)").matches ? "at=48" : "play=1";
-  return follow(`#example=petersen&tab=rounds&${play}`);
+  return follow(`#example=petersen&tab=rounds&${play}`, {welcome: true});
 }
-async function follow(place = location.hash) {
+// What of an address is left out, and why.
+let unread = "";
+/** @param {string} more */
+hooks.leftOut = more => {
+  unread = [unread, more].filter(Boolean).join(", ");
+  if (unread) wrong(`This can’t be read in the address, and is left out: ${unread}.`);
+};
+// An address that says nothing leads to the first screen, or to the network of the command line.
+/** @param {string} place @param {More} more @returns {Promise<void>} */
+async function follow(place = location.hash, more = {}) {
   if (location.hash === linked && linked) return;
+  if (!place && !hello().opened) return welcome();
   const mine = ++follows;
   time.stop();
   linked = location.hash;
   isFollowing = true;
   /** @type {Values} */
   let given = {};
-  let unread = "";
+  unread = "";
   const isRead = await tried("address", "opening", async () => {
     const got = await call("address", {place: place.slice(1), nodes: net.nodes.length, edges: net.edges});
     // Another address has been followed since.
@@ -269,10 +300,10 @@ async function follow(place = location.hash) {
   });
   if (mine !== follows) return;
   isFollowing = false;
-  const why = by("wrong").textContent;
-  enter({play: given.play});
-  if (!isRead) wrong(why || "");
-  else if (unread) wrong(`This can’t be read in the address, and is left out: ${unread}.`);
+  // Of an address that can't be read the fault is said, and the page stays as it was.
+  const why = Array.from(by("wrong").childNodes);
+  if (isRead || !isEntered) enter({...more, play: given.play, asked: given.at});
+  if (isRead) hooks.leftOut(""); else by("wrong").replaceChildren(...why);
 }
 // Shows what an address says: each value is of its kind, or isn't there.
 /** @param {FoundAddress} found @param {Values} given */
@@ -302,7 +333,7 @@ function showLesson(lesson) {
   const questions = lesson.questions.flatMap(([words, place]) =>
     [html("a", words, {href: `#${place}&lesson=${lesson.number}`}), " · "]).slice(0, -1);
   if (questions.length) questions.unshift("Predict, then look: ");
-  card.append(head, html("i", lesson.ask), html("p", lesson.see), html("p", "Exercise: " + lesson.do), ...questions,
+  card.append(head, html("i", lesson.ask), html("p", lesson.see), ...textOf("Exercise: " + lesson.do), ...questions,
     folded("the whole lesson", lesson.text), folded("a hint for its exercise", lesson.hint),
     folded("the answer", lesson.answer));
   box.replaceChildren(close, card);
@@ -348,6 +379,7 @@ menu("lecture", async number => {
   await follow();
   showPlace(place);
 });
+by("replay").onclick = () => { time.stop(); time.set(0); time.toggle(); };
 by("skip").onclick = () => all("#net [data-node]").slice(0, 1).forEach(one => one.focus());
 all("nav button").forEach(one => { one.onclick = () => hooks.go(tabNamed(one.dataset.tab)); });
 // The tab of a name, which the page has.
@@ -422,10 +454,17 @@ async function greet() {
     one.textContent = hello().proved ? "by real threads" : "by real threads (not built)";
   });
 }
+// What is seen in place of the studio as long as its command answers nothing: what it is, and how it begins.
+/** @param {string} said */
+function close(said) {
+  by("closedsaid").replaceChildren(...coded(said));
+  by("closedhow").hidden = false;
+}
 async function begin() {
-  if (!token) return wrong("This page has no token: open the address that the command studio has printed.");
+  if (!token) return close("This page has no token, by which the studio knows you.");
+  if (!await tried("hello", "beginning", greet)) return close(by("wrong").textContent || "");
+  all("main").forEach(one => one.classList.remove("closed"));
   stage.fit();
-  if (!await tried("hello", "beginning", greet)) return;
   const {examples, lessons, dares, lecture, passes, programs, policies, opened} = hello();
   all("nav, .tools").forEach(one => { one.hidden = false; });
   examples.forEach(name => option(by("examples"), name));

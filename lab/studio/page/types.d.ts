@@ -5,15 +5,19 @@
 interface Drawn extends Net { example: string; }
 // A change of it: the node that it takes away, or that comes back.
 interface Renumbering { removed?: number | null; restored?: number | null; }
-type Change = "edit" | "move" | "undo" | "load";
+// A network that is loaded takes the place of another one, which it leaves first.
+type Change = "edit" | "move" | "undo" | "leave" | "load";
 
 // What is written into an address: of what isn't said, nothing.
 type State = {[Name in Exclude<keyof Values, "net">]?: Values[Name] | null} & {net?: Net | null};
 
-// The tabs. `more` is what a click elsewhere hands on; `step` is a step that is chosen on the stage.
+// The tabs. `more` is what a click elsewhere hands on, and `asked` the place that an address asks for; `step` is a step
+// that is chosen on the stage.
 interface More {
   at?: number;
+  asked?: number;
   play?: boolean;
+  welcome?: boolean;
   fresh?: boolean;
   transcript?: string;
   steps?: string[];
@@ -41,7 +45,7 @@ interface Tabs {
   check: Tab;
   pictures: Tab;
 }
-interface Hooks { show(): void; go(tab: TabName, more?: More): void; link(): void; }
+interface Hooks { show(): void; go(tab: TabName, more?: More): void; link(): void; leftOut(more: string): void; }
 
 // What is seen.
 interface Seen {
@@ -77,6 +81,9 @@ interface CallOptions {
 interface Elements {
   skip: HTMLButtonElement;
   name: HTMLElement;
+  closed: HTMLElement;
+  closedsaid: HTMLElement;
+  closedhow: HTMLElement;
   lessons: HTMLSelectElement;
   lecture: HTMLSelectElement;
   examples: HTMLSelectElement;
@@ -84,7 +91,10 @@ interface Elements {
   copy: HTMLButtonElement;
   left: HTMLElement;
   stage: HTMLElement;
+  headline: HTMLElement;
   welcome: HTMLElement;
+  story: HTMLElement;
+  replay: HTMLButtonElement;
   net: SVGSVGElement;
   second: SVGSVGElement;
   small: SVGSVGElement;
