@@ -26,6 +26,8 @@ from lab.wrong import Wrong
 NEEDED = {"acks": "its payloads are acknowledged", "safes": "its neighbours are safe"}
 NOT_NEEDED = {"acks": "acknowledgements", "safes": "safes"}
 
+OF_ROOT = "It has no parent in this forest, so its new colour is its own digit in the place i = 0 (bit step)."
+
 
 def predict(call: PredictCall, _tell: Tell) -> Predicted:
     """Whether it is right what is said of a node after a pulse; of the colouring in a forest, or in its merge."""
@@ -55,7 +57,8 @@ def of_colouring(rounds: Rounds, v: int, pulse: int, forest: int) -> tuple[str, 
     if forest not in range(rounds.forests):
         raise Wrong(f"the field forest: there is no forest {forest}")
     causes = Cone(rounds, v).causes_of_colour(v, forest, pulse)
-    why = SAY[now.phase].format(9 - pulse // 2)
+    is_root = (v, forest) not in rounds.parents
+    why = OF_ROOT if is_root and now.phase == "step" else SAY[now.phase].format(9 - pulse // 2)
     return (
         str(now.colours[v, forest]),
         f"{why} Here: {in_words([cause(rounds, *one) for one in causes])}.",

@@ -244,7 +244,7 @@ class Drawn(Page):
         self.sees("a question", "document.querySelector('#question input')")
         answer = "document.querySelector('#question input').value = {}; "
         answer += "document.querySelector('#question form').requestSubmit()"
-        for said, mark in (("3", "✗ Not 3: 2."), ("2", "✓ Yes: 2.")):
+        for said, mark in (("3", "Not yet: it isn’t 3."), ("2", "✓ Yes: 2.")):
             self.value(answer.format(said))
             self.sees(mark, f"document.getElementById('question').textContent.includes('{mark}')")
         self.click_on("#question .quiet")

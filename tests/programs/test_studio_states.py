@@ -3,18 +3,20 @@ left out and for every program: it has to be what can happen next. What can happ
 has taken a wire is read off the steps."""
 
 import itertools
+import re
 from collections import defaultdict
 from collections.abc import Iterator
 
 from lab.definitions.programs import PROGRAMS, program_at
+from lab.definitions.rounds import Rounds
 from lab.networks.network_text import network_of
 from lab.pictures.watch_page import look_of
 from lab.schedules.rules import OF_SCHEDULES
 from lab.schedules.stepwise import Stepwise
 from lab.studio.answers import Predicted
-from lab.studio.messages import WaitsCall
-from lab.studio.predictions import waited, waits
-from tests.cases import Case
+from lab.studio.messages import PredictCall, WaitsCall
+from lab.studio.predictions import predict, waited, waits
+from tests.cases import Case, examples
 
 ALONE, EDGE, ROW = "p edge 1 0\n", "p edge 2 1\ne 1 2\n", "p edge 3 2\ne 1 2\ne 2 3\n"
 # Of each network, program and set of rules so many states, the nearest to the start; and of two nodes with all rules
@@ -63,7 +65,9 @@ def said_of(player: Stepwise, v: int) -> tuple[set[str], str]:
     look = look_of(player.state, v)
     waits = {f"{what} {w}" for what, w in look.waits}
     is_last = look.pulse == player.state.nodes[v].last
-    return waits, "done" if look.done else "waits" if waits or is_last else "may"
+    if look.done:
+        return waits, "done"
+    return waits, "waits" if waits or is_last else "may"
 
 
 def taken_by(player: Stepwise) -> dict[tuple[int, str, int], set[int]]:
@@ -139,10 +143,30 @@ class States(Case):
             self.look_at("two", player, after)
 
 
+def untold(done: int = 0, of: int = 0, part: object = None) -> None:
+    """Nobody is told how far a call is."""
+
+
 class Calls(Case):
-    def waits(self, steps: str, said: str, rules: str = "safes") -> Predicted:
+    def test_roots(self) -> None:
+        """Of a node without a parent in a forest nothing is said of its parent; of the others who it is."""
+        for name in ("triangle", "petersen"):
+            text = examples()[name].decode()
+            rounds = Rounds(network_of(text.encode()))
+            for v, forest, pulse in itertools.product(
+                rounds.network.vertices, range(rounds.forests), (3, 6)
+            ):
+                parent = rounds.parents.get((v, forest))
+                call = PredictCall(network=text, vertex=v, forest=forest, pulse=pulse, said="0")
+                why = predict(call, untold).why
+                at = f"{name}: node {v} in forest {forest}, pulse {pulse}: {why}"
+                self.same(f"{at}: its parent", "its parent" in why, parent is not None)
+                named = {int(n) for n in re.findall(r"node (\d+) had", why)}
+                self.same(f"{at}: who", named, {v, parent} - {None})
+
+    def waits(self, steps: str, said: str, rules: str) -> Predicted:
         call = WaitsCall(network=EDGE, without=rules, steps=steps, vertex=1, said=said)
-        return waits(call, lambda done=0, of=0, part=None: None)
+        return waits(call, untold)
 
     def test_answers(self) -> None:
         """Without safes a node waits for none, so `nothing` is right as soon as its pulse is possible."""

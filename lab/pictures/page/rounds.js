@@ -3,7 +3,7 @@ import {FADED, HALO, blank, channelCircle, colourSquare, html, hue, inkOn, mark,
   words} from "./marks.js";
 import {nameOf} from "./stage.js";
 
-const ORIENT = 1, SEED = 2, LAST_COLOUR = 12;
+const ORIENT = 1, SEED = 2, LAST_BIT_STEP = 6, LAST_COLOUR = 12;
 // How far what lights a node up goes beyond its circle, in radiuses.
 const LIT = 0.4;
 // What the marks mean.
@@ -74,6 +74,16 @@ export class RoundsFilm {
     return [`After pulse ${p + 1}: which colour has node ${v} in forest ${forest}?`,
       p + 1 < 6 ? [] : ["0", "1", "2", "3", "4", "5"]];
   }
+  // The colours that a node compares in the next pulse, if that is a bit step; and whether the reason for what it has
+  // after a pulse has that in it.
+  /** @param {number} v @param {number} p @param {number} forest @returns {[string, Numeral][]} */
+  compared(v, p, forest) {
+    if (p < SEED || p >= LAST_BIT_STEP || !this.found.pulses[p].colours) return [];
+    const up = this.parent.get(v + " " + forest), own = /** @type {[string, Numeral]} */ ([`node ${v}`, this.colourAt(p, v, forest)]);
+    return up ? [own, [`its parent ${up}`, this.colourAt(p, up, forest)]] : [own];
+  }
+  /** @param {number} p */
+  reasonTells(p) { return Boolean(this.found.pulses[p].results || this.found.pulses[p].step); }
   // What a node has at a pulse, in words.
   /** @param {number} v @param {number} p @param {number | null} forest */
   words(v, p, forest) {

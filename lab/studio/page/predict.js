@@ -1,16 +1,20 @@
-// Predict, then look: a question on the chosen node, whose answer the server judges, with the reason.
+// Predict, then look: a question on the chosen node, whose answer the server judges, with the reason. A first answer
+// that isn't right may be mended; after the second one the right one is said.
 import {asks, by} from "./base.js";
 import {coded, html} from "./marks.js";
 
+// How many questions were asked on this page, and how many of them were answered rightly at once.
+const score = {right: 0, asked: 0};
+
 export class Question {
-  // `ask()` gives the question that there is now, {words, call, asked, picks}, or null; `look()` leads to where its
-  // answer is seen. A pick is an answer that is tapped.
-  /** @param {"question" | "question2"} id @param {() => Asked | null} ask @param {() => void} [look] */
-  constructor(id, ask, look) {
+  // `ask()` gives the question that there is now, or null; `next()` leads to the next one.
+  /** @param {"question" | "question2"} id @param {() => Asked | null} ask @param {() => void} next */
+  constructor(id, ask, next) {
     this.id = id;
     this.ask = ask;
-    this.look = look;
+    this.next = next;
     this.key = "";
+    this.tries = 0;
   }
   show() {
     const is = this.ask(), key = JSON.stringify(is);
@@ -19,34 +23,69 @@ export class Question {
     place.hidden = !is;
     if (!is || key === this.key) return;
     this.key = key;
+    this.tries = 0;
     place.replaceChildren(html("p", is.words));
-    if (is.call) place.append(this.form(is), html("p", null, {role: "status"}));
+    if (is.call) place.append(this.form(is), html("div", null, {role: "status"}));
   }
+  // Of an answer that is a list its parts are ticked.
   /** @param {OfRounds | OfWaits} is */
   form(is) {
-    const form = html("form", null, {class: "row chips"});
-    const said = html("input", null, {size: 14, "aria-label": "your answer"});
-    form.append(said, html("button", "is it so?"), ...(is.picks || []).map(pick => {
+    const form = html("form", null, {class: "row chips"}), said = html("input", null, {size: 14, "aria-label": "your answer"});
+    const boxes = (is.choices || []).map(choice => html("input", null, {type: "checkbox", value: choice}));
+    form.append(...boxes.length ? boxes.map(labelled) : [said], html("button", "is it so?"), ...(is.picks || []).map(pick => {
       const button = html("button", pick, {type: "button"});
       button.onclick = () => this.judge(is, pick);
       return button;
     }));
-    form.onsubmit = event => { event.preventDefault(); if (said.value.trim()) this.judge(is, said.value); };
+    form.onsubmit = event => {
+      event.preventDefault();
+      const ticked = boxes.filter(box => box.checked).map(box => box.value).join(", ") || "nothing";
+      const answer = boxes.length ? ticked : said.value.trim();
+      if (answer) this.judge(is, answer); else this.say("soft", ["An answer is missing."]);
+    };
     return form;
+  }
+  /** @param {string} kind @param {(string | HTMLElement)[]} parts */
+  say(kind, parts) {
+    const place = by(this.id).lastElementChild;
+    if (!place) return;
+    place.className = "verdict " + kind;
+    place.replaceChildren(...parts);
   }
   /** @param {OfRounds | OfWaits} is @param {string} said */
   judge(is, said) {
-    /** @param {Predicted} is */
+    /** @param {Predicted} answer */
     const show = ({right, found, why}) => {
-      const place = by(this.id).lastElementChild, look = html("button", "look", {type: "button", class: "quiet"});
-      if (!place) return;
-      look.onclick = this.look || null;
-      place.className = "verdict " + (right ? "good" : "bad");
-      const reason = html("span", null, {class: "soft"});
+      this.tries++;
+      if (this.tries === 1) {
+        score.asked++;
+        if (right) score.right++;
+      }
+      const reason = html("span", null, {class: "soft"}), next = html("button", "look, and the next question",
+        {type: "button", class: "quiet"});
       reason.append(...coded(why + " "));
-      place.replaceChildren(right ? `✓ Yes: ${found}. ` : `✗ Not ${said}: ${found}. `, reason, ...(this.look ? [look] : []));
+      next.onclick = this.next;
+      if (!right && this.tries === 1) return this.say("soft", notYet(is, said, is.tells ? "" : reason));
+      const verdict = right ? `✓ Yes: ${found}. ` : `✗ Not ${said}: ${found}. `;
+      this.say(right ? "good" : "bad", [verdict, reason, html("span", `${score.right} of ${score.asked} at the first try. `),
+        next]);
     };
     return is.call === "waits" ? asks("waits", {...is.asked, said}, "looking for the answer", show)
       : asks("predict", {...is.asked, said}, "looking for the answer", show);
   }
+}
+/** @param {HTMLInputElement} box */
+function labelled(box) {
+  const label = html("label", null, {class: "tick"}), [word, of] = box.value.split(" ");
+  label.append(box, ` ${word} of ${of}`);
+  return label;
+}
+// What is said of a first answer that isn't right: the numbers of which it is made, below each other.
+/** @param {OfRounds | OfWaits} is @param {string} said @param {string | HTMLElement} reason */
+function notYet({compared = []}, said, reason) {
+  const wide = Math.max(0, ...compared.map(([who]) => who.length));
+  const digits = compared.map(([, number]) => BigInt(number).toString(2));
+  const long = Math.max(0, ...digits.map(one => one.length));
+  const rows = compared.map(([who, number], k) => `${who.padEnd(wide)}  ${digits[k].padStart(long, "0")} = ${number}`);
+  return [`Not yet: it isn’t ${said}. Try once more. `, reason, rows.length ? html("pre", rows.join("\n")) : ""];
 }

@@ -16,8 +16,8 @@ const question = new Question("question", () => {
   if (!node) return {words: "Click a node: what will it have after the next pulse?"};
   const found = film.question(node, p, forest);
   if (!found) return {words: p < 1 ? "Go on to pulse 1." : "This is the last pulse."};
-  return {words: found[0], picks: found[1], call: "predict",
-    asked: {network: text(), program: programNamed(), vertex: node, pulse: p + 1, forest}};
+  return {words: found[0], picks: found[1], call: "predict", compared: film.compared(node, p, forest),
+    tells: film.reasonTells(p + 1), asked: {network: text(), program: programNamed(), vertex: node, pulse: p + 1, forest}};
 }, () => time.set(Math.floor(time.at) + 1));
 
 // How often the tab has been entered.

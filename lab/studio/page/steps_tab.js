@@ -1,8 +1,8 @@
 // The tab Adversary: whoever looks is the network, and chooses which message is taken next and which node pulses.
 import {all, announce, asks, by, go, hello, hooks, leftOutWords, programNamed, ruleBoxes, seen, show, showOptions,
   stage, tabs, toggleLazy, toggleSlow} from "./base.js";
-import {coded, html, sentence} from "./marks.js";
-import {net, text} from "./model.js";
+import {html, sentence} from "./marks.js";
+import {neighbours, net, text} from "./model.js";
 import {Question} from "./predict.js";
 import {alphaMarks, foundWords, heldEdge, lookWords, queueMarks, waitsWords} from "./run.js";
 import {nameOf} from "./stage.js";
@@ -13,9 +13,15 @@ export const steps = {made: [], found: null, without: "", predicts: false, dare:
 const question = new Question("question2", () => {
   if (!steps.predicts) return null;
   const {node} = seen, {without, made} = steps, program = programNamed();
-  if (!node) return {words: "Click a node that can’t make its pulse: what does it wait for?"};
-  return {words: `What does node ${node} wait for? As ack 2, safe 3: the word, and of whom; or nothing.`, call: "waits",
+  if (!node || !steps.found) return {words: "Click a node that can’t make its pulse: what does it wait for?"};
+  const look = steps.found.looks[node - 1], kinds = look && look.pulse < steps.found.last ? ["ack", "safe"] : ["close"];
+  const choices = neighbours(node).flatMap(w => kinds.map(kind => `${kind} ${w}`));
+  return {words: `What does node ${node} wait for? Tick it, or nothing.`, call: "waits", choices,
     asked: {network: text(), program, without, steps: made.join("_"), vertex: node}};
+}, () => {
+  // One step more, and another node.
+  seen.node = (seen.node || 0) % net.nodes.length + 1;
+  goOn({by: 1, seed: seed()});
 });
 const KEYED = 9;
 
@@ -67,7 +73,7 @@ function showAt() {
   sayWhere(is);
   question.show();
   by("dared").className = is.dare && is.dare.won ? "good" : "soft";
-  by("dared").replaceChildren(...coded(is.dare ? dareWords(is.dare) : ""));
+  showDare(is);
   listSteps(is);
   by("list").value = is.list.join("\n") + "\n";
   by("list").scrollTop = by("list").scrollHeight;
@@ -81,10 +87,20 @@ function saysOf(is, v) {
   if (steps.predicts) return `pulse ${look.pulse}`;
   return is.over ? [`pulse ${look.pulse}`, foundWords(look)].filter(Boolean).join(", ") : lookWords(look, is.last);
 }
-// How far a dare is; and of one that nobody can win that it is proved.
-/** @param {{won: boolean, said: string, impossible: string}} dare */
-function dareWords({won, said, impossible}) {
-  return `${won ? "☑ Won" : "☐ Not yet"}: ${said}.${impossible ? ` ${impossible}.` : ""}`;
+// The card of a dare: its goal, the rules that are left out, and how far it is; of one that nobody can win, that this is
+// proved. Who has won hands in the link, and who sets it as a task copies it without the steps.
+/** @param {StepsFound} is */
+function showDare(is) {
+  const card = by("dared"), {dare} = is;
+  card.hidden = !dare;
+  if (!dare) return;
+  const goal = `${dare.won ? "☑" : "☐"} I dare you to ${hello().dares[steps.dare]}.`;
+  const rules = steps.without ? `Left out: ${steps.without.split(",").join(", ")}.` : "All rules are kept.";
+  const far = `${dare.won ? "Won" : "Not yet"}: ${dare.said}.${dare.impossible ? ` ${dare.impossible}.` : ""}`;
+  const copy = html("button", dare.won ? "copy the link to hand in" : "copy this as a task", {class: dare.won ? "primary" : "quiet"});
+  copy.onclick = () => hooks.copy(copy, dare.won ? {} : {steps: []});
+  card.className = dare.won ? "card won" : "card";
+  card.replaceChildren(html("b", goal), html("p", rules, {class: "soft"}), sentence(far), copy);
 }
 // Why nothing goes on, or that all is done; what is under way then is taken by nodes that have halted.
 /** @param {StepsFound} is @returns {[string, string] | null} */
@@ -105,7 +121,8 @@ function sayWhere(is) {
   const box = by("stepsaid"), {judge} = is, n = steps.made.length, end = endWords(is);
   const lines = [html("b", n ? `${n}: ${is.said}.` : "Nothing has happened yet: choose what comes first.")];
   if (is.fault) lines.push(sentence(`✗ ${is.fault}.`, {class: "bad"}));
-  if (end) lines.push(html("p", end[0], {class: end[1]}));
+  // What a dare asks for may be what a program refuses.
+  if (end) lines.push(html("p", end[0], {class: is.dare && is.dare.won ? "soft" : end[1]}));
   if (judge) lines.push(judgement(judge, is));
   box.replaceChildren(...lines);
   announce(lines.map(line => line.textContent).join(" "));

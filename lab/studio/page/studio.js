@@ -354,13 +354,20 @@ function showPlace(place) {
   box.replaceChildren(close, html("b", `Minutes ${place.minutes}: ${place.title}`), ...textOf(place.say));
   box.hidden = false;
 }
-by("copy").onclick = async () => {
+/** @type {CopyLink} */
+hooks.copy = async (button, more = {}) => {
   link();
-  /** @param {string} words */
-  const said = words => { by("copy").textContent = words; };
-  try { await navigator.clipboard.writeText(location.href); said("copied"); } catch { said("see the address"); }
-  setTimeout(() => said("link"), 2000);
+  const words = button.textContent || "", place = "#" + written({...stateSeen(), ...more}, hello().address);
+  /** @param {string} said */
+  const say_ = said => { button.textContent = said; };
+  try { await navigator.clipboard.writeText(location.origin + location.pathname + place); say_("copied"); } catch {
+    // The address has what isn't copied.
+    location.assign(place);
+    say_("see the address");
+  }
+  setTimeout(() => say_(words), 2000);
 };
+by("copy").onclick = () => hooks.copy(by("copy"));
 // A menu has its title again once something is chosen. An arrow on a closed one opens it: it would choose at once.
 /** @param {"examples" | "lessons" | "save" | "lecture"} id @param {(value: string) => unknown} choose */
 function menu(id, choose) {

@@ -45,7 +45,9 @@ interface Tabs {
   check: Tab;
   pictures: Tab;
 }
-interface Hooks { show(): void; go(tab: TabName, more?: More): void; link(): void; leftOut(more: string): void; }
+interface Hooks { show(): void; go(tab: TabName, more?: More): void; link(): void; leftOut(more: string): void; copy: CopyLink; }
+// Copies a link to what is seen, but for what is given otherwise; the button says that it is done.
+type CopyLink = (button: HTMLButtonElement, more?: State) => Promise<void>;
 
 // What is seen.
 interface Seen {
@@ -60,10 +62,28 @@ interface Seen {
   slow: Edge[];
   lazy: number[];
 }
-// A question on a node, and the call that judges its answer, if it can be answered. A pick is an answer that is tapped.
-interface Hint { words: string; call?: undefined; picks?: undefined; }
-interface OfRounds { words: string; call: "predict"; asked: Omit<PredictCall, "said">; picks: string[]; }
-interface OfWaits { words: string; call: "waits"; asked: Omit<WaitsCall, "said">; picks?: undefined; }
+// A question on a node, and the call that judges its answer, if it can be answered. A pick is an answer that is tapped;
+// of `choices` those are ticked that are part of the answer. `compared` are the numbers of which it is made, each with
+// whose it is; `tells` says that the reason has the answer in it.
+interface Hint { words: string; call?: undefined; }
+interface OfRounds {
+  words: string;
+  call: "predict";
+  asked: Omit<PredictCall, "said">;
+  picks: string[];
+  compared: [string, Numeral][];
+  tells: boolean;
+  choices?: undefined;
+}
+interface OfWaits {
+  words: string;
+  call: "waits";
+  asked: Omit<WaitsCall, "said">;
+  choices: string[];
+  picks?: undefined;
+  compared?: undefined;
+  tells?: undefined;
+}
 type Asked = Hint | OfRounds | OfWaits;
 
 // The rules that can be left out, by their names.
