@@ -6,15 +6,20 @@ from typing import TypeVar
 
 from lab.network import Edge, Network
 from lab.pictures.palette import (
+    BAR_SIZES,
     FOREST_COLOURS,
     INK,
+    MOST_BARS,
     PAPER,
+    SQUARE_SIZES,
     WIRES,
     WRONG,
     channel_hue,
+    channel_look,
     grey,
-    is_ring,
+    ring_width,
     short,
+    size_in,
     text_on,
 )
 from lab.pictures.places import OF_CIRCLES, Places, bends, label_places, middle, moved, spaced
@@ -43,19 +48,14 @@ def channel_circle(
     svg: Svg, x: float, y: float, radius: float, channel: int, mark: str = "channel"
 ) -> None:
     """A channel: its hue, full or as a ring on white, and its number."""
-    hue = channel_hue(channel)
-    if is_ring(channel):
-        width = max(2, radius * 0.25)
-        svg.circle(x, y, radius - width / 2, PAPER, hue, round(width, 1), mark=mark)
+    look = channel_look(channel)
+    if look.is_ring:
+        width = ring_width(radius)
+        svg.circle(x, y, radius - width / 2, PAPER, look.hue, round(width, 1), mark=mark)
     else:
-        svg.circle(x, y, radius, hue, PAPER, 1, mark=mark)
-    fill = INK if is_ring(channel) else text_on(hue)
-    size = radius * (1.12 if channel < 10 else 0.92) * (0.85 if is_ring(channel) else 1)
-    svg.label(x, y + size * 0.36, channel, round(size, 1), fill)
-
-
-# The most barred channels of a vertex that are drawn; an ellipsis stands for more.
-MOST_BARS = 4
+        svg.circle(x, y, radius, look.hue, PAPER, 1, mark=mark)
+    size = radius * look.size
+    svg.label(x, y + size * 0.36, channel, round(size, 1), look.ink)
 
 
 def bars_width(channels: Collection[int], radius: float) -> float:
@@ -67,12 +67,12 @@ def bars_width(channels: Collection[int], radius: float) -> float:
 
 
 def bar_row(svg: Svg, x: float, y: float, channels: Collection[int], radius: float) -> None:
-    """The barred channels of a vertex, lowest first, to the right of a place: each in a ring of its hue, crossed
-    out."""
+    """The barred channels of a vertex, lowest first, to the right of a place: each in a ring of its hue, crossed out.
+    An ellipsis stands for those that have no room."""
     for at, channel in enumerate(list(channels)[:MOST_BARS]):
         middle_x = x + radius + at * (2 * radius + 2)
         svg.circle(middle_x, y, radius, PAPER, channel_hue(channel), 1, mark="bar")
-        size = round(radius * (1.2, 1.0, 0.8, 0.62)[len(str(channel)) - 1], 1)
+        size = round(radius * size_in(BAR_SIZES, str(channel)), 1)
         svg.label(middle_x, y + size * 0.36, channel, size)
         svg.line(
             middle_x - 0.9 * radius,
@@ -126,7 +126,7 @@ def colour_square(
         x,
         y + half * 0.37,
         text,
-        round(half * (1.1 if len(text) < 3 else 0.8), 1),
+        round(half * size_in(SQUARE_SIZES, text), 1),
         INK if opacity else ink,
     )
 

@@ -6,17 +6,7 @@ import re
 
 from lab.network import Network
 from lab.pictures.page_data import Net, NetNode, as_object
-from lab.pictures.palette import (
-    BLACK,
-    CHANNEL_HUES,
-    DARK_FILLS,
-    FOREST_COLOURS,
-    INK,
-    PALE,
-    PAPER,
-    WIRES,
-    WRONG,
-)
+from lab.pictures import palette
 from lab.pictures.places import places_of, spaced
 from lab.pictures.svg import escaped
 
@@ -29,19 +19,9 @@ WIDE, HIGH, MARGIN, RADIUS, LEAST, APART = 1000, 700, 70, 22, 9, 3
 
 
 def hues() -> str:
-    """The colours of all pictures, as the module hues.js."""
-    given = {
-        "INK": INK,
-        "BLACK": BLACK,
-        "WHITE": PAPER,
-        "WRONG": WRONG,
-        "CHANNELS": CHANNEL_HUES,
-        "FORESTS": FOREST_COLOURS,
-        "DARK": sorted(DARK_FILLS),
-        "WIRES": WIRES,
-        "PALE": PALE,
-    }
-    return "".join(f"export const {name} = {json.dumps(value)};\n" for name, value in given.items())
+    """What marks look like, as the module hues.js."""
+    given = palette.page_marks().items()
+    return "".join(f"export const {name} = {json.dumps(value)};\n" for name, value in given)
 
 
 def net_of(network: Network) -> Net:

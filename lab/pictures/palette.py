@@ -1,6 +1,9 @@
 """The colours of all pictures. Shape says which number it is (a square: a colour in one forest; a circle: a channel),
 and the number is always there too; so colour never speaks alone. The least distances under protanopia, deuteranopia and
-tritanopia (Machado's simulation) are 16 and more for any two channels, 22 and more for any two forest colours."""
+tritanopia (Machado's simulation) are 16 and more for any two channels, 22 and more for any two forest colours.
+
+What a mark looks like is decided here, for stored pictures and for pages. The pages get it as the module hues.js."""
+from typing import NamedTuple
 
 INK, SOFT, PAPER = "#1B1B1B", "#6B6B6B", "#FFFFFF"
 # Numbers on fills: INK has too little contrast on some of them.
@@ -30,6 +33,19 @@ PALE = {"payload": "#E3F0F8", "ack": "#F4F4F4", "safe": "#FBE8DC", "close": "#E4
 
 DARK_FILLS = {"#0072B2", "#444444", "#004488", "#994455"}
 
+# How large a number is: in radii of its circle, or in halves of the side of its square, by the letters that it has. The
+# last of the sizes is that of all longer numbers. In a ring a number is smaller.
+CHANNEL_SIZES, SQUARE_SIZES, BAR_SIZES = (1.12, 0.92), (1.1, 1.1, 0.8), (1.2, 1.0, 0.8, 0.62)
+IN_RING = 0.85
+# How wide a ring is: in radii, and at least.
+RING_WIDTH, LEAST_RING = 0.25, 2
+# The most barred channels of a node that are drawn.
+MOST_BARS = 4
+# A number of more digits than these is written as the number of its binary digits.
+MOST_DIGITS = 3
+# The level of grey of the darkest square, which a number of so many binary digits has, and any longer one.
+DARKEST_DIGITS = 20
+
 
 def text_on(fill: str) -> str:
     """The colour of a number on a fill."""
@@ -45,17 +61,75 @@ def is_ring(channel: int) -> bool:
     return (channel - 1) // len(CHANNEL_HUES) % 2 == 1
 
 
+# Hues and rings of channels come again after so many.
+PERIOD = 2 * len(CHANNEL_HUES)
+
+
+class ChannelLook(NamedTuple):
+    """What the circle of a channel looks like: `size` is that of its number, in radii."""
+
+    hue: str
+    is_ring: bool
+    ink: str
+    size: float
+
+
+def channel_look(channel: int) -> ChannelLook:
+    hue, is_ringed = channel_hue(channel), is_ring(channel)
+    size = size_in(CHANNEL_SIZES, str(channel)) * (IN_RING if is_ringed else 1)
+    return ChannelLook(hue, is_ringed, INK if is_ringed else text_on(hue), size)
+
+
+def size_in(sizes: tuple[float, ...], text: str) -> float:
+    """The size of a text, of which these are the sizes by its letters."""
+    return sizes[min(len(text), len(sizes)) - 1]
+
+
+def ring_width(radius: float) -> float:
+    return max(LEAST_RING, radius * RING_WIDTH)
+
+
 def digits(number: int) -> int:
     """How many binary digits a number has."""
     return max(1, number.bit_length())
 
 
 def grey(number: int) -> tuple[str, str]:
-    """The level of the square of a number that is no colour yet: the more digits, the darker."""
-    level = 235 - min(140, 7 * digits(number))
+    """The fill and the ink of the square of a number that is no colour yet: the more digits, the darker."""
+    return grey_of(digits(number))
+
+
+def grey_of(binary_digits: int) -> tuple[str, str]:
+    """The same of a number of so many binary digits."""
+    level = 235 - 7 * min(DARKEST_DIGITS, binary_digits)
     return f"#{level:02X}{level:02X}{level:02X}", BLACK if level > 120 else PAPER
 
 
 def short(number: int) -> str:
     """A number as a square has room for: `128d` is one of 128 binary digits."""
-    return str(number) if number < 1000 else f"{digits(number)}d"
+    return str(number) if number < 10**MOST_DIGITS else f"{digits(number)}d"
+
+
+def page_marks() -> dict[str, object]:
+    """What the pages' module hues.js has, by its names: `LOOKS` are those of the channels from 1 on. `HUES`, `FORESTS`
+    and `GREYS` are fills with their inks, the greys those of numbers of 0, 1, 2 and more binary digits.
+    """
+    return {
+        "INK": INK,
+        "BLACK": BLACK,
+        "WHITE": PAPER,
+        "WRONG": WRONG,
+        "WIRES": WIRES,
+        "PALE": PALE,
+        "LOOKS": [channel_look(channel)._asdict() for channel in range(1, 10 + PERIOD)],
+        "PERIOD": PERIOD,
+        "HUES": [(fill, text_on(fill)) for fill in CHANNEL_HUES],
+        "FORESTS": [(fill, text_on(fill)) for fill in FOREST_COLOURS],
+        "GREYS": [grey_of(length) for length in range(DARKEST_DIGITS + 1)],
+        "RING_WIDTH": RING_WIDTH,
+        "LEAST_RING": LEAST_RING,
+        "SQUARE_SIZES": SQUARE_SIZES,
+        "BAR_SIZES": BAR_SIZES,
+        "MOST_BARS": MOST_BARS,
+        "MOST_DIGITS": MOST_DIGITS,
+    }

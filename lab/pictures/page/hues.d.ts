@@ -1,10 +1,18 @@
-// The module that lab/pictures/pages.py makes of the colours of all pictures.
+// The module that lab/pictures/pages.py makes of what all marks look like (lab/pictures/palette.py).
 export const INK: string;
 export const BLACK: string;
 export const WHITE: string;
 export const WRONG: string;
-export const CHANNELS: string[];
-export const FORESTS: string[];
-export const DARK: string[];
 export const WIRES: Record<string, string>;
 export const PALE: Record<string, string>;
+export const LOOKS: {hue: string, is_ring: boolean, ink: string, size: number}[];
+export const PERIOD: number;
+export const HUES: [string, string][];
+export const FORESTS: [string, string][];
+export const GREYS: [string, string][];
+export const RING_WIDTH: number;
+export const LEAST_RING: number;
+export const SQUARE_SIZES: number[];
+export const BAR_SIZES: number[];
+export const MOST_BARS: number;
+export const MOST_DIGITS: number;

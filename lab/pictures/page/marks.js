@@ -1,5 +1,6 @@
 // The marks of the pictures, as light descriptions that `patch` makes into elements.
-import {BLACK, CHANNELS, DARK, FORESTS, INK, PALE, WHITE, WIRES, WRONG} from "./hues.js";
+import {BAR_SIZES, FORESTS, GREYS, HUES, INK, LEAST_RING, LOOKS, MOST_DIGITS, PALE, PERIOD, RING_WIDTH, SQUARE_SIZES,
+  WHITE, WIRES, WRONG} from "./hues.js";
 
 const SVG = "http://www.w3.org/2000/svg", LEAST_SIZE = 8, MOST_LETTERS = 13;
 // `inside` is a text or a list of marks.
@@ -74,19 +75,26 @@ export function row(name, cells) {
   cells.forEach(words => line.append(html(name, words)));
   return line;
 }
-/** @param {string} fill */
-export function inkOn(fill) { return DARK.includes(fill) ? WHITE : BLACK; }
+// What a channel looks like: its hue, whether it is a ring, and the ink and the size of its number. The looks of channels
+// come again.
 /** @param {number} channel */
-export function hue(channel) { return CHANNELS[(channel - 1) % 8]; }
-/** @param {number} channel */
-function isRing(channel) { return Math.floor((channel - 1) / 8) % 2 === 1; }
+function lookOf(channel) {
+  const more = Math.max(0, channel - LOOKS.length);
+  return LOOKS[channel - 1 - Math.ceil(more / PERIOD) * PERIOD];
+}
+// The fill and the ink of a disc of a colour from 0.
+/** @param {number} colour */
+export function discOf(colour) { return HUES[colour % HUES.length]; }
+// The size of a text, of which these are the sizes by its letters: the last one is that of all longer texts.
+/** @param {number[]} sizes @param {string} said */
+function sizeIn(sizes, said) { return sizes[Math.min(said.length, sizes.length) - 1]; }
 /** @param {Numeral} number */
 function digitsOf(number) { return BigInt(number).toString(2).length; }
 // A number as a mark has room for: 128d is one of 128 binary digits.
 /** @param {Numeral} number */
 export function short(number) {
   const words = String(number);
-  return words.length < 4 ? words : digitsOf(words) + "d";
+  return words.length > MOST_DIGITS ? digitsOf(words) + "d" : words;
 }
 /** @param {number} x @param {number} y @param {number} wanted @param {string} fill @param {string | number} said @param {Attributes} more */
 export function words(x, y, wanted, fill, said, more = {}) {
@@ -106,24 +114,16 @@ export const HALO = {"paint-order": "stroke", stroke: "var(--paper)", "stroke-wi
 // A channel: its hue, full or as a ring, and its number.
 /** @param {number} x @param {number} y @param {number} r @param {number} channel @returns {Marks} */
 export function channelCircle(x, y, r, channel) {
-  const fill = hue(channel), ring = isRing(channel), wide = Math.max(2, r * 0.25);
-  const size = r * (channel < 10 ? 1.12 : 0.92) * (ring ? 0.85 : 1);
-  return [ring && mark("circle", {cx: x, cy: y, r: r - wide / 2, fill: WHITE, stroke: fill, "stroke-width": wide}),
-    mark("circle", {cx: x, cy: y, r, fill: ring ? "none" : fill, stroke: "var(--rim)"}),
-    words(x, y, size, ring ? BLACK : inkOn(fill), channel, BOLD)];
+  const {hue, is_ring: isRing, ink, size} = lookOf(channel), wide = Math.max(LEAST_RING, r * RING_WIDTH);
+  return [isRing && mark("circle", {cx: x, cy: y, r: r - wide / 2, fill: WHITE, stroke: hue, "stroke-width": wide}),
+    mark("circle", {cx: x, cy: y, r, fill: isRing ? "none" : hue, stroke: "var(--rim)"}),
+    words(x, y, r * size, ink, channel, BOLD)];
 }
 // A colour of 0 to 5 in a forest, or in grey a number that is none yet.
 /** @param {number} x @param {number} y @param {number} half @param {Numeral} colour @param {boolean} isColour @returns {Marks} */
 export function colourSquare(x, y, half, colour, isColour) {
-  const said = isColour ? String(colour) : short(colour);
-  let fill = FORESTS[Number(colour)], ink, size = half * 1.12;
-  if (isColour) ink = inkOn(fill);
-  else {
-    const level = 235 - Math.min(140, 7 * digitsOf(colour));
-    fill = `rgb(${level},${level},${level})`;
-    ink = level > 120 ? BLACK : WHITE;
-    size = half * (said.length < 3 ? 1 : 0.8);
-  }
+  const said = isColour ? String(colour) : short(colour), size = half * sizeIn(SQUARE_SIZES, said);
+  const [fill, ink] = isColour ? FORESTS[Number(colour)] : GREYS[Math.min(digitsOf(colour), GREYS.length - 1)];
   // What is as wide as its square is set closer.
   const close = said.length > 3 ? {textLength: 1.7 * half, lengthAdjust: "spacingAndGlyphs"} : {};
   return [mark("rect", {x: x - half, y: y - half, width: 2 * half, height: 2 * half, rx: half * 0.25, fill,
@@ -136,9 +136,9 @@ export function blank(x, y, r, said) {
 }
 /** @param {number} x @param {number} y @param {number} r @param {number} channel @returns {Marks} */
 export function barMark(x, y, r, channel) {
-  return [mark("circle", {cx: x, cy: y, r, fill: WHITE, stroke: hue(channel)}),
+  return [mark("circle", {cx: x, cy: y, r, fill: WHITE, stroke: lookOf(channel).hue}),
     mark("line", {x1: x - 0.9 * r, y1: y + 0.9 * r, x2: x + 0.9 * r, y2: y - 0.9 * r, stroke: WRONG,
-      "stroke-width": 1.5}), words(x, y, r * 1.2, BLACK, channel, BOLD)];
+      "stroke-width": 1.5}), words(x, y, r * sizeIn(BAR_SIZES, String(channel)), INK, channel, BOLD)];
 }
 /** @param {string} said @param {number} size */
 export function pillWidth(said, size) { return said.length * size * 0.62 + 9; }

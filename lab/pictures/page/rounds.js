@@ -1,5 +1,5 @@
 // The rounds of a network, pulse by pulse, by what lab/ has worked out.
-import {FADED, HALO, blank, channelCircle, colourSquare, html, hue, inkOn, mark, pill, pillWidth, resultWords, short,
+import {FADED, HALO, blank, channelCircle, colourSquare, discOf, html, mark, pill, pillWidth, resultWords, short,
   words} from "./marks.js";
 import {nameOf} from "./stage.js";
 
@@ -118,8 +118,9 @@ export class RoundsFilm {
   resultMarks(stage, pulse, v, x, y, r) {
     const [colour] = pulse.drawn[v] || [null];
     if (this.channels) return channelCircle(x, y, r, Number(colour) + 1);
-    const disc = colour === null ? blank(x, y, r, v) : [mark("circle", {cx: x, cy: y, r, fill: hue(colour + 1),
-      stroke: "var(--ink)", class: "found-colour"}), words(x, y, r * 0.9, inkOn(hue(colour + 1)), v)];
+    const [fill, ink] = discOf(colour || 0);
+    const disc = colour === null ? blank(x, y, r, v) : [mark("circle", {cx: x, cy: y, r, fill,
+      stroke: "var(--ink)", class: "found-colour"}), words(x, y, r * 0.9, ink, v)];
     return [...disc, ...resultWords(x, y + r + 12, Math.min(11.5, r), pulse.results[v - 1], stage.least)];
   }
   // The colour of a node in a forest after one of the pulses 2 to 12.

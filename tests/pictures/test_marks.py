@@ -1,0 +1,85 @@
+"""One mark looks the same in a stored picture and on a page: its fill, its ink, its ring and the size of its number.
+The page's own module draws it, if node is installed."""
+
+import json
+import shutil
+from collections.abc import Callable, Sequence
+
+from lab.pictures import pages
+from lab.pictures.marks import bar_row, channel_circle, colour_square
+from lab.pictures.svg import Svg
+from tests.cases import Case, called
+from tests.pictures.marks import SVG, number, parsed
+from tests.tools import need
+
+# So large that no number is written larger than its mark asks for, which it would be to be read.
+RADIUS = 40.0
+CHANNELS = [*range(1, 44), 99, 100, 999, 1000, 2048]
+COLOURS = range(6)
+NUMBERS = [0, 9, 10, 99, 100, 999, 1000, *(2**n for n in (10, 15, 16, 17, 19, 20, 21, 64, 127))]
+DRAW = """\
+import {readFileSync} from "node:fs";
+import {barMark, channelCircle, colourSquare} from "./marks.mjs";
+const {r, channels, colours, numbers} = JSON.parse(readFileSync(0));
+const flat = list => list.filter(Boolean).map(({name, attributes, inside}) => ({name, ...attributes, inside}));
+console.log(JSON.stringify({channels: channels.map(one => flat(channelCircle(0, 0, r, one))),
+  bars: channels.map(one => flat(barMark(0, 0, r, one))),
+  colours: colours.map(one => flat(colourSquare(0, 0, r, one, true))),
+  numbers: numbers.map(one => flat(colourSquare(0, 0, r, one, false)))}));
+"""
+# What is compared of a mark: its fill and its ring, and what is written in it, in which ink and how large.
+Shown = tuple[str, str, float, str, str, float]
+
+
+def of_page(parts: list[dict]) -> Shown:
+    """Of a mark of the page: a ring lies below an empty circle."""
+    shape, text = parts[0], parts[-1]
+    is_ring = shape["name"] == "circle" and shape["fill"] == "#FFFFFF"
+    ring = (shape["stroke"], float(shape.get("stroke-width", 1))) if is_ring else ("", 0.0)
+    size = float(text["font-size"])
+    return (shape["fill"].upper(), *ring, text["inside"], text["fill"], size)
+
+
+def of_picture(svg: Svg) -> Shown:
+    root = parsed(f"<g>{''.join(svg.parts)}</g>")
+    shape = next(one for one in root.iter() if one.get("class") in ("channel", "colour", "bar"))
+    text = list(root.iter(f"{SVG}text"))[-1]
+    is_ring = shape.tag == f"{SVG}circle" and shape.get("fill") == "#FFFFFF"
+    ring = (shape.get("stroke"), number(shape, "stroke-width")) if is_ring else ("", 0.0)
+    size = number(text, "font-size")
+    return (shape.get("fill").upper(), *ring, text.text, text.get("fill"), size)
+
+
+class Marks(Case):
+    is_one_row = True
+
+    def drawn(self) -> dict[str, list[list[dict]]]:
+        """What the page's module draws."""
+        need(self, "node")
+        for name, words in (("hues", pages.hues()), ("marks", pages.text_of("marks.js"))):
+            self.file(f"{name}.mjs", words.replace('"./hues.js"', '"./hues.mjs"'))
+        numbers = [str(one) for one in NUMBERS]
+        asked = {"r": RADIUS, "channels": CHANNELS, "colours": list(COLOURS), "numbers": numbers}
+        program, node = self.file("draw.mjs", DRAW), shutil.which("node")
+        status, out, errors = called(node, program, data=json.dumps(asked).encode())
+        self.assertEqual((status, errors), (0, b""))
+        found: dict[str, list[list[dict]]] = json.loads(out)
+        return found
+
+    def test_pages_draw_as_pictures_do(self) -> None:
+        drawn = self.drawn()
+        draws: dict[str, tuple[Sequence[int], Callable[[Svg, int], None]]] = {
+            "channels": (CHANNELS, lambda svg, one: channel_circle(svg, 0, 0, RADIUS, one)),
+            "bars": (CHANNELS, lambda svg, one: bar_row(svg, 0, 0, [one], RADIUS)),
+            "colours": (COLOURS, lambda svg, one: colour_square(svg, 0, 0, RADIUS, one)),
+            "numbers": (
+                NUMBERS,
+                lambda svg, one: colour_square(svg, 0, 0, RADIUS, one, is_name=True),
+            ),
+        }
+        for kind, (values, draw) in draws.items():
+            for value, parts in zip(values, drawn[kind], strict=True):
+                svg = Svg(100, 100, "")
+                draw(svg, value)
+                with self.subTest(f"{kind} {value}"):
+                    self.assertEqual(of_page(parts), of_picture(svg))
