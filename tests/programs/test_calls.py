@@ -7,7 +7,7 @@ import os
 from unittest import mock
 
 from lab.definitions.nodes import Colouring
-from lab.studio import building, limits, runs
+from lab.studio import limits, runs
 from lab.studio.asked import OPENED
 from lab.studio.calls import CALLS
 from lab.studio.fields import fields_of, object_of
@@ -135,7 +135,7 @@ class Calls(FilesCase):
 
     def setUp(self):
         # No button is pressed, and nothing is built.
-        self.enterContext(mock.patch.object(building.shutil, "which", lambda name: None))
+        self.enterContext(mock.patch("shutil.which", lambda name: None))
         self.enterContext(mock.patch.object(OPENED, "is_proved", False))
 
     def outcome(self, name, body):
