@@ -281,6 +281,8 @@ class Opening(Page):
         self.sees(
             "the centre is chosen, with its identifier", f"{field} && studio.net.name === 'star'"
         )
+        near = "studio.net.edges.filter(edge => edge.includes(studio.seen.node)).length"
+        self.reads("which has all others as neighbours", near, 8)
         self.reads("the lesson stays", "studio.seen.lesson", 2)
 
     def test_impossible_dares(self) -> None:
