@@ -74,7 +74,8 @@ export function timeAt() { return Math.round(time.at * 100) / 100; }
 // What an address asks for after the end is the end, and is said.
 /** @param {More} more @param {number} last @param {string} what */
 export function sayLast({asked = 0}, last, what) {
-  if (asked > last) hooks.leftOut(`at=${asked} (the last ${what} is ${last.toLocaleString("en")})`);
+  const end = `at=${asked} is after the end: the last ${what} is ${last.toLocaleString("en")}.`;
+  if (asked > last) wrong([by("wrong").textContent, end].filter(Boolean).join(" "));
 }
 // What a screen reader says: at most once a second, and nothing while it plays.
 let announcing = 0, announced = 0;

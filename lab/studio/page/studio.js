@@ -271,13 +271,6 @@ function welcome() {
   const play = matchMedia("(prefers-reduced-motion: reduce)").matches ? "at=48" : "play=1";
   return follow(`#example=petersen&tab=rounds&${play}`, {welcome: true});
 }
-// What of an address is left out, and why.
-let unread = "";
-/** @param {string} more */
-hooks.leftOut = more => {
-  unread = [unread, more].filter(Boolean).join(", ");
-  if (unread) wrong(`This can’t be read in the address, and is left out: ${unread}.`);
-};
 // An address that says nothing leads to the first screen, or to the network of the command line.
 /** @param {string} place @param {More} more @returns {Promise<void>} */
 async function follow(place = location.hash, more = {}) {
@@ -289,7 +282,7 @@ async function follow(place = location.hash, more = {}) {
   isFollowing = true;
   /** @type {Values} */
   let given = {};
-  unread = "";
+  let unread = "";
   const isRead = await tried("address", "opening", async () => {
     const got = await call("address", {place: place.slice(1), nodes: net.nodes.length, edges: net.edges});
     // Another address has been followed since.
@@ -303,7 +296,8 @@ async function follow(place = location.hash, more = {}) {
   // Of an address that can't be read the fault is said, and the page stays as it was.
   const why = Array.from(by("wrong").childNodes);
   if (isRead || !isEntered) enter({...more, play: given.play, asked: given.at});
-  if (isRead) hooks.leftOut(""); else by("wrong").replaceChildren(...why);
+  if (!isRead) by("wrong").replaceChildren(...why);
+  else if (unread) wrong(`This can’t be read in the address, and is left out: ${unread}.`);
 }
 // Shows what an address says: each value is of its kind, or isn't there.
 /** @param {FoundAddress} found @param {Values} given */

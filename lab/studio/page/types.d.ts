@@ -45,7 +45,7 @@ interface Tabs {
   check: Tab;
   pictures: Tab;
 }
-interface Hooks { show(): void; go(tab: TabName, more?: More): void; link(): void; leftOut(more: string): void; copy: CopyLink; }
+interface Hooks { show(): void; go(tab: TabName, more?: More): void; link(): void; copy: CopyLink; }
 // Copies a link to what is seen, but for what is given otherwise; the button says that it is done.
 type CopyLink = (button: HTMLButtonElement, more?: State) => Promise<void>;
 
