@@ -321,7 +321,9 @@ class Answers(Server):
         """A file is read by what is stated of it, and what isn't is asked."""
         table = "a,b\nOslo,Ulm\n"
         asked = self.opened("x.txt", table)["answer"]
-        self.same("its form is asked", len(asked["choices"]), 3)
+        forms = [choice["stated"] for choice in asked["choices"]]
+        wanted = [["--as", form] for form in ("pairs", "edges", "adjacency", "dimacs")]
+        self.same("its form is asked", forms, wanted)
         asked = self.opened("x.txt", table, *asked["choices"][0]["stated"])["answer"]
         self.same("its columns are asked", asked["titles"], ["a", "b"])
         words = ("--as", "pairs", "--columns", '"source=a","target=b"')
