@@ -46,11 +46,13 @@ class NetNode:
 
 @dataclass(frozen=True)
 class Net:
-    """A network: its edges (v, w) count nodes from 1, the lower node first, and ascend."""
+    """A network: its edges (v, w) count nodes from 1, the lower node first, and ascend. `bends` says of each edge how
+    far it is bent, as places.py does, in the measure of the nodes' places."""
 
     name: str
     nodes: Sequence[NetNode]
     edges: Collection[Edge]
+    bends: Sequence[float]
 
 
 @dataclass(frozen=True)

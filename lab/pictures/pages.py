@@ -7,7 +7,7 @@ import re
 from lab.network import Network
 from lab.pictures.page_data import Net, NetNode, as_object
 from lab.pictures import palette
-from lab.pictures.places import places_of, spaced
+from lab.pictures.places import page_bends, places_of, spaced
 from lab.pictures.svg import escaped
 
 FOLDER = os.path.join(os.path.dirname(os.path.abspath(__file__)), "page")
@@ -42,7 +42,7 @@ def net_of(network: Network) -> Net:
         )
         for v in network.vertices
     ]
-    return Net(network.name, nodes, network.edges)
+    return Net(network.name, nodes, network.edges, page_bends(places, network.edges))
 
 
 def text_of(name: str) -> str:

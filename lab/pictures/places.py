@@ -1,5 +1,6 @@
 """Where the vertices of a network are drawn: at given places, on a circle, or laid out by the edges (layout.py)."""
 from collections.abc import Callable, Collection, Iterable, Iterator
+from itertools import combinations
 from math import cos, inf, pi, sin, sqrt
 
 from lab.network import Edge, Network
@@ -132,6 +133,27 @@ def bends(places: Places, edges: Collection[Edge], radius: float) -> dict[Edge, 
         )
         found[a, b] = 0.75 * radius + 0.045 * length if is_near else 0
     return found
+
+
+# On a page circles have at most this part of its width as their radius, and two nodes are at least so many radii apart.
+PART_OF_PAGE, APART_ON_PAGE = 1 / 16, 2.9
+# Of networks with more pairs than these of two nodes, or of an edge and a node, no edge is bent on a page: to look for
+# bends would take seconds.
+MOST_LOOKED_AT = 1_000_000
+
+
+def page_radius(places: Places) -> float:
+    """The largest radius, in the measure of the places, that a page's circles have, however large its stage is."""
+    gaps = [gap(places[v], places[w]) for v, w in combinations(places, 2)]
+    return min(min(gaps, default=0) / APART_ON_PAGE, max(extent(places)) * PART_OF_PAGE)
+
+
+def page_bends(places: Places, edges: Collection[Edge]) -> list[float]:
+    """How far each edge is bent on a page: edge by edge, so that it passes no third node too near on any stage."""
+    if not edges or len(places) * max(len(places), len(edges)) > MOST_LOOKED_AT:
+        return [0] * len(edges)
+    found = bends(places, edges, page_radius(places))
+    return [round(found[edge], 1) for edge in edges]
 
 
 def middle(places: Places, bend: dict[Edge, float], a: int, b: int) -> Point:

@@ -162,6 +162,13 @@ class FileUnsaid:
 
 
 @dataclass(frozen=True)
+class Bends:
+    """How far each edge of a network is bent, as a network has it, too."""
+
+    bends: Sequence[float]
+
+
+@dataclass(frozen=True)
 class PlanFound:
     """The plan of a network, and what the network comes to."""
 

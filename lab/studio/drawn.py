@@ -10,6 +10,7 @@ from urllib.parse import unquote_to_bytes
 from lab.networks.fields import shown
 from lab.networks.network_text import MAX_CHANNEL
 from lab.pictures.page_data import Net, NetNode
+from lab.pictures.places import page_bends
 from lab.wrong import Wrong
 
 PLACE = re.compile(r"(-?[0-9]{1,6})\.(-?[0-9]{1,6})")
@@ -38,7 +39,8 @@ class Drawn:
 
     def for_page(self) -> Net:
         nodes = [NetNode(one.x, one.y, one.id, one.name, one.bars) for one in self.nodes]
-        return Net("", nodes, self.edges)
+        places = {v: (float(one.x), float(one.y)) for v, one in enumerate(self.nodes, 1)}
+        return Net("", nodes, self.edges, page_bends(places, self.edges))
 
     def text(self) -> str:
         """In the DIMACS format, without places and names."""

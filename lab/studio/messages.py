@@ -101,6 +101,11 @@ class TidyCall(OfNetwork):
 
 
 @dataclass(frozen=True, kw_only=True)
+class BendsCall(OfNetwork):
+    """Asks how far the edges are bent, after a change or when a node is let go."""
+
+
+@dataclass(frozen=True, kw_only=True)
 class PlanCall(OfNetwork):
     """Asks for the plan of a network."""
 

@@ -16,12 +16,13 @@ from lab.networks.stated import BY_MARK, COMPRESSED, Unsaid, form_of
 from lab.networks.texts import text_of
 from lab.pictures.page_data import Net
 from lab.pictures.pages import net_of
-from lab.pictures.places import places_of
+from lab.pictures.places import page_bends, places_of
 from lab.programs import TOP
 from lab.schedules.policies import POLICIES
 from lab.schedules.rules import OF_PROGRAMS, OF_SCHEDULES, Rule
 from lab.studio.address import Address, Here, NAMES, lesson_opened, pairs_of, read_values
 from lab.studio.answers import (
+    Bends,
     Choice,
     FileRead,
     FileUnsaid,
@@ -35,7 +36,15 @@ from lab.studio.asked import MOST_DRAWN, OPENED, network_asked
 from lab.studio.dares import DARES
 from lab.studio.drawn import drawn_of
 from lab.studio.lessons import lecture, lessons
-from lab.studio.messages import AddressCall, ExampleCall, HelloCall, MakeCall, ReadCall, TidyCall
+from lab.studio.messages import (
+    BendsCall,
+    AddressCall,
+    ExampleCall,
+    HelloCall,
+    MakeCall,
+    ReadCall,
+    TidyCall,
+)
 from lab.studio.telling import Tell
 from lab.wrong import Wrong
 
@@ -147,7 +156,7 @@ def file_read(call: ReadCall, _tell: Tell) -> FileRead | FileUnsaid:
         form = form_of(name, name, stated)
         network, said = read_any(call.data, name, form, stated)
         net = shown(network)
-        return FileRead(net.name, net.nodes, net.edges, said)
+        return FileRead(net.name, net.nodes, net.edges, net.bends, said)
     except Unsaid as why:
         choices = [Choice(words, means) for words, means in why.choices]
         return FileUnsaid(str(why), choices, why.wanted, why.titles)
@@ -204,6 +213,12 @@ def by_shape(kind: str, nodes: int, *_: int) -> dict[int, tuple[float, float]]:
         k + 1: (wide - 1 - column if row % 2 else column, ROW_APART * row)
         for k, (row, column) in enumerate(rows)
     }
+
+
+def bent(call: BendsCall, _tell: Tell) -> Bends:
+    """The bends of a network whose nodes are where the page has them."""
+    network = network_asked(call)
+    return Bends(page_bends(places_of(network), network.edges))
 
 
 def tidy(call: TidyCall, _tell: Tell) -> Net:

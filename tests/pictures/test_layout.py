@@ -5,6 +5,8 @@ from itertools import combinations, product
 
 from lab.networks.named import network_bytes
 from lab.networks.network_text import network_of
+from lab.pictures.pages import net_of
+from lab.pictures.places import Places, page_bends
 from lab.schedules import rules
 from tests.cases import examples
 from tests.pictures.base import BARRED, PictureCase, transcript
@@ -83,6 +85,26 @@ def overlaps(pairs, most):
         for (one, shape), (other, beneath) in pairs
         if depth(shape, beneath) > most
     ]
+
+
+class Bends(PictureCase):
+    def test_bends_of_pages(self):
+        """By hand: circles have at most 200 / 16 = 12.5 as their radius. An edge of length 200 that passes a third node
+        nearer than that is bent by 0.75 * 12.5 + 0.045 * 200; one that passes at 60, by nothing."""
+        edges = [(1, 2), (1, 3), (2, 3)]
+        for y, bend in ((100, 18.4), (106, 18.4), (160, 0)):
+            places: Places = {1: (100, 100), 2: (200, y), 3: (300, 100)}
+            self.same(f"node 2 at {y}", page_bends(places, edges), [0, bend, 0])
+        self.same("no node", page_bends({}, []), [])
+        crowd: Places = {v: (v, 0) for v in range(1, 1003)}
+        far = [(1, v) for v in range(3, 1003)]
+        self.same("too many edges to look at", page_bends(crowd, far), [0] * 1000)
+        self.same("too many nodes to look at", page_bends(crowd, [(1, 3)]), [0])
+
+    def test_a_network_has_its_bends(self):
+        """The data of a page: in its box of 1,000 by 700 the row is 860 wide, so 0.75 * 860 / 16 + 0.045 * 860."""
+        row = b"c at 1 0 0\nc at 2 1 0\nc at 3 2 0\np edge 3 3\ne 1 2\ne 1 3\ne 2 3\n"
+        self.same("a row", net_of(network_of(row)).bends, [0, 79, 0])
 
 
 class Layout(PictureCase):

@@ -12,6 +12,7 @@ interface Net {
   name: string;
   nodes: NetNode[];
   edges: [number, number][];
+  bends: number[];
 }
 
 interface AnyPulse {

@@ -1,4 +1,5 @@
 // A picture of a network: where things are on the screen, what is drawn, and what is under the pointer.
+import {MOST_BARS} from "./hues.js";
 import {HALO, barMark, mark, patch, words} from "./marks.js";
 
 const LARGEST = 22, RING = 7, LETTERS = new Intl.Segmenter(), TURNS = /[\u0590-\u08FF\u200F\u202A-\u202E\u2066-\u2069]/;
@@ -127,12 +128,12 @@ export class Stage {
   /** @param {number} v @returns {number[]} */
   near(v) { return this.close[v - 1] || []; }
 
-  // Edges that pass a third node too near are bent, as lab/pictures/places.py bends them.
+  // Edges that pass a third node too near are bent, as the network's data say.
   measure() {
-    const {nodes, edges} = this.net;
+    const {nodes, edges, bends} = this.net;
     // While a node is dragged the edges keep their bends, and the labels their sides.
     if (this.isDragged()) { this.still = []; return; }
-    const now = JSON.stringify([nodes.map(n => [n.x, n.y]), edges, this.to, this.wide, this.apart]);
+    const now = JSON.stringify([nodes.map(n => [n.x, n.y]), edges, bends, this.to, this.wide, this.apart]);
     if (now === this.key) return;
     this.still = [];
     this.key = now;
@@ -149,20 +150,10 @@ export class Stage {
     // Numbers have room if there is any, rather than wires.
     const room = Math.max(least / this.apart, Math.min(8, least / 2.4));
     this.radius = Math.max(5, Math.min(LARGEST, this.wide / 16, room));
-    this.bends = new Map(edges.map(([a, b]) => [a + " " + b, this.bendOf(a - 1, b - 1, xs, ys)]));
+    this.bends = new Map(edges.map(([a, b], k) => [a + " " + b, (bends[k] || 0) * this.to.scale]));
   }
   isDragged() {
     return this.dragged > 0 && this.groups.length === this.net.nodes.length && this.lines.length === this.net.edges.length;
-  }
-  /** @param {number} a @param {number} b @param {number[]} xs @param {number[]} ys */
-  bendOf(a, b, xs, ys) {
-    const dx = xs[b] - xs[a], dy = ys[b] - ys[a], length = Math.hypot(dx, dy) || 1;
-    const near = xs.some((_, v) => {
-      const on = (xs[v] - xs[a]) * dx + (ys[v] - ys[a]) * dy;
-      const off = Math.abs((xs[v] - xs[a]) * dy - (ys[v] - ys[a]) * dx) / length;
-      return v !== a && v !== b && on > 0 && on < length * length && off < this.radius + 2;
-    });
-    return near ? 0.75 * this.radius + 0.045 * length : 0;
   }
   /** @param {number} a @param {number} b */
   bend(a, b) { return this.bends.get(Math.min(a, b) + " " + Math.max(a, b)) || 0; }
@@ -316,9 +307,9 @@ export class Stage {
     /** @type {Marks} */
     const parts = [colour && mark("circle", {cx: x, cy: y, r: r + RING - 2, fill: "none", stroke: colour, "stroke-width": 4}),
       ...node(v, x, y, r), words(...this.outside(v, spot, said.length * size * 0.3, size), size, "var(--soft)", said, HALO)];
-    if (bars) own.slice(0, 4).forEach((bar, n) => parts.push(...barMark(x + r + 8 + n * 19, y + r + 5, 9, bar)));
-    const more = `+${own.length - 4}`;
-    if (bars && own.length > 4) parts.push(words(x + r + 90, y + r + 5, 11, "var(--wrong)", more, HALO));
+    if (bars) own.slice(0, MOST_BARS).forEach((bar, n) => parts.push(...barMark(x + r + 8 + n * 19, y + r + 5, 9, bar)));
+    const more = `+${own.length - MOST_BARS}`;
+    if (bars && own.length > MOST_BARS) parts.push(words(x + r + 90, y + r + 5, 11, "var(--wrong)", more, HALO));
     return mark("g", {class: "node", tabindex: 0, role: "button", "data-node": v, "aria-label": [`node ${said || v}`, says(v)].filter(Boolean).join(": ")},
       parts);
   }

@@ -113,6 +113,10 @@ interface FileUnsaid {
   titles: string[];
 }
 
+interface Bends {
+  bends: number[];
+}
+
 interface PlanFound {
   plan: number[];
   allowed: number;
@@ -271,6 +275,8 @@ interface MakeCall {
 
 interface TidyCall extends OfNetwork {}
 
+interface BendsCall extends OfNetwork {}
+
 interface PlanCall extends OfNetwork {}
 
 interface CheckCall extends OfNetwork {
@@ -343,6 +349,7 @@ interface Asks {
   read: ReadCall;
   make: MakeCall;
   tidy: TidyCall;
+  bends: BendsCall;
   plan: PlanCall;
   check: CheckCall;
   rounds: RoundsCall;
@@ -367,6 +374,7 @@ interface Answers {
   read: FileRead | FileUnsaid;
   make: Net;
   tidy: Net;
+  bends: Bends;
   plan: PlanFound;
   check: GoodPlan | BadPlan;
   rounds: RoundsFound;

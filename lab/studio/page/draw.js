@@ -58,6 +58,21 @@ export function askPlan() {
   }), 40);
 }
 
+// Asks how the edges are bent, a moment after the last change: while a node is dragged they keep their bends.
+let bending = 0;
+model.onChange(what => {
+  clearTimeout(bending);
+  cancel("bends");
+  if (what !== "load" && net.edges.length) bending = setTimeout(askBends, 40);
+});
+async function askBends() {
+  // Of a network that is refused the plan says why.
+  const got = await call("bends", {network: text()}).catch(() => null);
+  if (!got) return;
+  net.bends = got.bends;
+  show();
+}
+
 /** @param {HTMLElement} box */
 function fieldsOf(box) { return Array.from(box.getElementsByTagName("input")); }
 // The chosen node or edge.
