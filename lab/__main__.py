@@ -3,6 +3,7 @@ traceback is in door.py."""
 import importlib
 import os
 import sys
+from collections.abc import Callable
 
 LEAST_PYTHON = (3, 10)
 # The module of each command, whose `main` takes the words after the command and returns the status, and its line of
@@ -59,8 +60,10 @@ isn't right; 2 the command line is refused; 130 stopped by Ctrl-C.
 """
 
 
-def main():
-    # This file alone is read by a Python that is too old.
+# A Python that is too old reads this file alone, so hints that it doesn't know are in quotes.
+
+
+def main() -> int:
     if sys.version_info < LEAST_PYTHON:
         return refused(
             f"Python {'.'.join(map(str, LEAST_PYTHON))} or later is needed, and python3 is "
@@ -68,18 +71,23 @@ def main():
         )
     # Run as a folder, its own place comes first where modules are looked for; the package's is one above.
     sys.path[0] = os.path.dirname(os.path.dirname(os.path.realpath(__file__)))
-    name, words = sys.argv[1] if len(sys.argv) > 1 else "", sys.argv[2:]
+    name = sys.argv[1] if len(sys.argv) > 1 else ""
+    arguments = sys.argv[2:]
     door = importlib.import_module("lab.door")
     # What a file of the user's does mustn't end this command, nor its status.
-    calls_a_file = name != "studio" and any(word.endswith(".py") for word in words)
+    calls_a_file = name != "studio" and any(word.endswith(".py") for word in arguments)
     run = door.run_apart if calls_a_file else door.run
-    return run(name if name in COMMANDS else "forestlab", lambda: command_of(name, words))
+    status: int = run(
+        name if name in COMMANDS else "forestlab", lambda: command_of(name, arguments)
+    )
+    return status
 
 
-def command_of(name, words):
-    """The command of this name with its words: a function that returns the status."""
-    if name == "--version" or name in COMMANDS and words == ["--version"]:
-        return importlib.import_module("lab.version").main
+def command_of(name: str, arguments: "list[str]") -> "Callable[[], int]":
+    """The command of this name with its arguments: a function that returns the status."""
+    if name == "--version" or name in COMMANDS and arguments == ["--version"]:
+        version: "Callable[[], int]" = importlib.import_module("lab.version").main
+        return version
     if name in ("-h", "--help"):
         return help_text
     # The script `forestplan` asks for `progress`.
@@ -92,16 +100,16 @@ def command_of(name, words):
             f"{name} isn't in this folder of a class; your teacher's folder has it, and "
             "docs/pictures the lessons' pictures"
         )
-    main = importlib.import_module(module).main
-    return lambda: main(words)
+    command: "Callable[[list[str]], int]" = importlib.import_module(module).main
+    return lambda: command(arguments)
 
 
-def is_there(module):
+def is_there(module: str) -> bool:
     """Whether this folder has a module: that of a class lacks those that solve its assignment."""
     return os.path.isfile(os.path.join(sys.path[0], *module.split(".")) + ".py")
 
 
-def help_text():
+def help_text() -> int:
     lines = []
     for reader, commands in READERS.items():
         found = [
@@ -112,7 +120,7 @@ def help_text():
     return 0
 
 
-def refused(what):
+def refused(what: str) -> int:
     print(f"forestlab: {what}", file=sys.stderr)
     return 2
 

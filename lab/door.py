@@ -9,6 +9,9 @@ import os
 import signal
 import sys
 import traceback
+from collections.abc import Callable, Iterator
+from types import FrameType
+from typing import NoReturn
 
 from lab.wrong import Wrong
 
@@ -16,9 +19,11 @@ from lab.wrong import Wrong
 STOPS = (signal.SIGINT, signal.SIGTERM, signal.SIGHUP)
 # Of prctl(2): the signal that a process gets when its parent ends.
 PR_SET_PDEATHSIG = 1
+# Imports a command: what it returns runs it, and returns the status.
+Load = Callable[[], Callable[[], int]]
 
 
-def stop(number, _):
+def stop(number: int, _: FrameType | None) -> NoReturn:
     signal.signal(number, signal.SIG_IGN)  # a second one doesn't disturb how the command ends
     if number == signal.SIGINT:
         raise KeyboardInterrupt
@@ -26,7 +31,7 @@ def stop(number, _):
 
 
 @contextlib.contextmanager
-def held():
+def held() -> Iterator[None]:
     """Signals that end a command wait for the end of this block. A process that is started in it has to let them in
     again."""
     before = signal.pthread_sigmask(signal.SIG_BLOCK, STOPS)
@@ -36,7 +41,7 @@ def held():
         signal.pthread_sigmask(signal.SIG_SETMASK, before)
 
 
-def run(name, load):
+def run(name: str, load: Load) -> int:
     """Runs the command that `load` imports, a function that returns its status, and returns the status to end with."""
     for number in STOPS:
         if (
@@ -51,27 +56,32 @@ def run(name, load):
         finally:
             sys.stdout.flush()
     except BrokenPipeError:
-        status, line = 0, ""
+        status = 0
+        message = ""
     except KeyboardInterrupt:
-        status, line = 130, "interrupted"
+        status = 130
+        message = "interrupted"
     except (Wrong, MemoryError) as why:
-        status, line = 1, str(why) or "out of memory"
+        status = 1
+        message = str(why) or "out of memory"
     except OSError as why:
         where = why.filename or "the output can't be written"
-        status, line = 1, f"{where}: {why.strerror or why}"
+        status = 1
+        message = f"{where}: {why.strerror or why}"
     except Exception as why:
         at = traceback.extract_tb(why.__traceback__)[-1]
-        status, line = 70, (
+        status = 70
+        message = (
             f"a fault of this command itself, please report it: {type(why).__name__}: "
             f"{' '.join(str(why).split())} ({os.path.basename(at.filename)} line {at.lineno})"
         )
     # Standard output gets nothing more.
     os.dup2(os.open(os.devnull, os.O_WRONLY), 1)
-    sys.stderr.write(line and f"{name}: {line}\n")
+    sys.stderr.write(message and f"{name}: {message}\n")
     return status
 
 
-def run_apart(name, load):
+def run_apart(name: str, load: Load) -> int:
     """The same in a process of its own, for a command that calls a file of the user's: whatever the file does, this
     process returns the status."""
     reader, writer = os.pipe()
@@ -87,7 +97,7 @@ def run_apart(name, load):
     return run(name, lambda: lambda: status_of(child, reader))
 
 
-def status_of(child, reader):
+def status_of(child: int, reader: int) -> int:
     """The status of a command that runs in a process of its own; if this one is ended, that one is first."""
     try:
         _, ended = os.waitpid(child, 0)

@@ -6,8 +6,8 @@ import os
 import re
 import stat
 import sys
-from collections.abc import Callable, Iterable
-from typing import BinaryIO
+from collections.abc import Callable, Iterable, Sequence
+from typing import IO, BinaryIO, NoReturn, TypeAlias
 
 from lab.wrong import Wrong
 
@@ -16,21 +16,27 @@ class Parser(argparse.ArgumentParser):
     """A parser that refuses in one short line, whatever word it repeats, and passes over no help that can't be
     written."""
 
-    def error(self, message):
+    def error(self, message: str) -> NoReturn:
         super().error(re.sub(r"\S{200,}", lambda word: f"{word[0][:80]}..", one_line(message)))
 
-    def _print_message(self, message, file=None):
+    def _print_message(self, message: str, file: IO[str] | None = None) -> None:
         (file or sys.stderr).write(message)
 
 
 class Command(Parser):
     """The parser of a command below another one, which refuses the words that it doesn't know with its own usage."""
 
-    def parse_known_args(self, args=None, namespace=None):
+    def parse_known_args(
+        self, args: Sequence[str] | None = None, namespace: argparse.Namespace | None = None
+    ) -> tuple[argparse.Namespace, list[str]]:
         given, others = super().parse_known_args(args, namespace)
         if others:
             self.error(f"unrecognized arguments: {' '.join(others)}")
         return given, others
+
+
+# What holds the commands below one.
+Commands: TypeAlias = "argparse._SubParsersAction[Command]"
 
 
 def one_line(words: str) -> str:
@@ -41,12 +47,12 @@ def one_line(words: str) -> str:
     )
 
 
-def as_text(lines: Iterable) -> str:
+def as_text(lines: Iterable[object]) -> str:
     """Lines as a text, each with a line feed."""
     return "".join(f"{line}\n" for line in lines)
 
 
-def in_words(things) -> str:
+def in_words(things: Iterable[object]) -> str:
     """`2`, `2 and 3`, `2, 3 and 5`."""
     words = [str(thing) for thing in things]
     return " and ".join(filter(None, [", ".join(words[:-1]), *words[-1:]]))
@@ -76,9 +82,8 @@ def parser_of(
     )
 
 
-def add_commands(words: Parser, what: str = "command"):
-    """What holds the commands below one."""
-    return words.add_subparsers(
+def add_commands(parser: Parser, what: str = "command") -> Commands:
+    return parser.add_subparsers(
         dest=what,
         metavar=what.upper(),
         required=True,
@@ -88,8 +93,8 @@ def add_commands(words: Parser, what: str = "command"):
 
 
 def add_command(
-    commands, name: str, words: str, what: str, more: str, example: str
-) -> argparse.ArgumentParser:
+    commands: Commands, name: str, words: str, what: str, more: str, example: str
+) -> Command:
     """The parser of `forestlab NAME WORDS`, one of several commands: its help is a line, more of it, and an example."""
     return commands.add_parser(
         name.split()[-1],
@@ -147,15 +152,17 @@ def text_name(path: str) -> str:
     return "standard input" if path == "-" else one_line(path)
 
 
-def add_output(words) -> None:
+def add_output(parser: argparse.ArgumentParser) -> None:
     """The option -o, for what `write` writes."""
-    words.add_argument(
+    parser.add_argument(
         "-o", "--output", metavar="FILE", help="write to this file, and not to standard output"
     )
 
 
-def add_seed(words, what="whatever is random comes from it") -> None:
-    words.add_argument(
+def add_seed(
+    parser: argparse.ArgumentParser, what: str = "whatever is random comes from it"
+) -> None:
+    parser.add_argument(
         "--seed", default="1", metavar="WORD", help=f"any word or number; {what}; default: 1"
     )
 
@@ -184,7 +191,7 @@ def source_of(seed: str) -> int | str:
     return int(seed) if seed.isascii() and seed.isdecimal() and len(seed) < 100 else seed
 
 
-def write(given, text: str | bytes) -> None:
+def write(given: argparse.Namespace, text: str | bytes) -> None:
     """Writes what a command has made: to the file of -o, which stays as it was until all is written, or to standard
     output."""
     data = text if isinstance(text, bytes) else text.encode()

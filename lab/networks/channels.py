@@ -7,7 +7,7 @@ from argparse import ArgumentParser, Namespace
 from lab.networks.fields import shown
 from lab.networks.network_text import MAX_CHANNEL
 from lab.networks.options import add_stated, commands_for, stated_by
-from lab.networks.plan_text import rows_of
+from lab.networks.plan_text import PlanRow, rows_of
 from lab.networks.stated import Unsaid, decoded
 from lab.networks.tables import MOST_DIGITS, licence_of
 from lab.words import add_output, bytes_at, one_line, parser_of, text_at, write
@@ -101,7 +101,7 @@ def range_of(word: str) -> range:
     return numbers
 
 
-def rows_of_run(text: str, name: str) -> list[tuple[int, int, int]]:
+def rows_of_run(text: str, name: str) -> list[PlanRow]:
     """(line, vertex, channel) of the lines of a run whose nodes have found channels."""
     found = []
     for at, line in enumerate(text.split("\n"), 1):
@@ -116,7 +116,7 @@ def rows_of_run(text: str, name: str) -> list[tuple[int, int, int]]:
     return found
 
 
-def numbers_for(rows: list, table: list[int] | None, given: Namespace) -> dict[int, int]:
+def numbers_for(rows: list[PlanRow], table: list[int] | None, given: Namespace) -> dict[int, int]:
     """What is written for each number of a plan, as the command line asks."""
     if table is None and given.run:
         return {channel: channel for _, _, channel in rows}
@@ -133,7 +133,7 @@ def numbers_for(rows: list, table: list[int] | None, given: Namespace) -> dict[i
     return found
 
 
-def too_many(rows: list, table: list[int]) -> str:
+def too_many(rows: list[PlanRow], table: list[int]) -> str:
     most = max(channel for _, _, channel in rows)
     return f", and the table has {len(table)}: it takes {most} channels"
 

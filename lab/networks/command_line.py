@@ -196,4 +196,7 @@ def add_sizes(command: ArgumentParser, kind: Kind) -> None:
 
 def add_file(command: ArgumentParser, name: str) -> None:
     said = "a file, - for standard input, or a name, as path5"
-    command.add_argument("file", metavar="FILE", nargs=FILES.get(name), help=said)  # type: ignore[arg-type]
+    if name in FILES:
+        command.add_argument("file", metavar="FILE", nargs=FILES[name], help=said)
+    else:
+        command.add_argument("file", metavar="FILE", help=said)

@@ -6,6 +6,7 @@ text, not by a word that others have, too.
 """
 import json
 import re
+from collections.abc import Mapping
 from dataclasses import dataclass, field
 from xml.parsers import expat
 
@@ -34,7 +35,7 @@ class Declared:
     edges: list[tuple[Where, object, object]] = field(default_factory=list)
     graphs: int = 0
 
-    def declare(self, kind: str, where: Where, has: dict) -> None:
+    def declare(self, kind: str, where: Where, has: Mapping[str, object]) -> None:
         """Declares an element, by what it is called and what it has."""
         if kind == "graph":
             self.graphs += 1
@@ -98,7 +99,7 @@ def in_xml(data: bytes, path: str) -> Declared:
     return declared.checked()
 
 
-def loaded(data: bytes, path: str) -> dict:
+def loaded(data: bytes, path: str) -> dict[str, object]:
     """The object of a text in JSON; an empty one if it has none."""
 
     def once(pairs: list[tuple[str, object]]) -> dict[str, object]:
@@ -124,14 +125,14 @@ def loaded(data: bytes, path: str) -> dict:
 def in_json(data: bytes, path: str) -> Declared:
     """The nodes and edges of JSON as networkx writes it, which calls the edges `links` or `edges`."""
     whole = loaded(data, path)
-    lists = [key for key in whole if isinstance(whole[key], list)]
+    lists = {key: value for key, value in whole.items() if isinstance(value, list)}
     if sorted(lists) not in (["links", "nodes"], ["edges", "nodes"]):
         what = "a list `nodes`, a list `links` or `edges`, and no other"
         raise Wrong(f"{path}: no JSON of nodes and links, as networkx writes it: {what}")
     declared = Declared(path)
-    for key in lists:
+    for key, items in lists.items():
         kind, wanted = ("node", ["id"]) if key == "nodes" else ("edge", ["source", "target"])
-        for at, item in enumerate(whole[key]):
+        for at, item in enumerate(items):
             where = f"{key}[{at}]"
             for own in wanted:
                 if not isinstance(item, dict) or type(item.get(own)) not in (str, int):

@@ -1,11 +1,14 @@
 """`forestlab network tell`: what a network is, and what a run on it comes to, its payloads and wires, and about how
 long the commands take."""
 from collections.abc import Iterator
-from typing import Any
+from typing import TYPE_CHECKING
 
 from lab.network import Network
 from lab.networks.network_text import Reading
 from lab.words import counted, duration
+
+if TYPE_CHECKING:
+    from lab.definitions.rounds import Rounds
 
 # The most nodes times pulses for which the rounds are worked out here, in some seconds.
 MOST_AT_ONCE = 300_000
@@ -32,7 +35,7 @@ class Run:
         self.lines = 2 * self.wires + network.nodes * self.last + 1
 
 
-def rounds_here(network: Network) -> Any:
+def rounds_here(network: Network) -> "Rounds | None":
     """The rounds by their definition; None in the folder of a class, which doesn't have it."""
     try:
         from lab.definitions.rounds import Rounds

@@ -10,14 +10,15 @@ import re
 import site
 import sys
 import warnings
-from collections.abc import Iterable
-from typing import Any
+from collections.abc import Callable, Collection, Iterable
+from types import ModuleType
 
 from lab.networks.declared import Declared, in_json, in_xml
 from lab.networks.fields import shown
 from lab.networks.gml import in_gml, with_multigraph
 from lab.networks.letters import from_graph6, in_graph6, in_sparse6
 from lab.networks.listed import Listed, Where, name_of, not_read
+from lab.networks.networkx_graph import Attributes, Graph
 from lab.networks.stated import Stated, decoded
 from lab.networks.table import FARTHEST
 from lab.words import one_line
@@ -30,7 +31,7 @@ MOST_SAID = 300
 NEW_GEXF, GEXF = b"http://gexf.net/1.3", b"http://www.gexf.net/1.2draft"
 
 
-def networkx() -> Any:
+def networkx() -> ModuleType | None:
     """The module, or None. Commands start without the packages of the system, so these are looked for now."""
     if "networkx" not in sys.modules and importlib.util.find_spec("networkx") is None:
         site.main()
@@ -40,26 +41,50 @@ def networkx() -> Any:
         return None
 
 
-def from_gml(nx: Any, data: bytes) -> Any:
+# networkx's functions have no hints, so each reader states what it returns.
+
+
+def from_graphml(nx: ModuleType, data: bytes) -> Graph:
+    graph: Graph = nx.read_graphml(io.BytesIO(data), force_multigraph=True)
+    return graph
+
+
+def from_gexf(nx: ModuleType, data: bytes) -> Graph:
+    graph: Graph = nx.read_gexf(io.BytesIO(data.replace(NEW_GEXF, GEXF)))
+    return graph
+
+
+def from_gml(nx: ModuleType, data: bytes) -> Graph:
     """Two edges may have the same ends."""
-    return nx.parse_gml(with_multigraph(data.decode()), label=None)
+    graph: Graph = nx.parse_gml(with_multigraph(data.decode()), label=None)
+    return graph
 
 
-def from_json(nx: Any, data: bytes) -> Any:
+def from_json(nx: ModuleType, data: bytes) -> Graph:
     """What networkx calls the list of edges depends on its version."""
     whole = json.loads(data)
     edges = whole.get("links", whole.get("edges"))
-    return nx.node_link_graph({**whole, "multigraph": True, "links": edges, "edges": edges})
+    text = {**whole, "multigraph": True, "links": edges, "edges": edges}
+    graph: Graph = nx.node_link_graph(text)
+    return graph
 
 
-# Of each form: how networkx reads it, and what finds the nodes and edges that its text declares.
-READERS = {
-    "graphml": (lambda nx, data: nx.read_graphml(io.BytesIO(data), force_multigraph=True), in_xml),
-    "gexf": (lambda nx, data: nx.read_gexf(io.BytesIO(data.replace(NEW_GEXF, GEXF))), in_xml),
+def from_sparse6(nx: ModuleType, data: bytes) -> Graph:
+    graph: Graph = nx.from_sparse6_bytes(data.strip())
+    return graph
+
+
+Reader = Callable[[ModuleType, bytes], Graph]
+Judge = Callable[[bytes, str], Declared | None]
+# Of each form: how networkx reads it, and what finds the nodes and edges that its text declares, or only refuses what
+# is above the limits.
+READERS: dict[str, tuple[Reader, Judge]] = {
+    "graphml": (from_graphml, in_xml),
+    "gexf": (from_gexf, in_xml),
     "gml": (from_gml, in_gml),
     "json": (from_json, in_json),
     "graph6": (from_graph6, in_graph6),
-    "sparse6": (lambda nx, data: nx.from_sparse6_bytes(data.strip()), in_sparse6),
+    "sparse6": (from_sparse6, in_sparse6),
 }
 
 
@@ -94,7 +119,7 @@ def read(data: bytes, name: str, form: str, stated: Stated) -> Listed:
     return found
 
 
-def listed(graph: Any, form: str, declared: Declared) -> Listed:
+def listed(graph: Graph, form: str, declared: Declared) -> Listed:
     """The nodes and edges of a graph by its nodes' label, name or id: the first that each has for itself."""
     rows = dict(graph.nodes(data=True))
     key = next((key for key in ("label", "name") if is_own(key, list(rows.values()))), None)
@@ -109,7 +134,7 @@ def listed(graph: Any, form: str, declared: Declared) -> Listed:
         if own[node] in nodes:
             raise wrong_line(declared.path, line, f"a second node is called {shown(own[node])}")
         nodes[own[node]] = line
-    found.edges = [(nodes[own[v]], own[v], own[w]) for v, w in graph.edges()]
+    found.edges = [(nodes[own[v]], own[v], own[w]) for v, w, _ in graph.edges(data=True)]
     found.places = places_of({own[node]: has for node, has in rows.items()})
     if graph.is_directed():
         found.notes.append("directions aren't read")
@@ -120,18 +145,18 @@ def listed(graph: Any, form: str, declared: Declared) -> Listed:
     return found
 
 
-def keys_of(rows: Iterable[dict], read: set) -> list[str]:
+def keys_of(rows: Iterable[Attributes], read: Collection[str | None]) -> list[str]:
     """The keys that aren't read."""
-    return sorted({str(key) for has in rows for key in has} - read)
+    return sorted({str(key) for has in rows for key in has if key not in read})
 
 
-def is_own(key: str, rows: list[dict]) -> bool:
+def is_own(key: str, rows: list[Attributes]) -> bool:
     """Whether each node has a value of a key that no other has."""
     values = {str(has[key]) for has in rows if type(has.get(key)) in (str, int, float)}
     return len(values) == len(rows) and "" not in values
 
 
-def places_of(rows: dict[str, dict]) -> dict[str, tuple[float, float]]:
+def places_of(rows: dict[str, Attributes]) -> dict[str, tuple[float, float]]:
     """The places of the nodes, if each has one in numbers `x` and `y`."""
     try:
         places = {name: (float(has["x"]), float(has["y"])) for name, has in rows.items()}

@@ -2,10 +2,11 @@
 before anything is made of it: a few letters can declare 68 billion nodes."""
 import re
 from math import isqrt
-from typing import Any
+from types import ModuleType
 
 from lab.networks.fields import shown
 from lab.networks.network_text import MAX_EDGES, MAX_NODES
+from lab.networks.networkx_graph import Graph
 from lab.words import counted
 from lab.wrong import wrong_line
 
@@ -69,18 +70,19 @@ def edges_in(letters: bytes) -> int:
     return sum(some.count(bytes([FIRST + six])) * six.bit_count() for six in range(1, 64))
 
 
-def from_graph6(nx: Any, data: bytes) -> Any:
+def from_graph6(nx: ModuleType, data: bytes) -> Graph:
     """The graph of a line that `in_graph6` takes. networkx would list all pairs of nodes first, which takes some 20 GB
     for as many nodes as a network may have."""
     nodes, letters = declared("graph6", data, "")
-    graph = nx.Graph()
-    graph.add_nodes_from(range(nodes))
+    made = nx.Graph()
+    made.add_nodes_from(range(nodes))
     for found in re.finditer(rb"[^?]", letters):
         for place in range(6):
             lower, higher = pair_at(6 * found.start() + place)
             # The last letter has bits that are of no pair.
             if found[0][0] - FIRST & 32 >> place and higher < nodes:
-                graph.add_edge(lower, higher)
+                made.add_edge(lower, higher)
+    graph: Graph = made
     return graph
 
 

@@ -6,9 +6,11 @@ from lab.networks.fields import fields_of, shown, whole
 from lab.wrong import Wrong, wrong_line
 
 
-def rows_of(
-    text: str, name: str, least: int = 1, below: int = 2**32
-) -> list[tuple[int, int, int]]:
+# The line, the vertex and the channel.
+PlanRow = tuple[int, int, int]
+
+
+def rows_of(text: str, name: str, least: int = 1, below: int = 2**32) -> list[PlanRow]:
     """(line, vertex, channel) of the lines of a plan, with numbers in these bounds."""
     rows = fields_by_line(text)
     line, fields = next(rows, (1, []))

@@ -17,13 +17,7 @@ LOOSE = {
     "lab/definitions/own_program.py": (2, "what a file's functions return, before it is looked at"),
     "lab/definitions/sequel.py": (1, "the node of the colouring, which rules may change"),
     "lab/definitions/values.py": (5, "keys of values of any kind"),
-    "lab/networks/command_line.py": (1, "the hints of argparse know no None for `nargs`"),
-    "lab/networks/describe.py": (
-        1,
-        "the rounds are looked for when they are needed: a class hasn't them",
-    ),
-    "lab/networks/foreign.py": (6, "networkx has no hints, and may not be there"),
-    "lab/networks/letters.py": (2, "networkx has no hints, and may not be there"),
+    "lab/networks/networkx_graph.py": (1, "what networkx keeps of a node, which has no hints"),
     "lab/pictures/page/marks.js": (
         1,
         "which element has a name is said by the page, not by the browser",
