@@ -28,7 +28,7 @@ class Link(Step):
     """A link that isn't empty, as the step that takes its oldest wire. `wires` has of each its words as a transcript
     has them, the stamp of its put, and how many puts there were, up to it."""
 
-    def __init__(self, v: int, w: int):
+    def __init__(self, v: int, w: int) -> None:
         super().__init__("take", w, v)
         self.wires: deque[tuple[str, int, int]] = deque()
 
@@ -45,7 +45,7 @@ class AlphaRun:
 
     kept = "run.transcript"
 
-    def __init__(self, rounds: RightRounds, policy: Policy):
+    def __init__(self, rounds: RightRounds, policy: Policy) -> None:
         self.rounds, self.network, self.policy = rounds, rounds.network, policy
         self.links: dict[tuple[int, int], Link] = {}
         self.count, self.counters = 0, dict.fromkeys(self.network.vertices, 0)

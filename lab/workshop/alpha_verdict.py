@@ -83,10 +83,10 @@ def at_node(rounds: RightRounds, before: list[Entry], v: int) -> At:
     made = [f"{u} {words}" for _, u, words in before]
     text = as_text([f"transcript 1 {rounds.network.nodes}", *made])
 
-    def refusal_of(words):
+    def refusal_of(words: str) -> Verdict:
         return verdict_of(network, f"{text}{v} {words} {IMPOSSIBLE}\n", words_of(rounds.program))
 
-    def ports_lacked(wire):
+    def ports_lacked(wire: str) -> list[int]:
         """The ports by which such wires are still to come."""
         found = re.search(rf"{wire} [0-9]+ of ([0-9, and]+)", of_pulse.words)
         return [ports[int(w)] for w in re.findall("[0-9]+", found[1])] if found else []
@@ -148,7 +148,7 @@ def no_answer(run: AlphaRun, entries: list[Entry], v: int, fault: Fault, asked: 
     inbox = f", for which {run.rounds.came(at.pulse + 1, v)} came" if at.can_pulse else ""
     lines = [
         ("where", f"node {v} at pulse {at.pulse}, after it got {asked}"),
-        ("wrong", fault.words),
+        ("wrong", fault.message),
         ("right", at.right() + inbox),
         *at.hints(),
         ("judge", "all that was done before is right"),

@@ -99,7 +99,7 @@ def library() -> ctypes.CDLL:
 class Filter:
     """A filter that is being written; `otherwise` is what becomes of a call without a rule. Used in `with`."""
 
-    def __init__(self, seccomp: ctypes.CDLL, otherwise: int, machine: str):
+    def __init__(self, seccomp: ctypes.CDLL, otherwise: int, machine: str) -> None:
         self.seccomp = seccomp
         self.otherwise = otherwise
         self.machine = machine

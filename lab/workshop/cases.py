@@ -5,10 +5,11 @@ from dataclasses import dataclass, field, replace
 from functools import lru_cache
 from itertools import combinations
 from random import Random
-from typing import Any
 
 from lab.network import Network
 from lab.networks.named import network_at
+from lab.workshop.alpha_run import AlphaRun
+from lab.workshop.clock_run import ClockRun
 from lab.workshop.findings import Finding
 from lab.workshop.protocol import COLOURING
 
@@ -34,7 +35,7 @@ class Case:
     seed: str
     owners: list[int] = field(default_factory=list)
     finding: Finding | None = None
-    run: Any = field(default=None, repr=False)
+    run: ClockRun | AlphaRun | None = field(default=None, repr=False)
     league: dict[str, int] | None = None
     is_part: bool = False
 
@@ -43,6 +44,12 @@ class Case:
         """What is wrong, of a case that is."""
         assert self.finding
         return self.finding
+
+    @property
+    def played_run(self) -> ClockRun | AlphaRun:
+        """What was played, of a case that was."""
+        assert self.run
+        return self.run
 
     def size(self) -> tuple[int, int, int, int]:
         """What makes a case that isn't right small."""
@@ -71,13 +78,7 @@ def varied(network: Network, chance: Random, program: str) -> Network:
     """The same edges with other identifiers; for programs that heed bars also sometimes with other bars, and for the
     layers with identifier 1, their root, at one node in most networks."""
     vertices, own = list(network.vertices), [network.identifiers[v] for v in network.vertices]
-    names = {
-        "own": lambda: own,
-        "moved": lambda: moved(own, chance),
-        "mixed": lambda: chance.sample(vertices, len(vertices)),
-        "sparse": lambda: chance.sample(range(max(100, 4 * len(vertices))), len(vertices)),
-        "long": lambda: [chance.getrandbits(128) for _ in vertices],
-    }[chance.choice(HOW[:2] if network.name in KEPT else HOW)]()
+    names = identifiers(own, chance.choice(HOW[:2] if network.name in KEPT else HOW), chance)
     if program == "layers" and 1 not in names and chance.random() < 0.8:
         names[chance.randrange(len(names))] = 1
     bars = network.bars
@@ -89,6 +90,21 @@ def varied(network: Network, chance: Random, program: str) -> Network:
             if chance.random() < 0.3
         }
     return replace(network, said=dict(zip(vertices, names)), bars=bars)
+
+
+def identifiers(own: list[int], how: str, chance: Random) -> list[int]:
+    """The identifiers of the vertices in order, chosen in a way of `HOW`."""
+    count = len(own)
+    match how:
+        case "moved":
+            return moved(own, chance)
+        case "mixed":
+            return chance.sample(range(1, count + 1), count)
+        case "sparse":
+            return chance.sample(range(max(100, 4 * count)), count)
+        case "long":
+            return [chance.getrandbits(128) for _ in own]
+    return own
 
 
 def moved(own: list[int], chance: Random) -> list[int]:

@@ -5,7 +5,7 @@ import os
 import re
 import shutil
 import tempfile
-from typing import Callable, Collection, Iterator
+from collections.abc import Callable, Collection, Iterator
 
 from lab import version
 from lab.door import held
@@ -93,7 +93,7 @@ LINK = re.compile(r"(?<!!)\[([^]]+)\]\(([^)#\s]+)(?:#[^)\s]*)?\)")
 def page_for_a_class(text: str, path: str, paths: Collection[str]) -> str:
     """A page without its links to what isn't copied; their words stay."""
 
-    def linked(link):
+    def linked(link: re.Match[str]) -> str:
         found = os.path.normpath(os.path.join(os.path.dirname(path), link[2]))
         is_there = ":" in link[2] or any(f"{other}/".startswith(f"{found}/") for other in paths)
         return link[0] if is_there else link[1]

@@ -2,7 +2,8 @@
 before. What they do is compared with the proved rounds, pulse by pulse; or it is free, and only the plan at the end is
 judged."""
 import re
-from typing import Iterator
+from abc import ABC, abstractmethod
+from collections.abc import Iterator
 
 from lab.network import Network
 from lab.networks.texts import plain_text
@@ -14,20 +15,27 @@ from lab.workshop.why import Why
 from lab.wrong import Wrong
 
 
-class ClockRun(Rounds):
-    """`puts` is what the nodes sent so far, and `own_lines` what a node's first message has besides. `hear` takes any
-    line of an answer but `put`."""
+class ClockRun(Rounds, ABC):
+    """`puts` is what the nodes sent so far, and `own_lines` what a node's first message has besides. `kept` is the file
+    in which the workshop keeps its text."""
 
     assignment: str
+    kept: str
     program = COLOURING
     own_lines: dict[str, int | None] = {}
     league: dict[str, int] | None = None
 
+    @abstractmethod
     def hear(self, v: int, line: str, fields: tuple[str, ...]) -> None:
-        raise NotImplementedError
+        """Takes a line of an answer, any but `put`."""
 
+    @abstractmethod
     def is_over(self, p: int) -> bool:
-        raise NotImplementedError
+        """Whether a pulse was the last one."""
+
+    @abstractmethod
+    def text(self) -> str:
+        """What was found, as a proved program takes or writes it."""
 
     def difference(self, p: int, v: int) -> Finding | None:
         """What is wrong in a node's answer, which has been read."""
@@ -72,15 +80,22 @@ class ClockRun(Rounds):
                 raise answer
             self.read(v, answer)
         except Fault as fault:
-            return self.finding(fault.kind, p, v, [("wrong", fault.words)], is_first=p == 0)
+            return self.finding(fault.kind, p, v, [("wrong", fault.message)], is_first=p == 0)
         return self.difference(p, v)
 
-    def finding(self, kind: str, p: int, v: int, lines: list[tuple[str, str]], **more) -> Finding:
+    def finding(
+        self,
+        kind: str,
+        p: int,
+        v: int,
+        lines: list[tuple[str, str]],
+        way: str = "",
+        is_first: bool = False,
+    ) -> Finding:
         """What is wrong at a node in a pulse, with what it knew."""
         knew = ("came", self.came(p, v)) if p else ("knows", "; ".join(self.first_message(v)[1:]))
-        return Finding(
-            kind, v, p, [("where", f"node {v}, {self.pulse_words(p)}"), knew, *lines], **more
-        )
+        where = ("where", f"node {v}, {self.pulse_words(p)}")
+        return Finding(kind, v, p, [where, knew, *lines], way=way, is_first=is_first)
 
     def pulse_words(self, p: int) -> str:
         return f"pulse {p}"
@@ -106,28 +121,28 @@ class RoundsRun(ClockRun):
 
     assignment, kept = "rounds", "said.puts"
 
-    def __init__(self, rounds: RightRounds):
+    def __init__(self, rounds: RightRounds) -> None:
         super().__init__(rounds.network)
         self.rounds, self.program, self.own_lines = rounds, rounds.program, rounds.own_lines
         self.said: dict[int, dict[str, str]] = {}
 
-    def pulse_words(self, p):
+    def pulse_words(self, p: int) -> str:
         """`pulse 3 (step)`; a program without phases has `pulse 3`."""
         phase = " ".join(self.rounds.phase[p])
         return super().pulse_words(p) + (f" ({phase})" if phase else "")
 
-    def read(self, v, answer):
+    def read(self, v: int, answer: list[str]) -> None:
         self.said[v] = {}
         super().read(v, answer)
 
-    def hear(self, v, line, fields):
+    def hear(self, v: int, line: str, fields: tuple[str, ...]) -> None:
         about = {"colour": " ".join(fields[:2]), "chose": "chose"}.get(fields[0], "result")
         if about in self.said[v]:
             words = f"it has said `{self.said[v][about]}` in this answer already"
             raise Fault("garbage", f"{shown(line)}: {words}")
         self.said[v][about] = " ".join(fields)
 
-    def difference(self, p, v):
+    def difference(self, p: int, v: int) -> Finding | None:
         if p < self.rounds.last and "result" in self.said[v]:
             lines = [
                 ("wrong", self.said[v]["result"]),
@@ -161,7 +176,7 @@ class RoundsRun(ClockRun):
         if p == rounds.last:
             yield said.get("result", f"no line `{rounds.results[v]}`"), rounds.results[v], {}
 
-    def is_over(self, p):
+    def is_over(self, p: int) -> bool:
         return p == self.rounds.last
 
     def text(self) -> str:
@@ -184,7 +199,7 @@ class OpenRun(ClockRun):
 
     assignment, kept = "open", "plan"
 
-    def __init__(self, network: Network):
+    def __init__(self, network: Network) -> None:
         super().__init__(network)
         self.most_pulses = 20 * (
             network.nodes + 12 + 3 * network.greatest_degree * network.channels
@@ -192,7 +207,7 @@ class OpenRun(ClockRun):
         self.channels: dict[int, int] = {}
         self.payloads = 0
 
-    def hear(self, v, line, fields):
+    def hear(self, v: int, line: str, fields: tuple[str, ...]) -> None:
         channel = int(fields[1])
         if channel == 0:
             raise Fault(
@@ -207,7 +222,7 @@ class OpenRun(ClockRun):
         """Whether every node has said its channel, and nothing is on its way."""
         return len(self.channels) == self.network.nodes and not any(self.puts[-1].values())
 
-    def is_over(self, p):
+    def is_over(self, p: int) -> bool:
         self.payloads += sum(map(len, self.puts[p].values()))
         if p:
             self.puts[p - 1] = {}  # it has come
@@ -218,7 +233,7 @@ class OpenRun(ClockRun):
             f"{v} {channel}\n" for v, channel in sorted(self.channels.items())
         )
 
-    def judged(self, p):
+    def judged(self, p: int) -> Finding | None:
         """The verdict of the proved check. A channel that is too great for it to be read has C6."""
         if not self.is_done():
             silent = [v for v in self.network.vertices if v not in self.channels]

@@ -1,4 +1,5 @@
 """What the workshop finds: a run that isn't right, or a program that doesn't answer."""
+from collections.abc import Iterable, Sequence
 from dataclasses import dataclass, field
 
 from lab.words import in_words
@@ -9,9 +10,10 @@ MOST = 8  # of a list of words
 class Fault(Exception):
     """A program gave no answer. `kind` is silent, ended, garbage, flood, late or start."""
 
-    def __init__(self, kind: str, words: str):
-        super().__init__(words)
-        self.kind, self.words = kind, words
+    def __init__(self, kind: str, message: str) -> None:
+        super().__init__(message)
+        self.kind = kind
+        self.message = message
 
 
 @dataclass
@@ -45,16 +47,16 @@ def kind_of(words: str) -> str:
     return " ".join(word for word in words.split() if not word.isdecimal())
 
 
-def first_of(words) -> list[str]:
+def first_of(words: Sequence[object]) -> list[str]:
     """The first of a list, and a mark if there are more."""
     return [*map(str, words[:MOST]), *[".."] * (len(words) > MOST)]
 
 
-def last_of(words) -> list[str]:
+def last_of(words: Sequence[str]) -> list[str]:
     return [*[".."] * (len(words) > MOST), *words[-MOST:]]
 
 
-def listed(what: str, numbers) -> str:
+def listed(what: str, numbers: Iterable[object]) -> str:
     """`no port`, `port 1`, `ports 1 and 2`, `ports 0, 1 and 2`."""
     numbers = list(numbers)
     if not numbers:

@@ -79,26 +79,29 @@ def in_all(own: list[Part]) -> str:
     return f"{sum(part.points for part in own)}{mark}"
 
 
-def as_one(submissions: dict[str, list[Part]], seed: str) -> dict:
+def part_as_json(part: Part) -> dict[str, object]:
+    """What is found of an assignment, as a program gets it."""
+    row: dict[str, object] = {"command": part.command}
+    if part.result:
+        row["points"] = part.points
+        row["runs"] = part.result["runs"]
+        row["right"] = part.result["right"]
+        row["seconds"] = part.result["seconds"]
+        row["cases"] = part.result["cases"]
+    else:
+        row["points"] = None
+        row.update(part.found)
+    return row
+
+
+def as_one(submissions: dict[str, list[Part]], seed: str) -> dict[str, object]:
     """For a program. `grade` is the edition of this form."""
-
-    def one(part):
-        names = ("runs", "right", "seconds", "cases")
-        if part.result:
-            found = {"points": part.points} | {name: part.result[name] for name in names}
-        else:
-            found = {"points": None} | part.found
-        return {"command": part.command} | found
-
     return {
         "grade": EDITION,
         "seed": seed,
         "submissions": [
-            {
-                "student": student,
-                "in_all": in_all(own),
-                **{part.assignment: one(part) for part in own},
-            }
+            {"student": student, "in_all": in_all(own)}
+            | {part.assignment: part_as_json(part) for part in own}
             for student, own in submissions.items()
         ],
     }

@@ -5,7 +5,8 @@ import os
 import resource
 import signal
 import time
-from typing import Any
+from collections.abc import Callable, Collection
+from typing import TypedDict
 
 from lab.workshop.findings import Fault
 from lab.workshop.leftovers import PARENT_DEATH_SIGNAL, Running, below, children, control, processes
@@ -26,10 +27,25 @@ class Limits:
     `written`, the bytes of each file that a program writes, its standard error too; `children`, how many processes and
     threads all programs of a run may have. `over` is the time at which all runs end."""
 
-    def __init__(self, timeout: float, megabytes: int, programs: int, over: float = float("inf")):
+    def __init__(
+        self, timeout: float, megabytes: int, programs: int, over: float = float("inf")
+    ) -> None:
         self.timeout, self.memory, self.over = timeout, megabytes * MEGABYTE, over
         self.written = max(MEGABYTE, min(16 * MEGABYTE, WRITTEN_IN_ALL // max(1, programs)))
         self.children = CHILDREN + CHILDREN_EACH * programs
+
+
+class Start(TypedDict, total=False):
+    """What `Popen` is told of a program, by the names of its parameters."""
+
+    cwd: str | None
+    env: dict[str, str]
+    start_new_session: bool
+    preexec_fn: Callable[[], None]
+    user: int
+    group: int
+    extra_groups: list[int]
+    pass_fds: Collection[int]
 
 
 def limit(limits: Limits, tasks: int) -> None:
@@ -70,7 +86,7 @@ class Guard:
         """Few names, so that a program that is right here is right elsewhere."""
         return {name: os.environ[name] for name in NAMES if name in os.environ}
 
-    def start(self, limits: Limits, tasks: int) -> dict:
+    def start(self, limits: Limits, tasks: int) -> Start:
         """What `Popen` is told of a program; it ends with this process."""
         workshop = os.getpid()
 
@@ -83,14 +99,17 @@ class Guard:
             if os.getppid() != workshop:
                 os._exit(1)
 
-        told: dict[str, Any] = {
+        told: Start = {
             "cwd": self.place,
             "env": self.environment(),
             "start_new_session": True,
+            "preexec_fn": enter,
         }
         if self.user is not None:
-            told |= {"user": self.user, "group": self.user, "extra_groups": []}
-        return told | {"preexec_fn": enter}
+            told["user"] = self.user
+            told["group"] = self.user
+            told["extra_groups"] = []
+        return told
 
     def enter(self) -> None:
         """What a process does besides before it becomes the program."""

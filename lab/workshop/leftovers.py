@@ -5,7 +5,7 @@ import os
 import resource
 import signal
 from dataclasses import dataclass
-from typing import Collection, Iterator
+from collections.abc import Collection, Iterator
 
 # Numbers of Linux, the same on all machines.
 PARENT_DEATH_SIGNAL = 1

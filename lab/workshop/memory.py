@@ -5,7 +5,7 @@ import contextlib
 import os
 import re
 import stat
-from typing import Iterable, Iterator
+from collections.abc import Iterable, Iterator
 
 from lab.workshop.findings import Fault
 from lab.workshop.leftovers import Running

@@ -1,5 +1,7 @@
 """The nodes of a network as programs: each a process of its own, or all that have one command in one process."""
 import time
+from collections.abc import Callable
+from typing import ParamSpec, TypeVar
 
 from lab.door import held
 from lab.workshop.findings import Fault
@@ -8,6 +10,8 @@ from lab.workshop.leftovers import end_all, is_reaper
 from lab.workshop.processes import Process
 
 Answer = list[str] | Fault
+Given = ParamSpec("Given")
+Result = TypeVar("Result")
 PATIENCE = 1.0  # seconds that programs have to end at the end of their input
 
 
@@ -22,13 +26,19 @@ class Nodes:
         limits: Limits,
         guard: Guard,
         is_shared: bool = False,
-    ):
-        self.owners, self.commands, self.limits, self.guard = owners, commands, limits, guard
-        self.is_shared, self.tasks = is_shared, guard.tasks()
+    ) -> None:
+        self.owners = owners
+        self.commands = commands
+        self.limits = limits
+        self.guard = guard
+        self.is_shared = is_shared
+        # How many processes and threads the programs' user had before.
+        self.tasks = 0
         self.processes: list[Process] = []
         self.of: dict[int, Process] = {}
 
-    def __enter__(self):
+    def __enter__(self) -> "Nodes":
+        self.tasks = self.guard.tasks()
         try:
             for v, owner in enumerate(self.owners, 1):
                 self.start(v, owner)
@@ -48,7 +58,7 @@ class Nodes:
             )
         self.of[v] = self.processes[-1]
 
-    def __exit__(self, *why):
+    def __exit__(self, *why: object) -> None:
         self.stop()
 
     def ask(self, v: int, lines: list[str]) -> list[str]:
@@ -61,7 +71,13 @@ class Nodes:
         if self.is_shared:
             return {v: attempt(self.ask, v, lines) for v, lines in questions.items()}
         sent = {v: attempt(self.of[v].send, lines) for v, lines in questions.items()}
-        return {v: fault or attempt(self.of[v].receive) for v, fault in sent.items()}
+        answers: dict[int, Answer] = {}
+        for v, fault in sent.items():
+            if fault:
+                answers[v] = fault
+            else:
+                answers[v] = attempt(self.of[v].receive)
+        return answers
 
     def stop(self, patience: float = 0.0) -> None:
         """Ends all programs. None is left running, and all together are waited for no longer than that."""
@@ -75,8 +91,11 @@ class Nodes:
                 end_all()
 
 
-def attempt(do, *given):
+def attempt(
+    do: Callable[Given, Result], *given: Given.args, **named: Given.kwargs
+) -> Result | Fault:
+    """What a call returns, or the fault that it raises."""
     try:
-        return do(*given)
+        return do(*given, **named)
     except Fault as fault:
         return fault

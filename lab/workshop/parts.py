@@ -23,7 +23,7 @@ from lab.workshop.options import parsed
 from lab.workshop.playing import Player
 from lab.workshop.report import as_json, report
 from lab.workshop.sandbox import Sandbox
-from lab.workshop.submissions import RUNS, Part, clean
+from lab.workshop.submissions import RUNS, Outcome, Part, clean
 from lab.workshop.visible import on_the_path
 from lab.wrong import Wrong
 
@@ -41,8 +41,8 @@ def sandbox_of(folder: str, given: argparse.Namespace, room: str, user: int) -> 
     return Sandbox(folder, [*closed, home], [*needed, *given.show], user)
 
 
-def play(part: Part, given: argparse.Namespace, room: str) -> dict:
-    """What is found of a part, in a copy of its folder."""
+def play(part: Part, given: argparse.Namespace, room: str) -> dict[str, object]:
+    """What is found of a part, in a copy of its folder: an `Outcome` before it is written as JSON."""
     place = tempfile.mkdtemp(dir=room)
     copy = os.path.join(place, "submission")
     shutil.copytree(part.folder, copy, symlinks=True)
@@ -115,7 +115,7 @@ def play_all(parts: list[Part], given: argparse.Namespace, jobs: int, room: str)
             end_all()
 
 
-def finished(process: ForkProcess, pipe: Connection) -> dict:
+def finished(process: ForkProcess, pipe: Connection) -> Outcome:
     """What a process has found: only what it says itself and ends well on is a result."""
     said = b""
     if not pipe.poll():  # its time is over
@@ -124,7 +124,8 @@ def finished(process: ForkProcess, pipe: Connection) -> dict:
         said = pipe.recv_bytes()
     process.join()
     if process.exitcode == 0:
-        return json.loads(said)
+        found: Outcome = json.loads(said)
+        return found
     ending = f"status {process.exitcode}"
     if process.exitcode and process.exitcode < 0:
         ending = signal.Signals(-process.exitcode).name
@@ -143,6 +144,6 @@ def play_again(parts: list[Part], given: argparse.Namespace, room: str) -> None:
             part.found = first
 
 
-def runs_right(found: dict) -> int:
+def runs_right(found: Outcome) -> int:
     """How many runs were right; fewer than none without a result."""
     return found["result"]["right"] if "result" in found else -1

@@ -33,7 +33,7 @@ class Player:
         guard: Guard | None = None,
         over: float = float("inf"),
         is_shown: bool = False,
-    ):
+    ) -> None:
         self.options, self.commands, self.over, self.is_shown = (
             options,
             options.commands,
@@ -60,7 +60,7 @@ class Player:
             with self.nodes(case) as nodes:
                 found = run.play(nodes)
         except Fault as fault:  # a command can't be started
-            raise Wrong(fault.words) from None
+            raise Wrong(fault.message) from None
         if isinstance(run, AlphaRun):
             found = finding_of(run)
         else:
@@ -75,7 +75,7 @@ class Player:
     def run_of(self, case: Case) -> ClockRun | AlphaRun:
         if self.options.assignment == "open":
             return OpenRun(case.network)
-        rounds = RightRounds(case.network, self.options.program)
+        rounds = RightRounds(case.network, self.options.program).work_out()
         if self.options.assignment == "rounds":
             return RoundsRun(rounds)
         return AlphaRun(

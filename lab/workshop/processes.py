@@ -40,7 +40,7 @@ OF_LIMITS: dict[int, str] = {
 class Process:
     """A program that runs. `asked` counts the messages."""
 
-    def __init__(self, command: list[str], limits: Limits, guard: Guard, tasks: int):
+    def __init__(self, command: list[str], limits: Limits, guard: Guard, tasks: int) -> None:
         self.limits, self.guard, self.asked, self.until = limits, guard, 0, 0.0
         try:
             self.errors = tempfile.TemporaryFile()

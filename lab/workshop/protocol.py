@@ -81,7 +81,7 @@ def forms_of(assignment: str, program: str) -> list[str]:
 
 
 @cache
-def pattern(form: str) -> re.Pattern:
+def pattern(form: str) -> re.Pattern[str]:
     return re.compile(
         " ".join(
             f"({word})" if word.islower() else FIELDS.get(word, NUMBER) for word in form.split()

@@ -81,25 +81,29 @@ def report(cases: list[Case], shown: Case | None, seconds: float) -> list[str]:
     return lines
 
 
-def as_json(options: Namespace, cases: list[Case], shown: Case | None, seconds: float) -> dict:
+def case_as_json(case: Case, commands: list[list[str]]) -> dict[str, object]:
+    """A run, as an autograder gets it."""
+    found = case.finding
+    row: dict[str, object] = {
+        "case": case.number,
+        "network": case.network.name,
+        "nodes": case.network.nodes,
+    }
+    if case.policy:
+        row["policy"] = case.policy
+    row["verdict"] = found.kind if found else "right"
+    if found:
+        row |= {"node": found.node, "pulse": found.pulse}
+        row |= {} if found.owner is None else {"command": commands[found.owner]}
+    elif case.league:
+        row |= case.league
+    return row
+
+
+def as_json(
+    options: Namespace, cases: list[Case], shown: Case | None, seconds: float
+) -> dict[str, object]:
     """For an autograder. `workshop` is the edition of this form."""
-
-    def one(case):
-        found, row = case.finding, {
-            "case": case.number,
-            "network": case.network.name,
-            "nodes": case.network.nodes,
-        }
-        if case.policy:
-            row["policy"] = case.policy
-        row["verdict"] = found.kind if found else "right"
-        if found:
-            row |= {"node": found.node, "pulse": found.pulse}
-            row |= {} if found.owner is None else {"command": options.commands[found.owner]}
-        elif case.league:
-            row |= case.league
-        return row
-
     program = {} if options.assignment == "open" else {"program": options.program}
     return {
         "workshop": EDITION,
@@ -110,6 +114,6 @@ def as_json(options: Namespace, cases: list[Case], shown: Case | None, seconds: 
         "runs": len(cases),
         "right": sum(case.finding is None for case in cases),
         "seconds": round(seconds, 2),
-        "cases": [one(case) for case in cases],
+        "cases": [case_as_json(case, options.commands) for case in cases],
         "shown": described(shown) if shown else None,
     }

@@ -21,7 +21,7 @@ def ask(name: str, command: str, text: str, program: str = COLOURING) -> tuple[i
 class Rounds:
     """`puts[p][v][port]`, the words that v sends in pulse p; `ports[v][w]`, v's port to w."""
 
-    def __init__(self, network: Network):
+    def __init__(self, network: Network) -> None:
         self.network = network
         self.puts: list[dict[int, dict[int, str]]] = []
         self.ports = {
@@ -46,28 +46,42 @@ class Rounds:
 
 
 class RightRounds(Rounds):
-    """Of each pulse p: `phase[p]`, its words, which the colouring alone has; `colours[p][v]`, v's colour in each forest
-    after it, and `chose[p][v]`, where there are any. `results[v]` is what v has found, in words. `forests` is None if
-    the program doesn't use them. A whole run without a clock has `events` entries."""
+    """The rounds that are right, once `work_out` was called.
 
-    def __init__(self, network: Network, program: str = COLOURING):
+    Of each pulse p: `phase[p]`, its words, which only the colouring has; `colours[p][v]`, v's colour in each forest
+    after it, and `chose[p][v]`, where there are any. `last` is the number of the last pulse, and `results[v]` what v
+    has found, in words. A whole run without a clock has `events` entries."""
+
+    def __init__(self, network: Network, program: str = COLOURING) -> None:
         super().__init__(network)
         self.program = program
+        self.last = 0
+        self.events = 0
         self.phase: list[list[str]] = []
         self.colours: list[dict[int, list[int]]] = []
         self.chose: list[dict[int, int]] = []
         self.results: dict[int, str] = {}
-        head, *lines = self.asked("forestplay", "rounds", program).splitlines()
-        self.forests = network.forest_count if program in (COLOURING, *SEQUELS) else None
+
+    def work_out(self) -> "RightRounds":
+        """Has the proved programs work the rounds out, in a process, or in two for the colouring; returns these rounds.
+
+        A network that a program refuses is `Wrong`."""
+        head, *lines = self.asked("forestplay", "rounds", self.program).splitlines()
         self.last = int(head.split()[-1])
         for line in lines:
             self.read(line.split(" "))
-        if program == COLOURING:
+        if self.program == COLOURING:
             plan = self.asked("forestplan", "plain").splitlines()[1:]
             self.results = {int(v): f"channel {channel}" for v, channel in map(str.split, plan)}
         payloads = sum(len(to) for by in self.puts for to in by.values())
-        wires = 2 * payloads + 2 * len(network.edges) * (self.last + 1)
-        self.events = network.nodes * self.last + 2 * wires
+        wires = 2 * payloads + 2 * len(self.network.edges) * (self.last + 1)
+        self.events = self.network.nodes * self.last + 2 * wires
+        return self
+
+    @property
+    def forests(self) -> int | None:
+        """How many forests there are; None if the program doesn't use them."""
+        return self.network.forest_count if self.program in (COLOURING, *SEQUELS) else None
 
     def asked(self, name: str, command: str, program: str = COLOURING) -> str:
         status, text, why = ask(name, command, plain_text(self.network), program)

@@ -19,12 +19,13 @@ import contextlib
 import fcntl
 import os
 import subprocess
-from typing import Iterable
+from collections.abc import Iterable
+from functools import cached_property
 
 from lab.workshop import visible
 from lab.workshop.calls import filters_of_calls
 from lab.workshop.findings import Fault
-from lab.workshop.guard import MEGABYTE, Guard, Limits
+from lab.workshop.guard import MEGABYTE, Guard, Limits, Start
 from lab.workshop.leftovers import Running
 from lab.workshop.memory import memory_of
 from lab.wrong import Wrong
@@ -52,32 +53,40 @@ INSTEAD = (
 class Sandbox(Guard):
     """`folder` has what was submitted, `hidden` are folders that are empty for its programs wherever they would be
     seen, and `needed` what is seen besides the system's folders. `user` is the number of the user that its programs
-    are if root grades."""
+    are if root grades. `files` are the open files that bubblewrap reads."""
 
     place = "/"
 
-    def __init__(self, folder: str, hidden: Iterable[str], needed: Iterable[str], user: int):
+    def __init__(
+        self, folder: str, hidden: Iterable[str], needed: Iterable[str], user: int
+    ) -> None:
         super().__init__()
         self.folder = folder
+        self.hidden = list(hidden)
+        self.needed = list(needed)
         self.user = user if os.geteuid() == 0 else None
         self.files: list[int] = []
-        self.container = [*ALONE, *NAME]
+
+    @cached_property
+    def words_before(self) -> list[str]:
+        """bubblewrap and what it is told, which is written once. It lies in a file, since a program may read how the
+        first process of its container was called."""
+        told = "\0".join([*self.container(), ""])
+        return ["bwrap", "--args", self.text(told.encode())]
+
+    def container(self) -> list[str]:
+        """What bubblewrap is told of the container."""
+        words = [*ALONE, *NAME]
         for calls in filters_of_calls():
-            self.container += ["--add-seccomp-fd", self.text(calls)]
-        self.container += ["--dev", "/dev", "--proc", "/proc", *self.told()]
-        self.container += ["--size", str(ROOM_BYTES), "--tmpfs", ROOM]
+            words += ["--add-seccomp-fd", self.text(calls)]
+        words += ["--dev", "/dev", "--proc", "/proc", *self.told()]
+        words += ["--size", str(ROOM_BYTES), "--tmpfs", ROOM]
         # The submission becomes its user's own once it is copied.
-        shown = [*filter(self.reaches, [*visible.system(), *needed]), folder]
-        closed = {os.path.realpath(path) for path in hidden} - {ROOM}
+        shown = [*filter(self.reaches, [*visible.system(), *self.needed]), self.folder]
+        closed = {os.path.realpath(path) for path in self.hidden} - {ROOM}
         empty = [*filter(os.path.isdir, closed), *visible.copies_in(shown)]
-        self.add_files(shown, {path for path in empty if self.reaches(path)})
-        self.container += ["--size", str(SHARED_BYTES), "--tmpfs", SHARED, "--chdir", ROOM]
-        # The words lie in a file, since a program may read how the first process of its container was called.
-        self.words_before = [
-            "bwrap",
-            "--args",
-            self.text("\0".join([*self.container, ""]).encode()),
-        ]
+        words += words_of_files(shown, {path for path in empty if self.reaches(path)})
+        return [*words, "--size", str(SHARED_BYTES), "--tmpfs", SHARED, "--chdir", ROOM]
 
     def text(self, data: bytes) -> str:
         """The number of an open file that bubblewrap reads, and nobody changes."""
@@ -118,18 +127,6 @@ class Sandbox(Guard):
             ),
         }
 
-    def add_files(self, shown: list[str], empty: set[str]) -> None:
-        """What is seen, and what of that is empty; what is further in comes later, and is on top. A folder is shut once
-        all below it is made."""
-        covers = {path for path in empty if visible.is_below(path, shown)}
-        for path in sorted({*shown, *covers}):
-            if path in covers:
-                self.container += ["--tmpfs", path]
-            elif visible.deepest(path, covers) >= visible.deepest(path, shown):
-                self.container += shown_as(path)
-        for path in (*sorted(covers), "/dev", "/"):
-            self.container += ["--remount-ro", path]
-
     def reaches(self, path: str) -> bool:
         """Whether the programs' user may pass all folders above a path; what it can't reach can't be shown to it."""
         return visible.reaches(path, self.user)
@@ -144,8 +141,11 @@ class Sandbox(Guard):
     def environment(self) -> dict[str, str]:
         return super().environment() | {"HOME": ROOM, "TMPDIR": ROOM, "JAVA_TOOL_OPTIONS": FOR_JAVA}
 
-    def start(self, limits: Limits, tasks: int) -> dict:
-        return super().start(limits, tasks) | {"pass_fds": self.files}
+    def start(self, limits: Limits, tasks: int) -> Start:
+        told = super().start(limits, tasks)
+        # They are there once the words are written.
+        told["pass_fds"] = self.files if self.words_before else ()
+        return told
 
     def enter(self) -> None:
         """Each container reads the open files from their beginning, whatever another has read."""
@@ -179,6 +179,21 @@ class Sandbox(Guard):
             raise Wrong(
                 f"bubblewrap (0.8 or later) can't start here ({done.stderr.strip()}): {INSTEAD}"
             )
+
+
+def words_of_files(shown: list[str], empty: set[str]) -> list[str]:
+    """What is seen, and what of that is empty; what is further in comes later, and is on top. A folder is shut once all
+    below it is made."""
+    words = []
+    covers = {path for path in empty if visible.is_below(path, shown)}
+    for path in sorted({*shown, *covers}):
+        if path in covers:
+            words += ["--tmpfs", path]
+        elif visible.deepest(path, covers) >= visible.deepest(path, shown):
+            words += shown_as(path)
+    for path in (*sorted(covers), "/dev", "/"):
+        words += ["--remount-ro", path]
+    return words
 
 
 def shown_as(path: str) -> list[str]:

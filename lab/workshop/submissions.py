@@ -4,6 +4,7 @@ import re
 import shlex
 import stat
 from dataclasses import dataclass, field
+from typing import TypedDict
 
 from lab.schedules.policies import POLICIES
 from lab.workshop.protocol import shown
@@ -26,19 +27,42 @@ OUTSIDE = re.compile(r"/|@|\.\.")
 OF_THE_FOLDER = "files are named as they are in the folder itself, without `/`, `@` and `..`"
 
 
+class PlayedCase(TypedDict):
+    """What is used here of a run, as the workshop prints it for a program."""
+
+    verdict: str
+    policy: str
+
+
+class Result(TypedDict):
+    """What is used here of an assignment's runs, as the workshop prints it for a program."""
+
+    runs: int
+    right: int
+    seconds: float
+    cases: list[PlayedCase]
+
+
+class Outcome(TypedDict, total=False):
+    """What is found of an assignment: its result, with a report for people, or why there is no result."""
+
+    result: Result
+    report: list[str]
+    why: str
+
+
 @dataclass
 class Part:
-    """An assignment of a student's folder: its command, or none; and what is found of it: `result` as the workshop
-    prints it for a program, with its `report` for people, or `why` there is no result."""
+    """An assignment of a student's folder: its command, or none; and what is found of it."""
 
     student: str
     folder: str
     assignment: str
     command: list[str] = field(default_factory=list)
-    found: dict = field(default_factory=dict)
+    found: Outcome = field(default_factory=lambda: Outcome())
 
     @property
-    def result(self) -> dict | None:
+    def result(self) -> Result | None:
         return self.found.get("result")
 
     @property

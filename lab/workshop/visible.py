@@ -5,7 +5,7 @@ import functools
 import os
 import stat
 from pathlib import Path
-from typing import Iterable, Iterator
+from collections.abc import Iterable, Iterator
 
 # The folders of the system's programs and libraries.
 ROOTS = ("bin", "lib", "lib32", "lib64", "libx32", "sbin")

@@ -1,4 +1,6 @@
 """Why a node has to do something in a pulse: the rule of the pulse, and this node's numbers, all of which it knows."""
+from functools import cached_property
+
 from lab.network import order
 from lab.workshop.findings import last_of, listed
 from lab.workshop.protocol import SEQUELS
@@ -56,24 +58,40 @@ FOUND = {
     "independent-set": "a node is in if it has joined in the turn of its colour",
     "recolouring": "a node's channel is the colour that it has chosen anew, plus one",
 }
+# A key of RULES, the numbers in it, and what this node knows.
+Reason = tuple[str, dict[str, object], list[str]]
 
 
 class Why:
-    """Sentences on node v: `up[forest]` is the port of its parent, `forest_by[port]` the forest of an edge. What goes
-    on after the colouring makes pulses of its own from `start` on, and `first` has the rounds before.
-    """
+    """Sentences on node v."""
 
-    def __init__(self, rounds: RightRounds, v: int):
-        self.rounds, self.v, self.program, self.network = rounds, v, rounds.program, rounds.network
-        if self.program in NOT_COLOURED:
-            return
-        self.first = RightRounds(rounds.network) if self.program in SEQUELS else rounds
-        self.start = 13 if self.program == "matching" else self.first.last + 1
-        parents, children = self.first.puts[1].get(v, {}), self.first.inbox(2, v)
-        self.up = {int(words.split()[1]): port for port, words in parents.items()}
-        self.forest_by = {
-            port: int(words.split()[1]) for port, words in (parents | children).items()
-        }
+    def __init__(self, rounds: RightRounds, v: int) -> None:
+        self.rounds = rounds
+        self.v = v
+        self.program = rounds.program
+        self.network = rounds.network
+
+    @cached_property
+    def first(self) -> RightRounds:
+        """The rounds of the colouring, after which other programs go on."""
+        return RightRounds(self.network).work_out() if self.program in SEQUELS else self.rounds
+
+    @property
+    def start(self) -> int:
+        """The first pulse of what goes on after the colouring."""
+        return 13 if self.program == "matching" else self.first.last + 1
+
+    @cached_property
+    def up(self) -> dict[int, int]:
+        """The port of its parent, by forest."""
+        parents = self.first.puts[1].get(self.v, {})
+        return {int(words.split()[1]): port for port, words in parents.items()}
+
+    @cached_property
+    def forest_by(self) -> dict[int, int]:
+        """The forest of an edge, by its port."""
+        labels = self.first.puts[1].get(self.v, {}) | self.first.inbox(2, self.v)
+        return {port: int(words.split()[1]) for port, words in labels.items()}
 
     def of(self, p: int | None = None, port: int | None = None, forest: int | None = None) -> str:
         """Why it sends what it sends by a port in a pulse, or has its colour in a forest after it, or chooses; without
@@ -91,16 +109,16 @@ class Why:
         )
         return "; ".join([RULES[rule].format(p=p, **given), *numbers])
 
-    def of_colouring(
-        self, p: int, port: int | None, forest: int | None
-    ) -> tuple[str, dict, list[str]]:
+    def of_colouring(self, p: int, port: int | None, forest: int | None) -> Reason:
         """The rule, its numbers, and this node's."""
+        given: dict[str, object]
         phase, *turn = self.first.phase[p]
         if phase == "merge":
             forest, colour, old = map(int, turn)
             start = 13 + 3 * self.network.channels * forest
             numbers = [self.in_forest(13, forest), self.merged(start), self.passed(start + 1, p)]
-            return phase, {"forest": forest, "colour": colour, "old": old}, numbers
+            given = {"forest": forest, "colour": colour, "old": old}
+            return phase, given, numbers
         if forest is None:
             if port is None:
                 return "choice", {}, []
@@ -113,24 +131,24 @@ class Why:
         given = {"name": names[self.v], "higher": higher or "none", "dropped": DROPPED.get(p)}
         return phase, given, [] if p < 2 else [self.in_forest(p, forest)]
 
-    def of_sequel(self, p: int) -> tuple[str, dict, list[str]]:
+    def of_sequel(self, p: int) -> Reason:
         """The same of a pulse after the colouring."""
         turn, passed = p - self.start, self.passed(self.start, p)
         if self.program == "matching":
             forest, colour = divmod(turn // 2, 3)
-            given = {"forest": forest, "colour": colour}
+            given: dict[str, object] = {"forest": forest, "colour": colour}
             return ("free", "take")[turn % 2], given, [self.in_forest(13, forest), passed]
         if self.program == "recolouring":
             return self.of_sweep(p, *divmod(turn, self.network.channels))
         return self.program, {"turn": turn, "channel": turn + 1}, [self.merged(self.start), passed]
 
-    def of_sweep(self, p: int, sweep: int, later: int) -> tuple[str, dict, list[str]]:
+    def of_sweep(self, p: int, sweep: int, later: int) -> Reason:
         """The same of a pulse in which classes rise or choose anew."""
         network = self.network
         barring = network.greatest_bars > 0
         turn = order(network.span, barring, sweep)[later]
         first = self.start + sweep * network.channels
-        given = {
+        given: dict[str, object] = {
             "turn": turn,
             "channel": turn + 1,
             "by": "as they have risen" if sweep else "by the plan",

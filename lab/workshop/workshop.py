@@ -74,7 +74,7 @@ def keep(case: Case, folder: str, program: str) -> None:
     }
     commands = [
         f"  {command.format(**given)}"
-        for command in REPEAT[case.run.kept]
+        for command in REPEAT[case.played_run.kept]
         if "transcript check" not in command
         or os.path.exists(os.path.join(TOP, "lab/transcripts/check.py"))
     ]
@@ -82,7 +82,7 @@ def keep(case: Case, folder: str, program: str) -> None:
     words += ["", "The same without the workshop:", *commands, ""]
     for name, text in {
         "network.col": plain_text(case.network),
-        case.run.kept: case.run.text(),
+        case.played_run.kept: case.played_run.text(),
         "verdict.txt": "\n".join(words),
     }.items():
         with open(os.path.join(folder, name), "w", encoding="utf-8") as file:
@@ -103,7 +103,7 @@ def draw(case: Case, file: str, program: str) -> str | None:
                 "run",
                 os.path.join(folder, "network.col"),
                 "--transcript",
-                os.path.join(folder, case.run.kept),
+                os.path.join(folder, case.played_run.kept),
                 "--wrong",
                 "--pulses",
                 f"{max(0, last - 1)}..{last}",

@@ -35,8 +35,6 @@ LOOSE = {
     "lab/studio/page/address.js": (1, "the values of an address, each of its own type"),
     "lab/studio/serving.py": (2, "a request and an address, as socketserver has them"),
     "lab/transcripts/convert.py": (1, "a row of JSON"),
-    "lab/workshop/cases.py": (1, "a run of any kind"),
-    "lab/workshop/guard.py": (1, "words for a process that is begun, each of its own type"),
     "tests/pages/test_reads.py": (1, "one method stands for three of a visitor"),
 }
 

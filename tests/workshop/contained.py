@@ -103,9 +103,13 @@ class Contained(Case):
             subprocess.run(["chown", "-hR", f"{self.user}:{self.user}", self.copy], check=True)
         hidden = [os.path.join(self.folder, "home"), self.subs, self.room, os.path.dirname(RIGHT)]
         container = Sandbox(self.copy, hidden, [], self.user)
-        for number in container.files:
-            self.addCleanup(os.close, number)
+        self.addCleanup(close_all, container.files)
         return container, unguarded(self.copy)
+
+
+def close_all(files):
+    for number in files:
+        os.close(number)
 
 
 def unguarded(folder):

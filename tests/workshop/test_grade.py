@@ -3,6 +3,7 @@ nothing."""
 import argparse
 import contextlib
 import io
+import json
 import os
 import pathlib
 import re
@@ -19,6 +20,11 @@ from tests.workshop.base import DOOR, LIMIT, call
 from tests.workshop.submitted import MUTE, RIGHT, ZERO, Submitted
 from tests.workshop.contained import got, program
 from tests.workshop.test_misbehaving import MARK, left, left_at_last
+
+
+def result_of(cases: list[submissions.PlayedCase], right: int = 0) -> submissions.Result:
+    """A result of the workshop that has these cases, and says that so many were right."""
+    return submissions.Result(runs=len(cases), right=right, seconds=1.0, cases=cases)
 
 
 class Grades(Submitted):
@@ -135,20 +141,24 @@ class Grades(Submitted):
     def test_what_is_in_doubt(self):
         """What a signal ended is played once more, alone."""
         for ending, is_in_doubt in (("status 1", False), ("signal SIGKILL", True)):
-            found = {
-                "result": {"cases": [{"verdict": "ended"}]},
-                "report": [f"wrong  it ended with {ending} instead"],
-            }
+            found = submissions.Outcome(
+                result=result_of([{"policy": "", "verdict": "ended"}]),
+                report=[f"wrong  it ended with {ending} instead"],
+            )
             part = submissions.Part("anna", "", "rounds", ["x"], found)
             self.same(ending, part.is_in_doubt(), is_in_doubt)
 
     def test_second_plays(self):
         """They share a time, whatever their number, and the better of both results counts."""
         some = [
-            submissions.Part(student, "", "rounds", ["x"], {"result": {"right": 5}})
+            submissions.Part(student, "", "rounds", ["x"], {"result": result_of([], 5)})
             for student in ("anna", "ben", "cleo")
         ]
-        founds = {"anna": {"why": "over"}, "ben": {"result": {"right": 9}}, "cleo": {"why": "x"}}
+        founds: dict[str, submissions.Outcome] = {
+            "anna": {"why": "over"},
+            "ben": {"result": result_of([], 9)},
+            "cleo": {"why": "x"},
+        }
         seen = []
 
         def play(some, limits, jobs, room):
@@ -158,7 +168,7 @@ class Grades(Submitted):
         with mock.patch.object(parts, "play_all", play), mock.patch.object(parts, "AGAIN", 2):
             parts.play_again(some, argparse.Namespace(seconds=600.0), "room")
         self.same("seconds", seen, [400, 600, 600])
-        self.same("right runs", [(part.result or {})["right"] for part in some], [5, 9, 5])
+        self.same("right runs", [parts.runs_right(part.found) for part in some], [5, 9, 5])
 
     def test_a_result_is_only_what_the_workshop_says_itself(self):
         """A process that plays a part is ended, or hangs: that is no result."""
@@ -175,7 +185,7 @@ class Grades(Submitted):
                 ), contextlib.redirect_stderr(io.StringIO()):
                     parts.play_all([part], given, 1, "")
                 self.assertEqual(part.found, {"why": f"no result: its process ended with {why}"})
-                own = grade.as_one({"anna": [part]}, "7")["submissions"][0]
+                own = json.loads(json.dumps(grade.as_one({"anna": [part]}, "7")))["submissions"][0]
                 self.assertEqual((own["in_all"], own["rounds"]["points"]), ("0?", None))
 
     @needs("bin/forestplan", "bin/forestplay")
@@ -220,16 +230,17 @@ class Points(Case):
     """By hand, of the table in WEEK: 99 of 100 runs give 39, nine of ten policies 36, and all plans 10."""
 
     def test_they_add_up(self):
-        alpha = [{"policy": policy, "verdict": "right"} for policy in POLICIES for _ in range(12)]
-        right = {"verdict": "right"}
+        played = submissions.PlayedCase
+        alpha = [played(policy=policy, verdict="right") for policy in POLICIES for _ in range(12)]
+        right = played(policy="", verdict="right")
         for assignment, rows, all_right, one_wrong in (
             ("rounds", [right] * 100, 40, 39),
             ("alpha", alpha, 40, 36),
             ("open", [right] * 50, 10, 0),
         ):
-            wrong = [*rows[:-1], rows[-1] | {"verdict": "stuck"}]
+            wrong = [*rows[:-1], played(policy=rows[-1]["policy"], verdict="stuck")]
             for cases, points in ((rows, all_right), (wrong, one_wrong)):
-                part = submissions.Part("", "", assignment, found={"result": {"cases": cases}})
+                part = submissions.Part("", "", assignment, found={"result": result_of(cases)})
                 self.same(f"{assignment} {points}", part.points, points)
 
     def test_the_parts_are_a_hundred(self):

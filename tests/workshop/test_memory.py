@@ -116,7 +116,7 @@ class Memory(Contained):
                     one.receive()
             return "answers"
         except Fault as fault:
-            return f"{fault.kind}: {fault.words}"
+            return f"{fault.kind}: {fault.message}"
         finally:
             for one in nodes:
                 one.stop(0)
@@ -177,7 +177,7 @@ class Memory(Contained):
             self.note("ended", exit_of(grows.process.pid, 0) is not None, "it runs")
             with self.assertRaises(Fault) as fault:
                 grows.receive()
-            self.same("named", f"{fault.exception.kind}: {fault.exception.words}", FLOOD)
+            self.same("named", f"{fault.exception.kind}: {fault.exception.message}", FLOOD)
         finally:
             for one in (slow, grows):
                 one.stop(0)

@@ -272,7 +272,9 @@ class RightNodes(Played):
                 case = played("open", f"{kind}{nodes}", GREEDY, one_process=True)
                 self.same(f"{kind} {nodes}", (case.finding, case.league["pulses"]), (None, pulses))
                 self.same(
-                    f"rounds of {kind} {nodes}", RightRounds(network(f"{kind}{nodes}")).last, last
+                    f"rounds of {kind} {nodes}",
+                    RightRounds(network(f"{kind}{nodes}")).work_out().last,
+                    last,
                 )
 
 

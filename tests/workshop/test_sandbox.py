@@ -173,7 +173,7 @@ class Sandboxed(Contained):
             process.send(["workshop 1 rounds"])
             process.receive()
         except Fault as fault:
-            return f"{fault.kind}: {fault.words}"
+            return f"{fault.kind}: {fault.message}"
         finally:
             process.stop(0)
         return "an answer"
@@ -210,7 +210,7 @@ class Sandboxed(Contained):
                 process.send(["workshop 1 rounds"])
                 process.receive()
             process.stop(0)
-            self.note(f"{command}", words in found.exception.words, found.exception.words)
+            self.note(f"{command}", words in found.exception.message, found.exception.message)
 
     def test_a_compiler_that_a_student_tells_what_to_do(self):
         """A plugin that javac starts copies another's node; in the container there is nothing to copy, and the classes
@@ -275,5 +275,5 @@ class Sandboxed(Contained):
         os.makedirs(tools)
         os.chmod(shut, 0o700)
         guard = Sandbox(self.copy, [self.room], [tools], self.user)
-        self.same("shown", tools in guard.container, os.geteuid() != 0)
+        self.same("shown", tools in guard.container(), os.geteuid() != 0)
         guard.try_out()

@@ -50,7 +50,7 @@ class Starts(Contained):
             process.send([f"workshop 1 {assignment}", *FIRST.split("\n")])
             return process.receive()
         except Fault as fault:
-            return f"{fault.kind}: {fault.words}"
+            return f"{fault.kind}: {fault.message}"
         finally:
             process.stop(0)
 

@@ -130,7 +130,7 @@ class Words(Case):
         colours. So node 1 chooses in the first pulse, and node 2, which hears of it, in the third.
         """
         for given, program, rows in ASKED:
-            rounds = RightRounds(given, program)
+            rounds = RightRounds(given, program).work_out()
             for v, p, of, words in rows:
                 said = Why(rounds, v).of(p, **of)
                 name = f"{program} on {given.name}: node {v} in pulse {p}"
