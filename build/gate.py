@@ -73,7 +73,8 @@ def new_room(name):
 def followed(name, rt, log, total, start):
     """What `rt ci` has said when it ends, or when a crate isn't proved. Meanwhile standard error gets a line when one
     is."""
-    said, count = "", -1
+    said = ""
+    count = -1
     with open(log, encoding="utf-8", errors="replace") as text:
         while True:
             has_ended = rt.poll() is not None
@@ -108,8 +109,10 @@ def run(name, crates, edits=None, take=None):
     """Has these crates proved with those below them, and these edits of each tried, and calls `take` with the folder in
     which all is built. Returns what `rt ci` said, or None if a crate isn't proved, which standard error says then.
     """
-    wanted, edits = with_below(crates, listed()), edits or {}
-    log, start = os.path.join(TOP, "out", "build", f"{name}.log"), time.monotonic()
+    wanted = with_below(crates, listed())
+    edits = edits or {}
+    log = os.path.join(TOP, "out", "build", f"{name}.log")
+    start = time.monotonic()
     os.makedirs(os.path.dirname(log), exist_ok=True)
     try:
         with new_room(name) as (room, lock):

@@ -118,7 +118,8 @@ def laid_out(usage: str, texts: Texts, parts: str, given: list[Option]) -> str:
 
 def help_texts() -> dict[str, str]:
     """The help texts by the names of their files."""
-    said_of, option_of = texts(), options()
+    said_of = texts()
+    option_of = options()
     found = {}
     for program, table in (("forestplan", "PLAN_COMMANDS"), ("forestplay", "PLAY_COMMANDS")):
         rows = commands(table)

@@ -120,7 +120,8 @@ def make(room, section=SECTION):
         shutil.copy(os.path.join(TOP, path), os.path.join(room, path))
     os.rename(os.path.join(room, PYPROJECT), os.path.join(room, "pyproject.toml"))
     write(os.path.join(room, "README.md"), readme(section))
-    share, commands = os.path.join(room, "share"), os.path.join(room, "bin")
+    share = os.path.join(room, "share")
+    commands = os.path.join(room, "bin")
     for name in COMMANDS:
         write(os.path.join(share, "man", "man1", f"{name}.1"), manual(commands, name))
     for path in OF_SHELLS:

@@ -93,11 +93,11 @@ def sums(crates, top=TOP):
     """For each of these crates of a repository and those below them a sum of what it is proved from: its line, its
     sources, and the sums of those below. A crate that isn't asked for may be broken."""
     found: dict[str, str] = {}
-    lines, below = lines_of(top), listed(top)
+    lines = lines_of(top)
+    below = listed(top)
     for crate in with_below(crates, below):
-        line, own = lines[crate].partition("#")[0].strip(), sum_of_texts(
-            os.path.join(top, "crates", crate)
-        )
+        line = lines[crate].partition("#")[0].strip()
+        own = sum_of_texts(os.path.join(top, "crates", crate))
         found[crate] = sum_of(
             *(part.encode() for part in (line, own, *(found[lower] for lower in below[crate])))
         )

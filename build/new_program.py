@@ -47,7 +47,8 @@ def renamed(text, model, name):
 def add_test(name, top, model):
     """Writes the model's test, a module of `checks`, as one of the copy."""
     source = os.path.join(top, "crates", name, "src")
-    test, root = f"crates/checks/src/{model[0]}_checks.rt", os.path.join(source, "lib.rt")
+    test = f"crates/checks/src/{model[0]}_checks.rt"
+    root = os.path.join(source, "lib.rt")
     with open(os.path.join(TOP, test), encoding="utf-8") as text:
         own = renamed(text.read(), model, name).replace(f"use {name}::", "use crate::")
         write(os.path.join(source, "tests.rt"), own)

@@ -67,7 +67,8 @@ def take_note(name, sources):
 def is_built(name):
     """Whether the program is there and was made from the sources as they are now. The note is then written again, so
     that it is newer than all of them."""
-    since, sources = time.time(), sources_of(name)
+    since = time.time()
+    sources = sources_of(name)
     try:
         with open(f"{program_at(name)}.made-from", encoding="ascii") as note:
             is_so = note.read() == note_of(name, sources) and os.access(program_at(name), os.X_OK)

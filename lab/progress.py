@@ -43,8 +43,11 @@ def about(process: int, command: str) -> str:
 
 def main(words: list[str]) -> int:
     """Watches a process until it ends: PROCESS NAME COMMAND."""
-    process, name, command = int(words[0]), words[1], words[2]
-    start, reckons = time.monotonic(), None
+    process = int(words[0])
+    name = words[1]
+    command = words[2]
+    start = time.monotonic()
+    reckons = None
     for moment in MOMENTS:
         while fields_of(process) and time.monotonic() - start < moment:
             time.sleep(0.5)

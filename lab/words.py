@@ -107,7 +107,8 @@ def add_command(
 
 
 # In bytes, the most that is read of a text, and of a transcript, which may be longer than its network.
-MOST_BYTES, MOST_OF_TRANSCRIPT = 1 << 28, 1 << 29
+MOST_BYTES = 1 << 28
+MOST_OF_TRANSCRIPT = 1 << 29
 # A file is read in parts of so many bytes: who asks for the limit at once takes as much memory.
 PART = 1 << 20
 

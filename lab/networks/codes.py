@@ -3,7 +3,8 @@ and docs/claim/DEFINITIONS.md defines them. `import forestplan` loads this file 
 import re
 from typing import NamedTuple
 
-FIRST, LEAVE = "put the `p` line first", "leave one of them"
+FIRST = "put the `p` line first"
+LEAVE = "leave one of them"
 SAME = "is the plan of this network?"
 LINES = "Lines count from the first line of the input, the network's included."
 CHECK = f"`forestlab transcript check NETWORK TRANSCRIPT` says which rule the entry breaks. {LINES}"

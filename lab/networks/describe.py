@@ -74,13 +74,16 @@ def facts(reading: Reading, network: Network) -> list[tuple[str, str]]:
     """(name, what) of each line that `tell` prints."""
     run = Run(network)
     degrees = [len(network.neighbours[v]) for v in network.vertices]
-    edges, forests = len(network.edges), network.forest_count
+    edges = len(network.edges)
+    forests = network.forest_count
     again = reading.edge_lines - edges
     alone = f", {degrees.count(0):,} of them without a neighbour" if 0 in degrees else ""
     more = f", {counted(again, 'line')} more with an edge that was there before" if again else ""
-    most, how = "", "counted by the definition of the rounds"
+    most = ""
+    how = "counted by the definition of the rounds"
     if run.is_bound:
-        most, how = "at most ", "`forestplay rounds < FILE | grep -c ' put '` counts them"
+        most = "at most "
+        how = "`forestplay rounds < FILE | grep -c ' put '` counts them"
     enough = f", so at most {counted(network.channels, 'channel')}"
     bars = network.bars.values()
     barred = (

@@ -28,7 +28,8 @@ PACKAGE = "apt install python3-networkx, or pip install networkx"
 # How much of the words of networkx is said.
 MOST_SAID = 300
 # Gephi writes GEXF 1.3, whose nodes and edges are those of 1.2, which all versions of networkx read.
-NEW_GEXF, GEXF = b"http://gexf.net/1.3", b"http://www.gexf.net/1.2draft"
+NEW_GEXF = b"http://gexf.net/1.3"
+GEXF = b"http://www.gexf.net/1.2draft"
 
 
 def networkx() -> ModuleType | None:

@@ -38,7 +38,9 @@ def tokens_of(text: str, path: str) -> Iterator[Token]:
     """The tokens of a text; a text within it that has no end, or goes on after its end, is refused."""
     line = 1
     for found in TOKEN.finditer(text):
-        word, kind, end = found[0], found.lastgroup, found.end()
+        word = found[0]
+        kind = found.lastgroup
+        end = found.end()
         if word == '"':
             raise wrong_line(path, line, "a quotation mark without a second one")
         if kind == "text" and text[end : end + 1] not in AFTER_TEXT:
@@ -115,7 +117,8 @@ def in_gml(data: bytes, path: str) -> Declared:
 
 def with_multigraph(text: str) -> str:
     """The text with the word `multigraph` in its graph: without it networkx refuses a second edge of the same ends."""
-    depth, before = 0, ""
+    depth = 0
+    before = ""
     for token in tokens_of(text, ""):
         if (depth, before, token.word) == (0, "graph", "["):
             return f"{text[:token.end]} multigraph 1 {text[token.end:]}"

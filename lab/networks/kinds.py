@@ -83,7 +83,8 @@ def disk(nodes: int, radius: float, seed: str | int) -> Network:
     """Places in a square of side 1000, and an edge if two are less than `radius` sides apart."""
     if not 0 < radius <= 2:
         raise Wrong(f"the radius is {radius}, and has to be above 0 and at most 2")
-    source, free = random.Random(seed), set()
+    source = random.Random(seed)
+    free = set()
     places: dict[int, tuple[int, int]] = {}
     while len(places) < nodes:
         place = below(source, SIDE + 1), below(source, SIDE + 1)

@@ -34,7 +34,8 @@ def sizes_of(name: str) -> tuple[str, list[int]] | None:
     found = MADE.fullmatch(name)
     if not found:
         return None
-    kind, sizes = KINDS.get(found[1]), [int(size) for size in found.groups()[1:] if size]
+    kind = KINDS.get(found[1])
+    sizes = [int(size) for size in found.groups()[1:] if size]
     if not kind or kind.is_by_chance or len(kind.sizes) != len(sizes):
         return None
     return found[1], sizes

@@ -128,7 +128,8 @@ def was_told(given: Namespace) -> str:
         return as_text(tell_code(found))
     if len(given.file) > 1:
         given.refuse("one FILE, or a code and where it is, as `C8 vertex 1`")
-    data, path = network_bytes(words), one_line(words)
+    data = network_bytes(words)
+    path = one_line(words)
     reading = reading_of(data.decode("utf-8", "replace"), path)
     network = reading.network()
     for what in warnings(reading):
@@ -143,7 +144,8 @@ def was_numbered(given: Namespace) -> str:
 def was_named(given: Namespace) -> str:
     if given.file == "-":
         raise Wrong("names: standard input has the plan, so the network has to be a file")
-    network, name = network_at(given.file), "the plan"
+    network = network_at(given.file)
+    name = "the plan"
     rows = rows_of(text_at("-"), name, 0, 10**MOST_DIGITS)
     if [v for _, v, _ in rows] != list(network.vertices):
         raise Wrong(f"{name} isn't of this network, whose vertices have a line each, in order")

@@ -50,7 +50,10 @@ class Reading:
     counts the lines that name one, again and again too."""
 
     def __init__(self, path: str = "") -> None:
-        self.path, self.line, self.promised, self.edge_lines = path, 0, 0, 0
+        self.path = path
+        self.line = 0
+        self.promised = 0
+        self.edge_lines = 0
         self.nodes: int | None = None
         self.edges: set[Edge] = set()
         self.places: dict[int, tuple[float, float]] = {}
@@ -78,7 +81,8 @@ class Reading:
 
     def comment(self, raw: str) -> None:
         """Keeps a place or a name of a vertex."""
-        place, name = PLACE.fullmatch(raw), NAME.fullmatch(raw.rstrip(" \t\r"))
+        place = PLACE.fullmatch(raw)
+        name = NAME.fullmatch(raw.rstrip(" \t\r"))
         if place and (v := whole(place[1])) is not None:
             self.places[v] = float(place[2]), float(place[3])
         if name and (v := whole(name[1])) is not None:

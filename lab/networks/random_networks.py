@@ -8,7 +8,10 @@ from lab.network import Edge
 
 
 # How many edges are tried in all, how many networks at most and at least, and how many pairs for each edge.
-EDGES_TRIED, MOST_TRIES, LEAST_TRIES, PAIRS = 40_000, 2000, 20, 40
+EDGES_TRIED = 40_000
+MOST_TRIES = 2000
+LEAST_TRIES = 20
+PAIRS = 40
 
 
 def below(source: Random, bound: int) -> int:
@@ -55,7 +58,9 @@ def grown(
     """Edges that are added one by one, as long as no node gets too many neighbours; the greatest number of neighbours,
     and of those of higher number. Connected ones begin with a tree: each node, in an order by chance, is joined to one
     before it that has room."""
-    found, degree, higher = set(), [0] * (nodes + 1), [0] * (nodes + 1)
+    found = set()
+    degree = [0] * (nodes + 1)
+    higher = [0] * (nodes + 1)
 
     def join(v: int, w: int) -> bool:
         """Adds an edge, and says whether that could be done."""

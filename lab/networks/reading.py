@@ -78,7 +78,8 @@ def summary(network: Network, many: int, form: str, by: str) -> str:
     """The form and the counts, to be compared with one's data."""
     alone = sum(not beside for beside in network.neighbours.values())
     lone = f", {alone} of them without a neighbour" if alone else ""
-    nodes, edges = counted(network.nodes, "node"), counted(many, "edge")
+    nodes = counted(network.nodes, "node")
+    edges = counted(many, "edge")
     most = counted(network.greatest_degree, "neighbour")
     return f"{form}; {nodes}{lone}, {edges}, at most {most}; {by}"
 

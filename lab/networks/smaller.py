@@ -15,7 +15,8 @@ def without_vertex(network: Network, gone: int) -> tuple[Network, list[int]]:
 def smaller(network: Network) -> Iterator[tuple[Network, list[int]]]:
     """The networks without one of the nodes, without one of the edges, or without the bars of one node; and that with
     small identifiers in the same order. With each the vertices that its own were."""
-    same, names = list(network.vertices), network.identifiers
+    same = list(network.vertices)
+    names = network.identifiers
     own = replace(network, said=names, names={}, places={})
     for gone in same:
         yield without_vertex(network, gone)

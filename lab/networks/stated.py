@@ -91,7 +91,9 @@ class Unsaid(Wrong):
         titles: Sequence[str] = (),
     ) -> None:
         super().__init__(str(what))
-        self.choices, self.wanted, self.titles = choices, wanted, titles
+        self.choices = choices
+        self.wanted = wanted
+        self.titles = titles
 
 
 def form_of(path: str, name: str, stated: Stated = Stated()) -> str:

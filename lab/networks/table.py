@@ -72,8 +72,10 @@ class Table:
         wanted: tuple[str, ...],
         others: tuple[str, ...] = (),
     ) -> None:
-        self.name, self.wanted = name, wanted
-        self.has_heading, self.named = stated.has_heading, stated.columns
+        self.name = name
+        self.wanted = wanted
+        self.has_heading = stated.has_heading
+        self.named = stated.columns
         if not self.has_heading and not self.named.keys() & set(wanted):
             self.named = {column: str(at) for at, column in enumerate(wanted, 1)} | self.named
         self.line, self.titles, mark = self.begin(text)
@@ -109,7 +111,8 @@ class Table:
         first_line = text.lstrip("\n ").partition("\n")[0]
         if first_line.startswith("sep="):
             raise self.wrong(1, f"`{shown(first_line)}` is for Excel alone: delete this line")
-        found, fault = [], Wrong(f"{self.name}: it has no row")
+        found = []
+        fault = Wrong(f"{self.name}: it has no row")
         for mark in [mark for mark in MARKS if mark in first_line] or [","]:
             try:
                 for line, first in islice(rows_of(text, self.name, mark), 1):

@@ -20,7 +20,8 @@ def build_wheel(folder, config_settings=None, metadata_directory=None):
     """Writes the wheel into a folder, and returns its name."""
     version = text_in("VERSION").split()[1]
     tag = "py3-none-" + sysconfig.get_platform().replace("-", "_").replace(".", "_")
-    name, info = f"forestplan-{version}-{tag}.whl", f"forestplan-{version}.dist-info"
+    name = f"forestplan-{version}-{tag}.whl"
+    info = f"forestplan-{version}.dist-info"
     said = ast.get_docstring(ast.parse(text_in(PACKAGE, "__init__.py"))) or ""
     summary = said.partition("\n")[0]
     texts = {

@@ -34,7 +34,8 @@ class Link(Step):
 
     def renew(self) -> None:
         """Says of the step what the link holds now."""
-        (words, _, self.since), (_, _, self.latest) = self.wires[0], self.wires[-1]
+        words, _, self.since = self.wires[0]
+        _, _, self.latest = self.wires[-1]
         self.wire = words.split()[0]
 
 
@@ -46,9 +47,12 @@ class AlphaRun:
     kept = "run.transcript"
 
     def __init__(self, rounds: RightRounds, policy: Policy) -> None:
-        self.rounds, self.network, self.policy = rounds, rounds.network, policy
+        self.rounds = rounds
+        self.network = rounds.network
+        self.policy = policy
         self.links: dict[tuple[int, int], Link] = {}
-        self.count, self.counters = 0, dict.fromkeys(self.network.vertices, 0)
+        self.count = 0
+        self.counters = dict.fromkeys(self.network.vertices, 0)
         self.entries: list[Entry] = []
         self.results: dict[int, str] = {}
         self.pulses = dict.fromkeys(self.network.vertices, 0)
@@ -86,13 +90,15 @@ class AlphaRun:
         return self.stop is None
 
     def answered(self, v: int, line: str) -> None:
-        program, neighbours = self.rounds.program, self.network.neighbours[v]
+        program = self.rounds.program
+        neighbours = self.network.neighbours[v]
         match fields_of(line, forms_of("alpha", program), len(neighbours)):
             case "pulse", pulse:
                 self.pulses[v] = int(pulse)
                 self.write(v, f"pulse {pulse}")
             case "put", port, wire:
-                w, words = neighbours[int(port)], wire_of(line, wire, program)
+                w = neighbours[int(port)]
+                words = wire_of(line, wire, program)
                 self.write(v, f"put {w} {words}")
                 self.count += 1
                 link = self.links.setdefault((v, w), Link(v, w))

@@ -57,7 +57,8 @@ class At(Standing):
     def hints(self) -> list[tuple[str, str]]:
         """What the node had got: what came for its pulse; what came a pulse early, a payload for this pulse or the
         next, or a safe that isn't used up; and what it did last."""
-        early, pulse = [], 0
+        early = []
+        pulse = 0
         for words in self.own:
             match words.split():
                 case ["pulse", _]:
@@ -79,7 +80,8 @@ def at_node(rounds: RightRounds, before: list[Entry], v: int) -> At:
     """Asks the machine what v can do after these entries, all of which are right: by entries that can't be right, since
     it refuses each, and says what would be possible there, or that v lacks `ack 0 of 2; safe 0 of 2 and 3`.
     """
-    network, ports = plain_text(rounds.network), rounds.ports[v]
+    network = plain_text(rounds.network)
+    ports = rounds.ports[v]
     made = [f"{u} {words}" for _, u, words in before]
     text = as_text([f"transcript 1 {rounds.network.nodes}", *made])
 
@@ -91,12 +93,10 @@ def at_node(rounds: RightRounds, before: list[Entry], v: int) -> At:
         found = re.search(rf"{wire} [0-9]+ of ([0-9, and]+)", of_pulse.words)
         return [ports[int(w)] for w in re.findall("[0-9]+", found[1])] if found else []
 
-    of_pulse, of_puts = refusal_of("pulse"), {
-        port: refusal_of(f"put {w} ack") for w, port in ports.items()
-    }
-    can_pulse, own = of_pulse.name == "WrongWire", [
-        with_port(rounds, v, words) for _, u, words in before if u == v
-    ]
+    of_pulse = refusal_of("pulse")
+    of_puts = {port: refusal_of(f"put {w} ack") for w, port in ports.items()}
+    can_pulse = of_pulse.name == "WrongWire"
+    own = [with_port(rounds, v, words) for _, u, words in before if u == v]
     acks, safes = ([], []) if can_pulse else (ports_lacked("ack"), ports_lacked("safe"))
     puts = {
         port: put.words.removeprefix("expected ")
@@ -127,7 +127,8 @@ def finding_of(run: AlphaRun) -> Finding | None:
 
 def wrong_entry(run: AlphaRun, entries: list[Entry], verdict: Verdict) -> Finding:
     stamp, v, words = entries[verdict.at]
-    at, own = at_node(run.rounds, entries[: verdict.at], v), with_port(run.rounds, v, words)
+    at = at_node(run.rounds, entries[: verdict.at], v)
+    own = with_port(run.rounds, v, words)
     neighbour = f" (to node {words.split()[1]})" if words.startswith("put") else ""
     lines = [
         (
@@ -167,7 +168,8 @@ def stuck(run: AlphaRun, entries: list[Entry], verdict: Verdict) -> Finding:
         ("wrong", f"node {at.v} at pulse {at.pulse} doesn't {at.undone()}") for at in owing
     ]
     where = f"nothing is on its way after {len(entries)} of {run.rounds.events} entries, and not all is done"
-    first, waits = owing[0], [("waits", " | ".join(first_of(waiting)))] * bool(waiting)
+    first = owing[0]
+    waits = [("waits", " | ".join(first_of(waiting)))] * bool(waiting)
     lines = [
         ("where", where),
         wrong,

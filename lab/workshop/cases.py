@@ -18,7 +18,8 @@ from lab.workshop.protocol import COLOURING
 NETWORKS = "path1,two,path3,triangle,rest3,alone4,most4,drops8,star4,ring5,complete4,random6"
 # How the identifiers of a varied run are chosen; on the networks that are there for their bit steps and drops by the
 # first two ways, which leave these as they are.
-HOW, KEPT = ("own", "moved", "mixed", "sparse", "long"), ("rest3", "most4", "drops8")
+HOW = ("own", "moved", "mixed", "sparse", "long")
+KEPT = ("rest3", "most4", "drops8")
 # The programs whose nodes heed bars.
 WITH_BARS = (COLOURING, "independent-set", "recolouring")
 
@@ -77,7 +78,8 @@ def network_of(name: str, chance: Random) -> Network:
 def varied(network: Network, chance: Random, program: str) -> Network:
     """The same edges with other identifiers; for programs that heed bars also sometimes with other bars, and for the
     layers with identifier 1, their root, at one node in most networks."""
-    vertices, own = list(network.vertices), [network.identifiers[v] for v in network.vertices]
+    vertices = list(network.vertices)
+    own = [network.identifiers[v] for v in network.vertices]
     names = identifiers(own, chance.choice(HOW[:2] if network.name in KEPT else HOW), chance)
     if program == "layers" and 1 not in names and chance.random() < 0.8:
         names[chance.randrange(len(names))] = 1
@@ -117,10 +119,13 @@ def cases_of(options: Namespace) -> list[Case]:
     """All runs, or that of --case. Each network has its own identifiers in the first run, and varied ones later. The
     policies change from network to network, and for each network from run to run: so a hundred runs play all ten, and
     ten for each network play each on it once. Smaller networks come first."""
-    cases, names, policies = [], options.networks, options.policies
+    cases = []
+    names = options.networks
+    policies = options.policies
     for number in range(options.runs) if options.case is None else [options.case]:
         own_seed = f"{options.seed} {number}"
-        chance, at = Random(own_seed), number % len(names)
+        chance = Random(own_seed)
+        at = number % len(names)
         network = network_of(names[at], chance)
         if number >= len(names):
             network = varied(network, chance, options.program)

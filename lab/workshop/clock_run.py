@@ -45,7 +45,8 @@ class ClockRun(Rounds, ABC):
 
     def play(self, nodes: Nodes) -> Finding | None:
         """Plays all pulses; returns what is wrong in the first pulse in which something is."""
-        questions, p = {v: self.first_message(v) for v in self.network.vertices}, 0
+        questions = {v: self.first_message(v) for v in self.network.vertices}
+        p = 0
         while True:
             self.puts.append({})
             answers = nodes.ask_all(questions)
@@ -119,11 +120,14 @@ class ClockRun(Rounds, ABC):
 class RoundsRun(ClockRun):
     """`said[v]`, what a node said of itself in this pulse, by what it is about: `colour 0`, `chose`, `result`."""
 
-    assignment, kept = "rounds", "said.puts"
+    assignment = "rounds"
+    kept = "said.puts"
 
     def __init__(self, rounds: RightRounds) -> None:
         super().__init__(rounds.network)
-        self.rounds, self.program, self.own_lines = rounds, rounds.program, rounds.own_lines
+        self.rounds = rounds
+        self.program = rounds.program
+        self.own_lines = rounds.own_lines
         self.said: dict[int, dict[str, str]] = {}
 
     def pulse_words(self, p: int) -> str:
@@ -160,7 +164,9 @@ class RoundsRun(ClockRun):
 
     def compared(self, p: int, v: int) -> Iterator[tuple[str, str, dict[str, int]]]:
         """What it said, what is right, and of what `Why` says why. What it says of its colours needn't be said."""
-        rounds, said, puts = self.rounds, self.said[v], self.puts[p][v]
+        rounds = self.rounds
+        said = self.said[v]
+        puts = self.puts[p][v]
         for forest, colour in enumerate(rounds.colours[p].get(v, [])):
             right = f"colour {forest} {colour}"
             yield said.get(f"colour {forest}", right), right, {"p": p, "forest": forest}
@@ -197,7 +203,8 @@ class OpenRun(ClockRun):
     after pulse 0, the payloads and the greatest channel. A run has at most `most_pulses`, 20 for each node and each
     pulse of the lessons' algorithm."""
 
-    assignment, kept = "open", "plan"
+    assignment = "open"
+    kept = "plan"
 
     def __init__(self, network: Network) -> None:
         super().__init__(network)
@@ -256,9 +263,12 @@ class OpenRun(ClockRun):
         )
         if status != 1 or not found:
             raise Wrong(f"forestplan check ends with status {status}: {line}")
-        code, v, w = found[1], int(found[2]), found[3]
+        code = found[1]
+        v = int(found[2])
+        w = found[3]
         if code == "C6":  # its lines are `plan`, and then one for each node in turn
-            code, v = "C5", v - 1
+            code = "C5"
+            v -= 1
         channel = self.channels[v]
         words = {
             "C4": f"nodes {v} and {w} are neighbours, and both have channel {channel}",

@@ -11,7 +11,8 @@ from typing import IO
 from lab.workshop.guard import Guard, Limits
 
 # Less than the time in which a part has to end beside its runs.
-SECONDS, MEGABYTES = 40, 2048
+SECONDS = 40
+MEGABYTES = 2048
 # Before each class a line with its size and its name.
 COMPILE = """\
 mkdir classes && javac -proc:none -d classes "$0" && cd classes &&

@@ -60,7 +60,8 @@ Examples:
 
 
 def table(submissions: dict[str, list[Part]]) -> list[str]:
-    rows, remarks = [["", *(name for a in RUNS for name in (a, "points")), "in all"]], [""]
+    rows = [["", *(name for a in RUNS for name in (a, "points")), "in all"]]
+    remarks = [""]
     for student, own in submissions.items():
         cells = [word for part in own for word in (part.words(), str(part.points))]
         rows.append([clean(student), *cells, in_all(own)])
@@ -191,7 +192,8 @@ def main(words: list[str]) -> int:
     line = command_line()
     given = line.parse_args(words[:at])
     given.before = words[at + 1 :]
-    given.folder, given.seed = os.path.realpath(given.folder), given.seed or secrets.token_hex(4)
+    given.folder = os.path.realpath(given.folder)
+    given.seed = given.seed or secrets.token_hex(4)
     given.show = [shown(line, path, [given.folder, TOP]) for path in given.show]
     submissions = submissions_of(given.folder)
     given.users = {student: USERS[at % len(USERS)] for at, student in enumerate(submissions)}

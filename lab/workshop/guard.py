@@ -16,9 +16,13 @@ PROCESSOR_SECONDS = 600  # so that an endless loop ends even if the workshop its
 OPEN_FILES = 256
 MEGABYTE = 1 << 20
 WRITTEN_IN_ALL = 256 * MEGABYTE  # by all programs of a run
-CHILDREN, CHILDREN_EACH = 256, 64  # processes and threads of a run, and more for each program
+# Processes and threads of a run, and more for each program.
+CHILDREN = 256
+CHILDREN_EACH = 64
 LOOK = 0.5  # seconds between two looks at what programs take
-LOOK_SHARE, MOST_LOOK = 10, 2.0  # and at least so many times the seconds of a look, up to so many
+# And at least so many times the seconds of a look, up to so many.
+LOOK_SHARE = 10
+MOST_LOOK = 2.0
 NAMES = ("HOME", "LANG", "PATH", "TMPDIR")
 
 
@@ -30,7 +34,9 @@ class Limits:
     def __init__(
         self, timeout: float, megabytes: int, programs: int, over: float = float("inf")
     ) -> None:
-        self.timeout, self.memory, self.over = timeout, megabytes * MEGABYTE, over
+        self.timeout = timeout
+        self.memory = megabytes * MEGABYTE
+        self.over = over
         self.written = max(MEGABYTE, min(16 * MEGABYTE, WRITTEN_IN_ALL // max(1, programs)))
         self.children = CHILDREN + CHILDREN_EACH * programs
 

@@ -20,7 +20,8 @@ MAPPED = re.compile(
 UNNAMED = (b"/dev/zero (deleted)", b"/memfd:", b"/SYSV", b"/dev/shm/")
 
 # The most that one side of a connection or a pipe holds in memory, however much is in it now.
-MOST_IN_SOCKET, MOST_IN_PIPE = 425_984, 1 << 16
+MOST_IN_SOCKET = 425_984
+MOST_IN_PIPE = 1 << 16
 
 # Of a file of /proc on a process: about 10,000 mappings, of which Java has some hundred.
 MOST_BYTES = 1 << 20
@@ -31,7 +32,8 @@ File = tuple[int, int]
 def memory_of(running: Iterable[Running]) -> int:
     """The bytes that processes take together, but for files that a folder has. What the system holds for them in
     connections and pipes can't be read, and counts as the most that it may be."""
-    own, files = 0, dict[File, int]()
+    own = 0
+    files = dict[File, int]()
     for process in running:
         own += max(0, process.memory - shared(process.number))
         for file, size in [*open_files(process.number), *mapped(process.number)]:

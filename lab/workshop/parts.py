@@ -93,7 +93,8 @@ def play_all(parts: list[Part], given: argparse.Namespace, jobs: int, room: str)
     try:
         while waiting or running:
             while waiting and len(running) < jobs:
-                part, (pipe, to) = waiting.pop(), FORK.Pipe(duplex=False)
+                part = waiting.pop()
+                pipe, to = FORK.Pipe(duplex=False)
                 process = FORK.Process(target=run, args=(part, given, room, to))
                 with held():
                     process.start()
@@ -137,7 +138,8 @@ def play_again(parts: list[Part], given: argparse.Namespace, room: str) -> None:
     both results counts."""
     until = time.monotonic() + AGAIN * given.seconds
     for at, part in enumerate(parts):
-        first, share = part.found, (until - time.monotonic()) / (len(parts) - at)
+        first = part.found
+        share = (until - time.monotonic()) / (len(parts) - at)
         less = {"seconds": max(1.0, min(given.seconds, share))}
         play_all([part], argparse.Namespace(**vars(given) | less), 1, room)
         if runs_right(first) > runs_right(part.found):

@@ -34,13 +34,12 @@ class Player:
         over: float = float("inf"),
         is_shown: bool = False,
     ) -> None:
-        self.options, self.commands, self.over, self.is_shown = (
-            options,
-            options.commands,
-            over,
-            is_shown,
-        )
-        self.guard, self.said = guard or Guard(), time.monotonic()
+        self.options = options
+        self.commands = options.commands
+        self.over = over
+        self.is_shown = is_shown
+        self.guard = guard or Guard()
+        self.said = time.monotonic()
 
     def say(self, words: str) -> None:
         if self.is_shown and time.monotonic() - self.said > PROGRESS_SECONDS:

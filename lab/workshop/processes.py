@@ -18,7 +18,9 @@ LOOK = 0.004  # seconds between two looks whether a program has ended
 LOOK_AT_FILES = 1.0  # seconds between two looks at what a program that says nothing writes
 FIRST_FACTOR = 3  # the first answer may take so many times as long
 FIRST_HINT = " (does it flush standard output after `end`, and answer before it reads on after the line `end`?)"
-LAST_LINES, LAST_LETTERS, LAST_BYTES = 5, 600, 1 << 14
+LAST_LINES = 5
+LAST_LETTERS = 600
+LAST_BYTES = 1 << 14
 # What isn't shown: lines with which Python marks a place in the line above, Java's line on the options that grading
 # gives it, and of a list of calls, as Java and JavaScript print it, all but the two innermost.
 UNSHOWN = re.compile(
@@ -41,7 +43,10 @@ class Process:
     """A program that runs. `asked` counts the messages."""
 
     def __init__(self, command: list[str], limits: Limits, guard: Guard, tasks: int) -> None:
-        self.limits, self.guard, self.asked, self.until = limits, guard, 0, 0.0
+        self.limits = limits
+        self.guard = guard
+        self.asked = 0
+        self.until = 0.0
         try:
             self.errors = tempfile.TemporaryFile()
             self.process = subprocess.Popen(
@@ -60,7 +65,8 @@ class Process:
         self.pipes = self.process.stdin, self.process.stdout
         self.input, self.output = (pipe.fileno() for pipe in self.pipes)
         os.set_blocking(self.input, False)
-        self.readable, self.writable = select.poll(), select.poll()
+        self.readable = select.poll()
+        self.writable = select.poll()
         self.readable.register(self.output, select.POLLIN)
         self.writable.register(self.input, select.POLLOUT)
 

@@ -97,9 +97,8 @@ def fields_of(line: str, forms: list[str], degree: int) -> tuple[str, ...]:
         if found := pattern(form).fullmatch(words):
             break
     else:
-        what, lines = shown(line) if words else "an empty line", ", ".join(
-            f"`{form}`" for form in forms
-        )
+        what = shown(line) if words else "an empty line"
+        lines = ", ".join(f"`{form}`" for form in forms)
         raise Fault(
             "garbage",
             f"{what} is no line of an answer, which are {lines} and `end`; what a program prints to "

@@ -13,7 +13,8 @@ from lab.wrong import Wrong
 # Of each assignment how many runs are played, and the most points. For another scale change these lines.
 RUNS = {"rounds": 100, "alpha": 120, "open": 50}
 POINTS = {"rounds": 40, "alpha": 40, "open": 10}
-EACH, RUNS_EACH = POINTS["alpha"] // len(POLICIES), RUNS["alpha"] // len(POLICIES)
+EACH = POINTS["alpha"] // len(POLICIES)
+RUNS_EACH = RUNS["alpha"] // len(POLICIES)
 # The names of its program without the ending, and what runs a file that has one.
 STEMS = {
     "rounds": ("rounds_node", "RoundsNode"),
@@ -21,7 +22,9 @@ STEMS = {
     "open": ("open_node", "OpenNode", "own_node", "OwnNode"),
 }
 RUNNERS = {".py": "python3", ".js": "node", ".java": "java", ".pl": "perl", ".rb": "ruby"}
-MOST_BYTES, MOST_FILES, DEEPEST = 16 << 20, 1000, 64
+MOST_BYTES = 16 << 20
+MOST_FILES = 1000
+DEEPEST = 64
 # What is in no word of `commands`.
 OUTSIDE = re.compile(r"/|@|\.\.")
 OF_THE_FOLDER = "files are named as they are in the folder itself, without `/`, `@` and `..`"
@@ -69,7 +72,8 @@ class Part:
     def points(self) -> int:
         if not self.result:
             return 0
-        cases, most = self.result["cases"], POINTS[self.assignment]
+        cases = self.result["cases"]
+        most = POINTS[self.assignment]
         right = sum(case["verdict"] == "right" for case in cases)
         if self.assignment == "rounds":
             return most * right // len(cases)
@@ -174,7 +178,8 @@ def way_to_run(folder: str, name: str) -> list[str]:
 
 def check_folder(folder: str) -> None:
     """Refuses a folder that can't be copied. Of files their holes count, which a copy would fill."""
-    size, paths = 0, [(folder, 0)]
+    size = 0
+    paths = [(folder, 0)]
     for path, depth in paths:
         info = os.lstat(path)
         size += info.st_size

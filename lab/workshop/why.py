@@ -123,7 +123,8 @@ class Why:
             if port is None:
                 return "choice", {}, []
             forest = self.forest_by[port]
-        names, neighbours = self.network.identifiers, self.network.neighbours[self.v]
+        names = self.network.identifiers
+        neighbours = self.network.neighbours[self.v]
         higher = ", ".join(
             f"{names[neighbours[up]]} (port {up}) in forest {f}"
             for f, up in sorted(self.up.items())
@@ -133,7 +134,8 @@ class Why:
 
     def of_sequel(self, p: int) -> Reason:
         """The same of a pulse after the colouring."""
-        turn, passed = p - self.start, self.passed(self.start, p)
+        turn = p - self.start
+        passed = self.passed(self.start, p)
         if self.program == "matching":
             forest, colour = divmod(turn // 2, 3)
             given: dict[str, object] = {"forest": forest, "colour": colour}
@@ -160,7 +162,8 @@ class Why:
 
     def in_forest(self, p: int, forest: int) -> str:
         """Its colour in a forest before a pulse, its parent there, and its children."""
-        up, colours = self.up.get(forest), self.first.colours
+        up = self.up.get(forest)
+        colours = self.first.colours
         said = [f"it had {in_digits(p, colours[p - 1][self.v][forest])}"] if p > 2 else []
         if up is None:
             said.append("it is a root")

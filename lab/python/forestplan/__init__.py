@@ -95,7 +95,10 @@ class Refused(ValueError):
         self, words: str, code: str = "", nodes: Iterable[Node] = (), plan: "Plan | None" = None
     ):
         super().__init__(words)
-        self.words, self.code, self.nodes, self.plan = words, code, list(nodes), plan
+        self.words = words
+        self.code = code
+        self.nodes = list(nodes)
+        self.plan = plan
 
 
 class _Answer:
@@ -118,7 +121,8 @@ class _Answer:
 class Plan(_Answer, dict[Node, int]):
     """{node: channel}, in the order of the graph."""
 
-    option, kind = "--plan", "plan"
+    option = "--plan"
+    kind = "plan"
     licence = Licence(None)
     order: list[Node] = []
 
@@ -156,7 +160,8 @@ class Rounds(_Answer, list[Pulse]):
 class Transcript(_Answer, list[Entry]):
     """The events of a run, in an order in which they were possible."""
 
-    option, kind = "--transcript", "run"
+    option = "--transcript"
+    kind = "run"
 
 
 def plan(
@@ -179,7 +184,9 @@ def plan(
     lines = text.removeprefix("plan\n").splitlines()
     number = {node: int(line.split()[-1]) for node, line in zip(order, lines, strict=True)}
     found = Plan((node, number[node]) for node in dict.fromkeys([*G, *order]))
-    found.network, found.order, most = network, order, max(number.values(), default=0)
+    found.network = network
+    found.order = order
+    most = max(number.values(), default=0)
     if licence is not None and most > len(licence):
         words = f"the plan takes {most} channels, and the licence has {len(licence)}"
         lacking = [node for node, k in found.items() if k > len(licence)]
@@ -203,11 +210,13 @@ def check(G: Any, plan: Mapping, bars: Bars = None, licence: Channels = None) ->
         raise TypeError(
             f"a {type(plan).__name__} is no plan: a dict with the channel of each node is wanted"
         )
-    judged, known = Plan(plan), set(order)
+    judged = Plan(plan)
+    known = set(order)
     for node in plan:
         if node not in known:
             raise ValueError(f"the plan has {node!r}, which is no node of the graph")
-    judged.order, judged.licence = order, Licence(licence)
+    judged.order = order
+    judged.licence = Licence(licence)
     return int(_called(["forestplan", "check"], network + judged.text, order).split()[1])
 
 
@@ -287,7 +296,8 @@ def _called(words, text, order):
     status, out, said = called([program_at(words[0]), *words[1:]], text)
     if not status:
         return out
-    fault, codes = said.partition(": ")[2], of_lab("networks", "codes")
+    fault = said.partition(": ")[2]
+    codes = of_lab("networks", "codes")
     told = codes.code_of(fault)
     if told is None:
         raise RuntimeError(f"{words[0]} has ended with status {status}: {said}")

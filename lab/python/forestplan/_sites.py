@@ -26,11 +26,13 @@ def sites(places: Mapping[Any, Any], reach: float, unit: str = "degrees") -> Sit
     if unit not in UNITS:
         raise ValueError(f"unit is {unit!r}, and has to be one of {', '.join(UNITS)}")
     bounded(reach, "reach", 1e-6, 20000)
-    near, found = of_lab("networks", "places"), Sites(places)
+    near = of_lab("networks", "places")
+    found = Sites(places)
     known = {
         site: place_of(site, place, unit) for site, place in places.items() if place is not None
     }
-    names, is_globe = list(known), unit == "degrees"
+    names = list(known)
+    is_globe = unit == "degrees"
     if is_globe:
         points = [near.on_ground(*place) for place in known.values()]
         found.places = near.on_map(known)
