@@ -23,7 +23,7 @@ NAME is one of {', '.join(MODULES)}.
 `python3 build NAME --help` says more of each."""
 
 
-def main():
+def main() -> int:
     # This file alone is read by a Python that is too old.
     if sys.version_info < (3, 10):
         found = sys.version.split()[0]
@@ -41,9 +41,9 @@ def main():
         return 0 if is_asked else 2
     sys.argv[:2] = sys.argv[1:2]
     module = "lab.version" if "--version" in (name, *sys.argv[1:2]) else f"build.{MODULES[name]}"
-    return importlib.import_module("lab.door").run(
-        name, lambda: importlib.import_module(module).main
-    )
+    door = importlib.import_module("lab.door")
+    status: int = door.run(name, lambda: importlib.import_module(module).main)
+    return status
 
 
 if __name__ == "__main__":

@@ -5,6 +5,7 @@ import os
 import re
 import subprocess
 import sys
+from collections.abc import Iterable, Iterator
 
 from build.crate_lists import TOP
 from lab.networks.stated import ENDINGS
@@ -16,12 +17,14 @@ from lab.transcripts.convert import FORMS
 from lab.transcripts.fields import PAYLOADS
 
 COMMANDS = ("forestplan", "forestplay", "forestlab")
+# The words of a command, what their help prints, and the commands below.
+Help = tuple[tuple[str, ...], str, list[str]]
 # What of forestlab has commands of its own, each in a line of the help; and `workshop`, whose help has no list.
 WITH_COMMANDS = ((), ("picture",), ("network",), ("transcript",))
 OF_WORKSHOP = ["grade", "class"]
 # The words that a first argument, or an option, may be; with a command's name before it, of that command alone.
-ARGUMENTS = {"convert": FORMS, "workshop": ("rounds", "alpha", "open")}
-VALUES = {
+ARGUMENTS: dict[str, Iterable[str]] = {"convert": FORMS, "workshop": ("rounds", "alpha", "open")}
+VALUES: dict[str, Iterable[str]] = {
     "--as": ENDINGS,
     "--edition": ("1", "2"),
     "--lesson": [str(lesson) for lesson in LESSONS],
@@ -79,7 +82,7 @@ fi
 """
 
 
-def commands_in(words, text):
+def commands_in(words: tuple[str, ...], text: str) -> list[str]:
     """The commands that the help text of some words lists."""
     listed = re.search(r"^Commands:\n((?:  .*\n)+)", text, re.M)
     if listed:
@@ -93,8 +96,8 @@ def commands_in(words, text):
 
 
 @functools.cache
-def helps(folder, *words):
-    """[(words, what their help prints, the commands below)] of a command in a folder, and then of each below it."""
+def helps(folder: str, *words: str) -> list[Help]:
+    """The help of a command in a folder, and then of each below it."""
     text = subprocess.run(
         [os.path.join(folder, words[0]), *words[1:], "--help"],
         stdin=subprocess.DEVNULL,
@@ -110,7 +113,7 @@ def helps(folder, *words):
     ]
 
 
-def cases_of(words, text, below):
+def cases_of(words: tuple[str, ...], text: str, below: list[str]) -> Iterator[str]:
     """The lines of the shell for some words: which options there are, what else may come, and what after an option."""
     options = sorted(set(re.findall(r"^ +(?:-\w(?: [A-Z.]+)?, )?(--[a-z-]+)", text, re.M)))
     # A path may be before the command's name, and more words after all of them.
@@ -124,7 +127,7 @@ def cases_of(words, text, below):
     yield "      esac ;;\n"
 
 
-def completion(folder):
+def completion(folder: str) -> str:
     """The file that completes the words of the commands in a folder. The shell takes the first pattern that fits, so
     those of more words come first."""
     found = [of for name in COMMANDS for of in helps(folder, name)]
@@ -132,7 +135,7 @@ def completion(folder):
     return HEAD + "".join(line for of in found for line in cases_of(*of)) + TAIL
 
 
-def as_roff(text):
+def as_roff(text: str) -> str:
     """A text that is printed line by line, unchanged."""
     lines = [
         line.replace("\\", "\\e").replace("-", "\\-") for line in text.rstrip("\n").split("\n")
@@ -144,7 +147,7 @@ def as_roff(text):
     )
 
 
-def manual(folder, name):
+def manual(folder: str, name: str) -> str:
     """The manual page of a command: its purpose, the first sentence of its help that isn't its usage, and each help."""
     (_, text, _), *below = helps(folder, name)
     first = (
@@ -161,7 +164,7 @@ def manual(folder, name):
     )
 
 
-def main():
+def main() -> int:
     if sys.argv[1:] in (["-h"], ["--help"]):
         print(
             "Prints what completes the words of forestplan, forestplay and forestlab in bash and zsh.\n\n"

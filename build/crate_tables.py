@@ -59,12 +59,12 @@ def written(page: str) -> str:
 
 
 def main() -> int:
-    words = argparse.ArgumentParser(
+    parser = argparse.ArgumentParser(
         "python3 build crate-tables",
         description=HELP,
         formatter_class=argparse.RawTextHelpFormatter,
     )
-    words.parse_args()
+    parser.parse_args()
     text = written(read(PAGE))
     with open(os.path.join(TOP, PAGE), "w", encoding="utf-8") as page:
         page.write(text)

@@ -15,6 +15,8 @@ import shutil
 import subprocess
 import sys
 import time
+from collections.abc import Callable, Iterator, Mapping
+from typing import TextIO
 
 from build import kit
 from build.crate_lists import TOP, copy, listed, with_below
@@ -29,7 +31,7 @@ KEPT = "what is proved is kept, so the next call goes on from here"
 NOT_KEPT = "this kit doesn't say that it keeps what is proved, so the next call may begin again"
 
 
-def is_taken(lock):
+def is_taken(lock: TextIO) -> bool:
     """Takes the lock, unless another call has it."""
     try:
         fcntl.flock(lock, fcntl.LOCK_EX | fcntl.LOCK_NB)
@@ -38,21 +40,21 @@ def is_taken(lock):
     return True
 
 
-def take_note(lock, process=""):
+def take_note(lock: TextIO, process: str = "") -> None:
     """Writes the number of the process that proves, for the script and for calls that wait."""
     lock.truncate(0)
     lock.write(process)
     lock.flush()
 
 
-def who_proves(lock):
+def who_proves(lock: TextIO) -> str:
     lock.seek(0)
     process = lock.read()
     return f", process {process}, which `kill {process}` ends" if process else ""
 
 
 @contextlib.contextmanager
-def new_room(name):
+def new_room(name: str) -> Iterator[tuple[str, TextIO]]:
     """A place for a folder in the user's cache, and the lock on it: another call waits until this one ends."""
     room = kit.in_cache("room")
     os.makedirs(os.path.dirname(room), mode=0o700, exist_ok=True)
@@ -70,7 +72,7 @@ def new_room(name):
             shutil.rmtree(room, ignore_errors=True)
 
 
-def followed(name, rt, log, total, start):
+def followed(name: str, rt: subprocess.Popen[bytes], log: str, total: int, start: float) -> str:
     """What `rt ci` has said when it ends, or when a crate isn't proved. Meanwhile standard error gets a line when one
     is."""
     said = ""
@@ -89,15 +91,15 @@ def followed(name, rt, log, total, start):
             time.sleep(0.5)
 
 
-def tell(name, what):
+def tell(name: str, what: str) -> None:
     print(f"{name}: {what}", file=sys.stderr, flush=True)
 
 
-def since(start):
+def since(start: float) -> str:
     return duration(time.monotonic() - start)
 
 
-def tell_failure(name, status, said, log):
+def tell_failure(name: str, status: int, said: str, log: str) -> None:
     found = NOT_PROVED.search(said)
     what = f"the crate {found[1]} isn't proved" if found else f"rt ci ended with status {status}"
     tell(name, f"{what}; the last lines of {os.path.relpath(log, TOP)} are:")
@@ -105,7 +107,12 @@ def tell_failure(name, status, said, log):
         print(f"  {line}", file=sys.stderr)
 
 
-def run(name, crates, edits=None, take=None):
+def run(
+    name: str,
+    crates: list[str],
+    edits: Mapping[str, list[str]] | None = None,
+    take: Callable[[str], None] | None = None,
+) -> str | None:
     """Has these crates proved with those below them, and these edits of each tried, and calls `take` with the folder in
     which all is built. Returns what `rt ci` said, or None if a crate isn't proved, which standard error says then.
     """
@@ -124,7 +131,7 @@ def run(name, crates, edits=None, take=None):
                     shutil.copy(path, os.path.join(room, "crates", crate, "must-fail"))
             # If this process is killed, `rt` goes on, and the lock with it.
             with open(log, "wb") as to, subprocess.Popen(
-                [kit.command(), "ci"],
+                [kit.command() or "rt", "ci"],
                 cwd=room,
                 stdin=subprocess.DEVNULL,
                 stdout=to,

@@ -136,10 +136,10 @@ def help_texts() -> dict[str, str]:
 
 
 def main() -> int:
-    words = argparse.ArgumentParser(
+    parser = argparse.ArgumentParser(
         "python3 build help-texts", description=HELP, formatter_class=argparse.RawTextHelpFormatter
     )
-    words.parse_args()
+    parser.parse_args()
     for name, text in help_texts().items():
         with open(os.path.join(TOP, FOLDER, name), "w", encoding="utf-8") as file:
             file.write(text)

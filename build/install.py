@@ -93,7 +93,7 @@ NEEDS_THE_KIT = re.compile(r"^([^|\n]*\|[^|\n]*)\|[^|\n]*$", re.M)
 OF_THE_REPOSITORY = r"\[([^\]]+)\]\((?:crates/[^)]+|CONTRIBUTING\.md)\)"
 
 
-def readme(section):
+def readme(section: str) -> str:
     """The text of README as it is in a folder: with the commands that the folder has, as they are called."""
     with open(os.path.join(TOP, "README.md"), encoding="utf-8") as file:
         text = file.read()
@@ -102,7 +102,7 @@ def readme(section):
     return re.sub(OF_THE_REPOSITORY, r"\1", text)
 
 
-def make(room, section=SECTION):
+def make(room: str, section: str = SECTION) -> None:
     """Makes all that is installed in an empty folder."""
     os.makedirs(os.path.join(room, "lib"))
     for name in PROGRAMS:
@@ -136,7 +136,7 @@ def make(room, section=SECTION):
     subprocess.run(["chmod", "-R", "u=rwX,go=rX", room], check=True)
 
 
-def make_below(room, python):
+def make_below(room: str, python: str) -> None:
     """Makes all that is installed below a prefix, in an empty folder, with a folder of Python's, if it is named."""
     os.mkdir(room)
     make(f"{room}.folder", SECTION_OF_SYSTEM)
@@ -144,31 +144,31 @@ def make_below(room, python):
     subprocess.run([below, f"{room}.folder", room, python], check=True)
 
 
-def main():
-    words = parser_of(
+def main() -> int:
+    parser = parser_of(
         "install",
         "DIR | --prefix PREFIX [--destdir D] [--python FOLDER]",
         HELP,
         MORE_HELP,
         "python3 build",
     )
-    words.add_argument("dir", metavar="DIR", nargs="?", help="the folder that is made")
-    words.add_argument("--prefix", help="the folder in which a system has bin, lib and share")
-    words.add_argument("--destdir", metavar="D", default="", help="what comes before PREFIX")
-    words.add_argument(
+    parser.add_argument("dir", metavar="DIR", nargs="?", help="the folder that is made")
+    parser.add_argument("--prefix", help="the folder in which a system has bin, lib and share")
+    parser.add_argument("--destdir", metavar="D", default="", help="what comes before PREFIX")
+    parser.add_argument(
         "--python", metavar="FOLDER", default="", help="where Python has packages, below PREFIX"
     )
-    given = words.parse_args()
+    given = parser.parse_args()
     if (given.dir is None) == (given.prefix is None) or given.dir and given.destdir + given.python:
-        words.error("either DIR or --prefix is wanted")
+        parser.error("either DIR or --prefix is wanted")
     if os.path.isabs(given.python):
-        words.error("the folder of --python is below PREFIX, as lib/python3/dist-packages")
+        parser.error("the folder of --python is below PREFIX, as lib/python3/dist-packages")
     folder = os.path.abspath(given.dir or given.destdir + os.path.abspath(given.prefix))
     inside = os.path.relpath(os.path.realpath(folder), os.path.realpath(TOP))
     if inside.split(os.sep)[0] in FOLDERS:
-        words.error("the folder can't be inside of what is copied")
+        parser.error("the folder can't be inside of what is copied")
     if not is_free(folder):
-        words.error(f"{folder} is there already")
+        parser.error(f"{folder} is there already")
     status = program.built(PROGRAMS)
     if status:
         return status

@@ -4,37 +4,41 @@ import os
 import shutil
 import subprocess
 import sys
+from collections.abc import Iterable
 
 from build.crate_lists import TOP, lines_of, listed, with_below
 
 PARTS = ("src", "specs", "proofs")
 
 
-def command():
+def command() -> str | None:
     """The file of the toolchain's command `rt`, if it is on the PATH."""
     found = shutil.which("rt")
-    return found and os.path.realpath(found)
+    return os.path.realpath(found) if found else None
 
 
-def wanted():
+def wanted() -> str:
     """The line of the kit that these sources are for."""
     return line_in(TOP, "build", "kit_name.txt")
 
 
-def line_in(*path):
+def line_in(*path: str) -> str:
     with open(os.path.join(*path), encoding="utf-8") as line:
         return line.read().strip()
 
 
-def found():
+def found() -> str:
     """The line of the kit that `rt` is of, if it says so."""
+    rt = command()
     try:
-        return line_in(os.path.dirname(os.path.dirname(command())), "KIT-ID")
+        if rt:
+            return line_in(os.path.dirname(os.path.dirname(rt)), "KIT-ID")
     except OSError:
-        return "no kit that says its name"
+        pass
+    return "no kit that says its name"
 
 
-def is_there(name):
+def is_there(name: str) -> bool:
     """Whether the toolchain's command is there; says if it isn't, and if it is of another kit."""
     if not command():
         print(
@@ -50,11 +54,13 @@ def is_there(name):
     return True
 
 
-def keeps_proofs():
+def keeps_proofs() -> bool:
     """Whether `rt ci` keeps what it has proved for the next call. The kit says so where it prints its commands: one
     that keeps has an option to prove all again. It keeps beside itself, so a user who can't write there keeps nothing.
     """
     rt = command()
+    if not rt:
+        return False
     try:
         done = subprocess.run([rt, "--help"], capture_output=True, timeout=60, check=False)
     except (OSError, subprocess.TimeoutExpired):
@@ -63,33 +69,33 @@ def keeps_proofs():
     return b"--anew" in done.stdout and os.access(folder, os.W_OK)
 
 
-def in_cache(path):
+def in_cache(path: str) -> str:
     """A path in the user's cache of forestplan."""
     cache = os.environ.get("XDG_CACHE_HOME") or os.path.join(os.path.expanduser("~"), ".cache")
     return os.path.join(cache, "forestplan", path)
 
 
-def sum_of(*parts):
+def sum_of(*parts: bytes) -> str:
     total = hashlib.sha256()
     for part in parts:
         total.update(b"%d " % len(part) + part)
     return total.hexdigest()[:32]
 
 
-def sum_of_texts(folder):
+def sum_of_texts(folder: str) -> str:
     """A sum of what a crate is proved from: each file's path in the crate, and what it says."""
     files = []
     for part in PARTS:
         for at, _, names in os.walk(os.path.join(folder, part)):
             files += [os.path.join(at, name) for name in names]
-    parts = []
+    parts: list[bytes] = []
     for file in sorted(files):
         with open(file, "rb") as text:
             parts += [os.path.relpath(file, folder).encode(), text.read()]
     return sum_of(*parts)
 
 
-def sums(crates, top=TOP):
+def sums(crates: Iterable[str], top: str = TOP) -> dict[str, str]:
     """For each of these crates of a repository and those below them a sum of what it is proved from: its line, its
     sources, and the sums of those below. A crate that isn't asked for may be broken."""
     found: dict[str, str] = {}

@@ -10,7 +10,9 @@ from lab.words import parser_of
 from lab.workshop.class_files import write
 from lab.wrong import Wrong
 
-# The crates that are copied: what each is called as a crate, as a type, and as a name in texts.
+# What a crate is called as a crate, as a type, and as a name in texts.
+Model = tuple[str, str, str]
+# The crates that are copied.
 MODEL = ("silent", "Silent", "silent")
 SEQUEL = ("independent_set", "IndependentSet", "independent-set")
 
@@ -38,13 +40,13 @@ Example:
 """
 
 
-def renamed(text, model, name):
+def renamed(text: str, model: Model, name: str) -> str:
     """The text of a model with this name in the place of its own."""
     crate, title, words = model
     return text.replace(title, name.title()).replace(crate, name).replace(words, name)
 
 
-def add_test(name, top, model):
+def add_test(name: str, top: str, model: Model) -> None:
     """Writes the model's test, a module of `checks`, as one of the copy."""
     source = os.path.join(top, "crates", name, "src")
     test = f"crates/checks/src/{model[0]}_checks.rt"
@@ -56,7 +58,7 @@ def add_test(name, top, model):
         write(root, text.read().replace("mod texts;", "#[cfg(test)]\nmod tests;\nmod texts;"))
 
 
-def copy(name, top, model=MODEL):
+def copy(name: str, top: str, model: Model = MODEL) -> None:
     """Writes the crate, of which nothing is there before, and its line of crates.txt, after the model's.
     Its test makes rounds, so the line has `sync_rounds`, too."""
     if not re.fullmatch("[a-z]{1,20}", name):
@@ -76,13 +78,13 @@ def copy(name, top, model=MODEL):
         write(path, text.read().replace(line, f"{line}\n{renamed(line, model, name)} sync_rounds"))
 
 
-def main():
-    words = parser_of("new-program", "[--sequel] NAME", HELP, MORE_HELP, "python3 build")
-    words.add_argument("name", metavar="NAME", help="the program's name, a word of small letters")
-    words.add_argument(
+def main() -> int:
+    parser = parser_of("new-program", "[--sequel] NAME", HELP, MORE_HELP, "python3 build")
+    parser.add_argument("name", metavar="NAME", help="the program's name, a word of small letters")
+    parser.add_argument(
         "--sequel", action="store_true", help="a program that goes on after the colouring"
     )
-    given = words.parse_args()
+    given = parser.parse_args()
     copy(given.name, TOP, SEQUEL if given.sequel else MODEL)
     print(
         f"crates/{given.name} is there, and its line in crates.txt. What to change is in "

@@ -8,6 +8,7 @@ import os
 import shutil
 import sys
 import time
+from collections.abc import Iterable
 
 from build import gate, kit
 from build.crate_lists import PROGRAMS, TOP
@@ -30,22 +31,22 @@ Example:
 """
 
 
-def program_at(name, top=TOP):
+def program_at(name: str, top: str = TOP) -> str:
     return os.path.join(top, "crates", name, "out", name)
 
 
-def sources_of(name, top=TOP):
+def sources_of(name: str, top: str = TOP) -> str:
     """The sum of what a program is made from in a repository: its crates, and their lines of crates.txt."""
     return kit.sums([name], top)[name]
 
 
-def note_of(name, sources):
+def note_of(name: str, sources: str) -> str:
     """What the note says, of the program as it is."""
     with open(program_at(name), "rb") as program:
         return f"{kit.sum_of(program.read())}\n{sources}\n"
 
 
-def write_note(name, sources, since):
+def write_note(name: str, sources: str, since: float) -> None:
     """Writes the note, of the time since which nobody has looked at the sources: what is changed later is newer. It is
     written apart and then renamed, so that a second call meets no half of it; where it can't be written, the next call
     looks at all again."""
@@ -57,14 +58,14 @@ def write_note(name, sources, since):
         os.replace(file.name, note)
 
 
-def take_note(name, sources):
+def take_note(name: str, sources: str) -> None:
     """Takes note that the program was made from sources of this sum, if they still are so."""
     since = time.time()
     if sources_of(name) == sources:
         write_note(name, sources, since)
 
 
-def is_built(name):
+def is_built(name: str) -> bool:
     """Whether the program is there and was made from the sources as they are now. The note is then written again, so
     that it is newer than all of them."""
     since = time.time()
@@ -79,7 +80,7 @@ def is_built(name):
     return is_so
 
 
-def put(name, room):
+def put(name: str, room: str) -> None:
     """Puts a program into place that was proved in a room, and a note beside it, if the sources are still those."""
     to = program_at(name)
     os.makedirs(os.path.dirname(to), exist_ok=True)
@@ -88,7 +89,7 @@ def put(name, room):
     take_note(name, sources_of(name, room))
 
 
-def build(name):
+def build(name: str) -> int:
     """Proves and builds a program, and returns the status."""
     print(f"{name}: not built from these sources yet", file=sys.stderr)
     if not kit.is_there(name):
@@ -105,17 +106,17 @@ def build(name):
     return NOT_BUILT
 
 
-def built(names):
+def built(names: Iterable[str]) -> int:
     """Builds those of these programs that aren't built, one after the other, and returns the first status that isn't
     0."""
     return next(filter(None, (build(name) for name in names if not is_built(name))), 0)
 
 
-def main():
-    words = parser_of(
+def main() -> int:
+    parser = parser_of(
         "program", "[--ask | --sources | --made-from SUM] NAME ..", HELP, MORE_HELP, "python3 build"
     )
-    what = words.add_mutually_exclusive_group()
+    what = parser.add_mutually_exclusive_group()
     what.add_argument(
         "--ask", action="store_true", help="build nothing; the status says whether all are built"
     )
@@ -128,10 +129,10 @@ def main():
         help="take note that they were made from sources of this sum, if "
         "that is still theirs, as ./test does after the gate",
     )
-    words.add_argument(
+    parser.add_argument(
         "names", nargs="+", metavar="NAME", choices=PROGRAMS, help=" or ".join(PROGRAMS)
     )
-    given = words.parse_args()
+    given = parser.parse_args()
     if given.ask:
         return 0 if all(map(is_built, given.names)) else 1
     if given.sources:

@@ -23,6 +23,7 @@ edit, so it is run by hand, with --since before each change is handed in; `./tes
 import os
 import re
 import subprocess
+from collections.abc import Collection, Iterable, Mapping
 
 from build import gate, kit
 from build.crate_lists import TOP, listed
@@ -40,14 +41,14 @@ VERDICT = re.compile(
 COUNTED = {"refused": "refused", "NOT REFUSED": "PROVED"}
 
 
-def edits_of(crate):
+def edits_of(crate: str) -> list[str]:
     folder = os.path.join(TOP, "crates", crate, "wrong-bodies")
     return sorted(
         os.path.join(folder, name) for name in os.listdir(folder) if name.endswith(".edit")
     )
 
 
-def is_weak(path, why):
+def is_weak(path: str, why: str) -> bool:
     """Whether a refusal says little of the contract."""
     if NAME_ALONE in why:
         return True
@@ -56,7 +57,7 @@ def is_weak(path, why):
     return bool(BY_HAND.match(why)) and not names_clause
 
 
-def changed_since(rev, given, at_hand):
+def changed_since(rev: str, given: Mapping[str, list[str]], at_hand: list[str]) -> list[str]:
     """The crates with wrong bodies that a change since the commit `rev` may concern."""
     asked = ["git", "-C", TOP, "diff", "--name-only", "--no-renames", rev, "--", "crates"]
     done = subprocess.run(asked, capture_output=True, text=True)
@@ -68,7 +69,7 @@ def changed_since(rev, given, at_hand):
     return [crate for crate in at_hand if crate in own or said.intersection(given.get(crate, ()))]
 
 
-def chosen(names, at_hand):
+def chosen(names: Iterable[str], at_hand: Collection[str]) -> dict[str, list[str]]:
     """{crate: its edits} of crates, and of single edits, CRATE/NAME, with `.edit` after it or without."""
     edits: dict[str, list[str]] = {}
     for name in names:
@@ -81,7 +82,7 @@ def chosen(names, at_hand):
     return edits
 
 
-def tell(said, edits):
+def tell(said: str, edits: Mapping[str, list[str]]) -> int:
     """Prints each edit that `rt ci` doesn't say is refused, or refused for a proof alone, and returns the status."""
     found = {name: (verdict, why) for name, verdict, why in VERDICT.findall(said)}
     counts = dict.fromkeys(("refused", "WEAK", "PROVED", "not run"), 0)
@@ -106,18 +107,18 @@ def tell(said, edits):
     return 3 if counts["WEAK"] else 0
 
 
-def main():
-    summary, _, more = __doc__.partition("\n\n")
-    words = parser_of(
+def main() -> int:
+    summary, _, more = (__doc__ or "").partition("\n\n")
+    parser = parser_of(
         "wrong-bodies", "[--since REV | CRATE .. | CRATE/NAME ..]", summary, more, "python3 build"
     )
-    words.add_argument(
+    parser.add_argument(
         "--since", metavar="REV", help="only what a change since the commit REV may concern"
     )
-    words.add_argument(
+    parser.add_argument(
         "names", nargs="*", metavar="CRATE", help="a crate, or one edit of it, as CRATE/NAME"
     )
-    asked = words.parse_args()
+    asked = parser.parse_args()
     given = listed()
     at_hand = sorted(
         crate
@@ -125,7 +126,7 @@ def main():
         if os.path.isdir(os.path.join(TOP, "crates", crate, "wrong-bodies"))
     )
     if asked.since and asked.names:
-        words.error("--since chooses the crates itself")
+        parser.error("--since chooses the crates itself")
     names = changed_since(asked.since, given, at_hand) if asked.since else asked.names or at_hand
     edits = chosen(names, at_hand)
     if not kit.is_there("wrong-bodies"):

@@ -4,6 +4,7 @@ ask for."""
 import os
 import subprocess
 import sys
+from collections.abc import Iterable
 
 from lab.unbuilt import how_to_build
 from lab.wrong import Wrong
@@ -28,12 +29,13 @@ run_program "$top/lib/$name" "$name" "$@"
 class Refused(Exception):
     """A program refused: `status` is its own, and `words` is what it wrote to standard error."""
 
-    def __init__(self, status, words):
+    def __init__(self, status: int, words: str) -> None:
         super().__init__(status, words)
-        self.status, self.words = status, words
+        self.status = status
+        self.words = words
 
 
-def built(name):
+def built(name: str) -> str | None:
     """The program's file, or None if it isn't built. An installed folder has it in lib/."""
     is_tree = os.path.isdir(os.path.join(TOP, "crates", name))
     path = (
@@ -44,7 +46,7 @@ def built(name):
     return path if os.path.isfile(path) and os.access(path, os.X_OK) else None
 
 
-def program_file(name):
+def program_file(name: str) -> str:
     """The program's file; refused if it isn't built."""
     path = built(name)
     if path is None:
@@ -52,11 +54,11 @@ def program_file(name):
     return path
 
 
-def called(name, words, data):
+def called(name: str, arguments: Iterable[str], data: bytes) -> subprocess.CompletedProcess[bytes]:
     """What a program did with a text: its status, and the bytes of both outputs."""
     try:
         return subprocess.run(
-            [program_file(name), *words],
+            [program_file(name), *arguments],
             input=data,
             capture_output=True,
             env={"GLIBC_TUNABLES": TUNABLES, **os.environ},
@@ -65,9 +67,9 @@ def called(name, words, data):
         raise Wrong(f"{name} can't be run: {why.strerror}") from None
 
 
-def text_of(name, words, data):
+def text_of(name: str, arguments: Iterable[str], data: bytes) -> str:
     """What a program writes of a text; what it says besides goes on to standard error, or into `Refused`."""
-    done = called(name, words, data)
+    done = called(name, arguments, data)
     said = done.stderr.decode("utf-8", "replace")
     if done.returncode:
         raise Refused(done.returncode, said)
