@@ -7,6 +7,7 @@ import hashlib
 import os
 import sysconfig
 import zipfile
+from collections.abc import Iterator
 
 TOP = os.path.dirname(os.path.dirname(os.path.dirname(os.path.realpath(__file__))))
 PACKAGE = os.path.join("lab", "python", "forestplan")
@@ -16,7 +17,9 @@ COMMANDS = ("forestlab", "forestplan", "forestplay")
 LICENSES = ("LICENSE-APACHE", "LICENSE-MIT")
 
 
-def build_wheel(folder, config_settings=None, metadata_directory=None):
+def build_wheel(
+    folder: str, config_settings: object = None, metadata_directory: str | None = None
+) -> str:
     """Writes the wheel into a folder, and returns its name."""
     version = text_in("VERSION").split()[1]
     tag = "py3-none-" + sysconfig.get_platform().replace("-", "_").replace(".", "_")
@@ -54,12 +57,12 @@ Description-Content-Type: text/plain
     return name
 
 
-def text_in(*parts):
+def text_in(*parts: str) -> str:
     with open(os.path.join(TOP, *parts), encoding="utf-8") as file:
         return file.read()
 
 
-def files(info):
+def files(info: str) -> Iterator[tuple[str, str]]:
     """(path in the wheel, path here) of all that it has of this folder."""
     yield from ((f"{info}/{name}", name) for name in LICENSES)
     yield "forestplan/installed/VERSION", "VERSION"
@@ -72,7 +75,7 @@ def files(info):
                 yield path.removeprefix("lab/python/") if path.startswith(PACKAGE) else inner, path
 
 
-def row(path, data):
+def row(path: str, data: bytes) -> str:
     """The line of a file in the list of all files."""
     digest = base64.urlsafe_b64encode(hashlib.sha256(data).digest()).rstrip(b"=").decode()
     return f"{path},sha256={digest},{len(data)}\n"

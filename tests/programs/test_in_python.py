@@ -317,7 +317,7 @@ class InPython(Case):
         """As many as are asked for, but no more than there are processors."""
         for usable, asked, wanted in ((1, 4, "1"), (2, 64, "2"), (8, 3, "3"), (64, 64, "64")):
             with mock.patch("os.sched_getaffinity", return_value=range(usable)):
-                got = forestplan._words_of(asked, 0)
+                got = forestplan._command_of(asked, 0)
             self.same(f"{asked} workers, {usable} processors", got[-1], wanted)
 
     @needs("bin/forestplan", "bin/forestplay")
@@ -334,7 +334,7 @@ class InPython(Case):
     @needs("bin/forestplan", "bin/forestplay")
     def test_pictures(self):
         for one in (forestplan.rounds(SQUARE), forestplan.transcript(SQUARE)):
-            picture = ElementTree.fromstring(one._repr_svg_())
+            picture = ElementTree.fromstring(one._repr_svg_() or "")
             self.note(
                 f"a picture of {type(one).__name__}",
                 picture.tag.endswith("svg") and len(picture) > 3,
@@ -347,7 +347,9 @@ class InPython(Case):
         plan = forestplan.plan(star, licence=[40, 36])
         hues = {40: CHANNEL_HUES[0], 36: CHANNEL_HUES[1]}
         self.same("by node", plan.colours(), {node: hues[plan[node]] for node in star})
-        self.note("the picture says them", "1 is 40, 2 is 36" in plan._repr_svg_(), plan.title)
+        self.note(
+            "the picture says them", "1 is 40, 2 is 36" in (plan._repr_svg_() or ""), plan.title
+        )
         need(self, "matplotlib")
         made = forestplan.colour_map(9)
         self.same("a colour map", made.colors, [*CHANNEL_HUES, CHANNEL_HUES[0]])

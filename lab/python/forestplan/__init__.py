@@ -15,7 +15,7 @@ refuses raises `Refused`, a ValueError, too. If a program isn't built, FileNotFo
 import forestplan._python  # noqa: F401  (first, since it refuses a Python that is too old)
 
 import tempfile
-from collections.abc import Iterable, Mapping
+from collections.abc import Callable, Iterable, Mapping
 from typing import Any, NamedTuple
 
 from forestplan._graphs import (
@@ -93,7 +93,7 @@ class Refused(ValueError):
 
     def __init__(
         self, words: str, code: str = "", nodes: Iterable[Node] = (), plan: "Plan | None" = None
-    ):
+    ) -> None:
         super().__init__(words)
         self.words = words
         self.code = code
@@ -147,7 +147,7 @@ class Plan(_Answer, dict[Node, int]):
         """{node: "#0072B2"}: the colours of the channels, the same as in all pictures here, as for
         `networkx.draw(G, nodelist=list(plan), node_color=list(plan.colours().values()), labels=plan)`. Channels 9 to 16
         have those of 1 to 8, and so on: draw the channels, too."""
-        hue = of_lab("pictures", "palette").channel_hue
+        hue: Callable[[int], str] = of_lab("pictures", "palette").channel_hue
         return {node: hue(self.number(node)) for node in self}
 
 
@@ -180,7 +180,7 @@ def plan(
 
     Raises `Refused` if it takes more channels than the licence has, or if a node has more than 1,023 neighbours.
     """
-    network, order, text = _asked(_words_of(workers, passes), G, bars, licence)
+    network, order, text = _asked(_command_of(workers, passes), G, bars, licence)
     lines = text.removeprefix("plan\n").splitlines()
     number = {node: int(line.split()[-1]) for node, line in zip(order, lines, strict=True)}
     found = Plan((node, number[node]) for node in dict.fromkeys([*G, *order]))
@@ -197,7 +197,7 @@ def plan(
     return found
 
 
-def check(G: Any, plan: Mapping, bars: Bars = None, licence: Channels = None) -> int:
+def check(G: Any, plan: Mapping[Any, int], bars: Bars = None, licence: Channels = None) -> int:
     """Has a plan judged, whoever made it: returns how many channels it takes, counted from 1 to the greatest.
 
     >>> check({"Ulm": ["Aue"], "Aue": []}, {"Ulm": 2, "Aue": 1})
@@ -269,14 +269,14 @@ def colour_map(channels: int = 8) -> Any:
     return ListedColormap([hue(channel + 1) for channel in range(channels)], "forestplan")
 
 
-def _workers(workers):
+def _workers(workers: int) -> list[str]:
     """The words that ask for so many worker threads, or for fewer where there are fewer processors."""
     asked = whole(workers, "workers", 1, MAX_WORKERS)
     return ["--workers", str(of_lab("processors").workers(asked))]
 
 
-def _words_of(workers, passes):
-    """The program and its words that find a plan."""
+def _command_of(workers: int | None, passes: int) -> list[str]:
+    """The program and its arguments that find a plan."""
     more = [] if workers is None else _workers(workers)
     command = ["forestplan", "plan" if more else "plain"]
     if many := whole(passes, "passes", 0, MAX_PASSES):
@@ -285,22 +285,24 @@ def _words_of(workers, passes):
     return [*command, *more]
 
 
-def _asked(words, G, bars, licence):
+def _asked(
+    command: list[str], G: Any, bars: Bars, licence: Channels
+) -> tuple[str, list[Node], str]:
     """A graph as the programs read it, its nodes in the order of their numbers, and what a program writes of it."""
     network, order = text_of(G, bars, licence)
-    return network, order, _called(words, network, order)
+    return network, order, _called(command, network, order)
 
 
-def _called(words, text, order):
+def _called(command: list[str], text: str, order: list[Node]) -> str:
     """What a program writes of a text in which nodes have numbers of this order."""
-    status, out, said = called([program_at(words[0]), *words[1:]], text)
+    status, out, said = called([program_at(command[0]), *command[1:]], text)
     if not status:
         return out
     fault = said.partition(": ")[2]
     codes = of_lab("networks", "codes")
     told = codes.code_of(fault)
     if told is None:
-        raise RuntimeError(f"{words[0]} has ended with status {status}: {said}")
+        raise RuntimeError(f"{command[0]} has ended with status {status}: {said}")
     what, *numbers = fault.split()[1:] or [""]
     nodes = [order[int(number) - 1] for number in numbers] if what.startswith("vert") else []
     meant = "\n".join(codes.tell_code(told))

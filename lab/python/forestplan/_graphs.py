@@ -8,6 +8,9 @@ from forestplan._programs import of_lab
 Node = Hashable
 Bars = Mapping[Any, Iterable[int]] | None
 Channels = Sequence[int] | None
+# The numbers of the nodes, and the two ends of an edge.
+Numbers = Mapping[Node, int]
+Pair = tuple[Node, Node]
 
 # The programs' limits.
 MAX_NODES = 20000
@@ -20,17 +23,19 @@ MAX_PASSES = 64
 MAX_REAL = 10**12
 
 
-def bounded(value, what, least, most, kind=numbers.Real):
+def bounded(value: Any, what: str, least: float, most: float, kind: type = numbers.Real) -> float:
     """A number in these bounds; a truth value is none."""
-    if isinstance(value, bool) or not isinstance(value, kind):
+    is_one = isinstance(value, kind) and not isinstance(value, bool)
+    if not is_one:
         whole = "whole " if kind is numbers.Integral else ""
         raise TypeError(f"{what} is {value!r}, and has to be a {whole}number")
     if not least <= value <= most:
         raise ValueError(f"{what} is {value}, and has to be from {least:,} to {most:,}")
-    return value
+    number: float = value
+    return number
 
 
-def whole(value, what, least, most):
+def whole(value: object, what: str, least: int, most: int) -> int:
     return int(bounded(value, what, least, most, numbers.Integral))
 
 
@@ -38,7 +43,7 @@ class Licence:
     """The channels that all may use, in order of preference. Channel k of a program is the k-th of them; without a
     licence it is k itself."""
 
-    def __init__(self, channels):
+    def __init__(self, channels: Channels) -> None:
         self.channels = channels
         if channels is None:
             return
@@ -52,7 +57,7 @@ class Licence:
         if len(self.counted) < len(channels):
             raise ValueError("the licence names a channel twice")
 
-    def number(self, channel, what):
+    def number(self, channel: object, what: str) -> int | None:
         """Which channel of a program it is; None if the licence lacks it."""
         if self.channels is None:
             return whole(channel, what, 1, MAX_CHANNEL)
@@ -63,7 +68,7 @@ class Sites(dict[Node, list[Node]]):
     """{site: [the sites within its reach]}, as `sites` makes it: a graph that all functions take. `places` has where a
     site is on a map in kilometres, (x, y) with y growing downwards."""
 
-    def __init__(self, names: Iterable[Node] = ()):
+    def __init__(self, names: Iterable[Node] = ()) -> None:
         super().__init__((name, []) for name in names)
         self.places: dict[Node, tuple[float, float]] = {}
 
@@ -88,26 +93,27 @@ def text_of(G: Any, bars: Bars = None, licence: Channels = None) -> tuple[str, l
     return "\n".join(lines) + "\n", order
 
 
-def lines_of_nodes(G, given, number):
+def lines_of_nodes(G: object, given: list[Node], number: Numbers) -> list[str]:
     """The places of sites, and identifiers, which count the nodes as they are given."""
     places = G.places if isinstance(G, Sites) else {}
     lines = [f"c at {number[v]} {x:.3f} {y:.3f}" for v, (x, y) in places.items() if v in number]
     return lines + [f"i {number[v]} {k}" for k, v in enumerate(given, 1) if number[v] != k]
 
 
-def near_order(given, pairs):
+def near_order(given: list[Node], pairs: list[Pair]) -> list[Node]:
     """The nodes as they are given; those of a large graph near their neighbours. Their identifiers stay."""
     near = of_lab("networks", "near")
     if len(given) < near.LARGE:
         return given
-    neighbours: dict[Any, dict[Any, None]] = {node: {} for node in given}
+    neighbours: dict[Node, dict[Node, None]] = {node: {} for node in given}
     for one, other in pairs:
         if one != other:
             neighbours[one][other] = neighbours[other][one] = None
-    return near.near_order(neighbours)
+    order: list[Node] = near.near_order(neighbours)
+    return order
 
 
-def barred_in(bars, number, licence):
+def barred_in(bars: Bars, number: Numbers, licence: Licence) -> list[tuple[int, int]]:
     """The numbers of nodes and of the channels that are barred at them, ascending."""
     if not isinstance(bars, Mapping | None):
         raise TypeError(
@@ -128,7 +134,7 @@ def barred_in(bars, number, licence):
     return sorted(found)
 
 
-def pairs_of(G):
+def pairs_of(G: Any) -> list[Pair]:
     """The edges of a graph of networkx, or of a dict of lists."""
     if callable(getattr(G, "edges", None)):
         return [(one, other) for one, other, *_ in G.edges()]
@@ -140,7 +146,7 @@ def pairs_of(G):
     return [(one, other) for one, several in G.items() for other in neighbours_in(G, one, several)]
 
 
-def neighbours_in(G, one, several):
+def neighbours_in(G: Mapping[Node, object], one: Node, several: object) -> list[Node]:
     """The neighbours of a node of a dict: each once, and each with an entry of its own."""
     found = list(items(several, f"neighbours of {one!r}"))
     for other in found:
@@ -151,7 +157,7 @@ def neighbours_in(G, one, several):
     return found
 
 
-def items(several, what):
+def items(several: object, what: str) -> Iterable[Node]:
     """What is in a list or a set; a text isn't taken letter by letter."""
     is_other = isinstance(several, (str, bytes, Mapping))
     if is_other or not isinstance(several, Iterable):

@@ -4,6 +4,9 @@ import importlib.util
 import os
 import subprocess
 import sys
+from collections.abc import Sequence
+from types import ModuleType
+from typing import NoReturn
 
 HERE = os.path.dirname(os.path.realpath(__file__))
 
@@ -19,7 +22,7 @@ def home() -> str:
     raise FileNotFoundError("there is no folder of forestplan that is installed or built")
 
 
-def program_at(name):
+def program_at(name: str) -> str:
     """The file of a program. Raises FileNotFoundError if it isn't built."""
     places = (os.path.join(home(), *parts, name) for parts in (("crates", name, "out"), ("lib",)))
     found = next((place for place in places if os.access(place, os.X_OK)), None)
@@ -29,19 +32,19 @@ def program_at(name):
     return found
 
 
-def called(words, text):
+def called(command: Sequence[str], text: str) -> tuple[int, str, str]:
     """The status and both outputs of a process that reads a text."""
-    done = subprocess.run(words, input=text.encode("utf-8", "replace"), capture_output=True)
+    done = subprocess.run(command, input=text.encode("utf-8", "replace"), capture_output=True)
     return (done.returncode, done.stdout.decode(), done.stderr.decode("utf-8", "replace").strip())
 
 
-def lab_called(words, text):
+def lab_called(arguments: Sequence[str], text: str) -> tuple[int, str, str]:
     """The same of a command of forestlab."""
-    return called([sys.executable, "-S", os.path.join(home(), "lab"), *words], text)
+    return called([sys.executable, "-S", os.path.join(home(), "lab"), *arguments], text)
 
 
 @functools.cache
-def of_lab(*parts):
+def of_lab(*parts: str) -> ModuleType:
     """A module of lab/ that stands alone; the package `lab` itself isn't imported, since users may have one of that
     name."""
     path = os.path.join(home(), "lab", *parts) + ".py"
@@ -53,7 +56,7 @@ def of_lab(*parts):
     return module
 
 
-def command():
+def command() -> NoReturn:
     """What pip puts on the PATH as forestplan, forestplay and forestlab: the script of this name in place of this
     process."""
     name = os.path.basename(sys.argv[0])

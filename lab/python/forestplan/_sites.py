@@ -1,5 +1,5 @@
 """Sites that interfere since they are near each other, by the code of `forestlab network read --sites --reach`."""
-from collections.abc import Mapping
+from collections.abc import Iterable, Mapping
 from typing import Any
 
 from forestplan._graphs import MAX_EDGES, Sites, bounded
@@ -46,7 +46,7 @@ def sites(places: Mapping[Any, Any], reach: float, unit: str = "degrees") -> Sit
     return found
 
 
-def place_of(site, place, unit):
+def place_of(site: object, place: Iterable[object], unit: str) -> list[float]:
     """A place in degrees or in kilometres."""
     factor, *bounds = UNITS[unit]
     try:
