@@ -175,7 +175,13 @@ class Told(NamedTuple):
 
 def code_of(words: str) -> Told | None:
     """What is told of a fault, as `C8`, `C8 vertex 1` or `forestplay: NotReady line 9: safe 0 of 2`; None if the words
-    are no fault."""
+    are no fault.
+
+    >>> code_of("C3 vertex 5").what
+    'vertex 5 has a second line in the plan'
+    >>> code_of("C99") is None
+    True
+    """
     found = WRITTEN.fullmatch(words)
     if found is None:
         return None
@@ -197,7 +203,12 @@ def code_of(words: str) -> Told | None:
 
 
 def tell_code(told: Told) -> list[str]:
-    """What it means, and what to do, a line each."""
+    """What a fault means, and what to do, a line each.
+
+    >>> print(*tell_code(code_of("C3")), sep="\\n")
+    C3, a fault of a plan: a vertex has a second line in the plan
+    what to do: leave one of them
+    """
     here = [f"here: {told.more}"] if told.more else []
     return [
         f"{told.name}{told.number}, a fault of {told.of}: {told.what}",

@@ -63,7 +63,13 @@ class Declared:
 
 
 def in_xml(data: bytes, path: str) -> Declared:
-    """The elements of GraphML or GEXF that are in the namespace of the first one."""
+    """What a text in GraphML or GEXF declares: its elements that are in the namespace of the first one.
+
+    >>> in_xml(b'<graphml><graph><node id="a"/></graph></graphml>', "net.graphml").nodes
+    {'a': 1}
+
+    Raises `Wrong` of what is no XML, of a second graph, and of an end of an edge that isn't declared.
+    """
     declared = Declared(path)
     for found in TAG.finditer(data):
         if found.end() - found.start() > LONGEST_TAG:
@@ -123,7 +129,13 @@ def loaded(data: bytes, path: str) -> dict[str, object]:
 
 
 def in_json(data: bytes, path: str) -> Declared:
-    """The nodes and edges of JSON as networkx writes it, which calls the edges `links` or `edges`."""
+    """What a text in JSON declares, as networkx writes it, which calls the edges `links` or `edges`.
+
+    >>> in_json(b'{"nodes": [{"id": "a"}], "links": []}', "net.json").nodes
+    {'a': 'nodes[0]'}
+
+    Raises `Wrong` of what is no such JSON, and of an end of an edge that isn't declared.
+    """
     whole = loaded(data, path)
     lists = {key: value for key, value in whole.items() if isinstance(value, list)}
     if sorted(lists) not in (["links", "nodes"], ["edges", "nodes"]):

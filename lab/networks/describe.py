@@ -45,15 +45,25 @@ def rounds_here(network: Network) -> "Rounds | None":
 
 
 def most_payloads(network: Network) -> int:
-    """A greeting both ways, a label and ten colours of each edge; and in each merge both ends of each edge choose.
-    No run sends more: clause `by_forest` of the law `colouring_is_bounded` (crates/bound_laws)."""
+    """The most messages that the rounds of a network can have: a greeting both ways, a label and ten colours of each
+    edge; and in each merge both ends of each edge choose. No run sends more: clause `by_forest` of the law
+    `colouring_is_bounded` (crates/bound_laws).
+
+    >>> most_payloads(Network(2, [(1, 2)]))
+    15
+    """
     forests = network.forest_count
     merged = sum(forests - f for parents in network.higher.values() for f in range(len(parents)))
     return 13 * len(network.edges) + 2 * merged
 
 
 def processor_seconds(run: Run, command: str) -> float:
-    """About how much processor time `plan` or `transcript` takes, by its wires alone."""
+    """About how many seconds of processor time `plan` or `transcript` takes, by its wires alone.
+
+    >>> run = Run(Network(2, [(1, 2)]))
+    >>> processor_seconds(run, "transcript") > processor_seconds(run, "plan")
+    True
+    """
     return run.wires / WIRES_A_SECOND[command]
 
 

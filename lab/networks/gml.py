@@ -108,7 +108,13 @@ class Reader:
 
 
 def in_gml(data: bytes, path: str) -> Declared:
-    """The lists of GML."""
+    """The nodes and edges that a text in GML declares, with their lines.
+
+    >>> in_gml(b"graph [\\n node [ id 1 ]\\n]\\n", "net.gml").nodes
+    {'1': 2}
+
+    Raises `Wrong` of what is no GML, and of an end of an edge that isn't declared.
+    """
     reader = Reader(path)
     for token in tokens_of(data.decode(), path):
         reader.take(token)
@@ -116,7 +122,11 @@ def in_gml(data: bytes, path: str) -> Declared:
 
 
 def with_multigraph(text: str) -> str:
-    """The text with the word `multigraph` in its graph: without it networkx refuses a second edge of the same ends."""
+    """The text with the word `multigraph` in its graph: without it networkx refuses a second edge of the same ends.
+
+    >>> with_multigraph("graph [ node [ id 1 ] ]")
+    'graph [ multigraph 1  node [ id 1 ] ]'
+    """
     depth = 0
     before = ""
     for token in tokens_of(text, ""):

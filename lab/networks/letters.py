@@ -20,7 +20,12 @@ LONGEST_SPARSE = (MAX_EDGES + MAX_NODES) * (1 + MAX_NODES.bit_length()) // 6 + 1
 
 
 def in_graph6(data: bytes, path: str) -> None:
-    """Refuses what isn't one line of graph6 within the limits."""
+    """Refuses what isn't one line of graph6 within the limits. `A_` is two nodes and their edge.
+
+    >>> in_graph6(b"A_", "two.g6")
+
+    Raises `Wrong` of another number of letters than the nodes take, and of too many nodes or edges.
+    """
     nodes, letters = declared("graph6", data, path)
     pairs = nodes * (nodes - 1) // 2
     wanted = (pairs + 5) // 6
@@ -33,7 +38,14 @@ def in_graph6(data: bytes, path: str) -> None:
 
 
 def in_sparse6(data: bytes, path: str) -> None:
-    """Refuses what isn't one line of sparse6 within the limits."""
+    """Refuses what isn't one line of sparse6 within the limits.
+
+    >>> in_sparse6(b"A_", "two.s6")
+    Traceback (most recent call last):
+    lab.wrong.Wrong: two.s6 line 1: no sparse6: `A_`
+
+    Raises `Wrong` of what doesn't begin as sparse6 does, and of too many nodes or edges.
+    """
     _, letters = declared("sparse6", data, path)
     if len(letters) > LONGEST_SPARSE:
         raise wrong_line(path, 1, f"more than {MAX_EDGES} edges")

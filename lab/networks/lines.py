@@ -42,7 +42,14 @@ def tail_of(more: str | None) -> str:
 
 
 def edges(text: str, name: str) -> Listed:
-    """Two nodes a line, and after them nothing, a number, or data in braces, as after the first."""
+    """What a text of edges lists: two nodes a line, and after them nothing, a number, or data in braces, as after the
+    first.
+
+    >>> edges("Ulm Hof\\nHof Aue\\n", "net.edgelist").names()
+    ['Ulm', 'Hof', 'Aue']
+
+    Raises `Wrong` of the first line that isn't one of edges.
+    """
     rows, notes = rows_in(text, name)
     found = Listed("edges", notes=notes)
     tails: set[str] = set()
@@ -65,9 +72,13 @@ def edges(text: str, name: str) -> Listed:
 
 
 def adjacency(text: str, name: str) -> Listed:
-    """A node, maybe with a colon after it, and its neighbours; each node has a line of its own.
+    """What a text of neighbours lists: a node, maybe with a colon after it, and its neighbours; each node has a line of
+    its own. networkx writes the words of its script after the `#` of the first line.
 
-    networkx writes the words of its script after the `#` of the first line.
+    >>> adjacency("Ulm: Hof\\nHof:\\n", "net.adjlist").edges
+    [(1, 'Ulm', 'Hof')]
+
+    Raises `Wrong` of a second line of a node, and of a neighbour without a line.
     """
     rows, notes = rows_in(re.sub(r"\A#", "# ", text), name)
     nodes: dict[str, Where] = {}

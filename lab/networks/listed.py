@@ -60,7 +60,13 @@ def composed(word: str) -> str | None:
 
 
 def name_of(word: str, path: str, where: Where) -> str:
-    """The name of a node: it has a letter or a digit, and nothing that can't be seen."""
+    """The name of a node: it has a letter or a digit, and nothing that can't be seen. Blanks around it are dropped.
+
+    >>> name_of(" Ulm ", "sites.csv", 2)
+    'Ulm'
+
+    Raises `Wrong` of what is no name.
+    """
     name = composed(word)
     if name is None:
         raise wrong_line(path, where, f"no name of a node: `{shown(word)}`")
@@ -68,12 +74,23 @@ def name_of(word: str, path: str, where: Where) -> str:
 
 
 def not_read(what: str, names: Collection[str]) -> list[str]:
-    """A note of what isn't read, if there is something."""
+    """A note of what isn't read, if there is something.
+
+    >>> not_read("columns", ["height", "owner"])
+    ["columns that aren't read: height, owner"]
+    """
     return [f"{what} that aren't read: {', '.join(map(shown, names))}"] if names else []
 
 
 def check_known(name: str, known: Collection[str], path: str, where: Where, what: str) -> None:
-    """Refuses a node that isn't a site, with the site that is written most alike."""
+    """Refuses a node that isn't known.
+
+    >>> check_known("Ulmm", ["Ulm", "Hof"], "pairs.csv", 3, "isn't a site")
+    Traceback (most recent call last):
+    lab.wrong.Wrong: pairs.csv line 3: Ulmm isn't a site, is it Ulm?
+
+    Raises `Wrong`, which names the known one that is written most alike.
+    """
     if name not in known:
         alike = difflib.get_close_matches(name, known, n=1, cutoff=0.7)
         asked = f", is it {shown(alike[0])}?" if alike else ""

@@ -19,7 +19,13 @@ EXAMPLES = [os.path.join(TOP, "examples", "workshop"), os.path.join(TOP, "exampl
 
 def path_of(name: str) -> str | None:
     """The file that a name means, or `-`; None if it means none. A name of an example or of a kind means that in any
-    folder, whatever is there: `./two` is the file."""
+    folder, whatever is there: `./two` is the file.
+
+    >>> os.path.basename(path_of("petersen"))
+    'petersen.col'
+    >>> path_of("ring7") is None
+    True
+    """
     if name == "-":
         return name
     for folder in EXAMPLES:
@@ -42,7 +48,13 @@ def sizes_of(name: str) -> tuple[str, list[int]] | None:
 
 
 def network_bytes(name: str) -> bytes:
-    """The text of the network of a name: a file, an example, or a kind with its size."""
+    """The text of the network of a name: a file, an example, or a kind with its size.
+
+    >>> network_bytes("path2").splitlines()[-1]
+    b'e 1 2'
+
+    Raises `Wrong` of a name that means none, and of a file that can't be read.
+    """
     path = path_of(name)
     if path is not None:
         return bytes_at(path, why=TOO_LONG)
@@ -63,7 +75,13 @@ def network_bytes(name: str) -> bytes:
 
 
 def network_at(name: str) -> Network:
-    """The network of a name, with the name that it has in what is printed."""
+    """The network of a name, with the name that it has in what is printed.
+
+    >>> network_at("grid2x2").edges
+    [(1, 2), (1, 3), (2, 4), (3, 4)]
+
+    Raises `Wrong` of a name that means none, and of the first fault of its text.
+    """
     network = network_of(network_bytes(name), text_name(name))
     if name == "-":
         network.name = "this network"

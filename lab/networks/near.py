@@ -12,6 +12,9 @@ LARGE = 1000
 def near_order(neighbours: Mapping[Node, Iterable[Node]]) -> list[Node]:
     """The nodes by breadth first search, from one with the fewest neighbours; what can't be reached from there comes
     after, in the same way. Of nodes that are alike in this the first of `neighbours` comes first.
+
+    >>> near_order({"a": "bc", "b": "a", "c": "a", "d": ""})
+    ['d', 'b', 'a', 'c']
     """
     order: list[Node] = []
     found: set[Node] = set()

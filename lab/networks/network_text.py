@@ -20,7 +20,11 @@ MAX_BARS = 1024
 
 
 def stem(path: str) -> str:
-    """A file's name without its folder and its ending, with a mark in place of what is no UTF-8."""
+    """A file's name without its folder and its ending, with a mark in place of what is no UTF-8.
+
+    >>> stem("nets/two.col")
+    'two'
+    """
     return re.sub(r"\.\w+$", "", path.split("/")[-1]).encode("utf-8", "replace").decode()
 
 
@@ -162,7 +166,13 @@ class Reading:
 
 
 def reading_of(text: str, path: str) -> Reading:
-    """What all lines of a text say, or its first fault."""
+    """What all lines of a text say.
+
+    >>> reading_of("p edge 2 1\\ne 1 2\\ne 2 1\\n", "two.col").edge_lines
+    2
+
+    Raises `Wrong` of the first line that is none of a network, and of a text without a `p` line.
+    """
     read = Reading(path)
     for raw in text.split("\n"):
         read.read(raw)
@@ -171,7 +181,13 @@ def reading_of(text: str, path: str) -> Reading:
 
 
 def checked(network: Network, path: str) -> Network:
-    """A network that is within the limits, and whose identifiers differ."""
+    """The same network, if it is within the limits and its identifiers differ. `path` is what a fault calls it.
+
+    >>> checked(Network(2, [(1, 2)]), "two").nodes
+    2
+
+    Raises `Wrong` of too many nodes, edges or neighbours, and of an identifier that two vertices have.
+    """
     if network.nodes > MAX_NODES:
         raise Wrong(f"{path}: {network.nodes} nodes, and a network has at most {MAX_NODES}")
     if len(network.edges) > MAX_EDGES:
@@ -193,10 +209,23 @@ def checked(network: Network, path: str) -> Network:
 
 
 def read_network(text: str, path: str) -> Network:
-    """The network of a text, or its first fault."""
+    """The network of a text in the DIMACS format. `path` is what a fault calls it.
+
+    >>> read_network("p edge 3 2\\ne 1 2\\ne 2 3\\n", "path.col").neighbours
+    {1: [2], 2: [1, 3], 3: [2]}
+    >>> read_network("p edge 3 1\\ne 1 4\\n", "path.col")
+    Traceback (most recent call last):
+    lab.wrong.Wrong: path.col line 2: there is no vertex 4: there are 3, from 1 on (F5)
+
+    Raises `Wrong` of the text's first fault, which has the code that the programs report.
+    """
     return reading_of(text, path).network()
 
 
 def network_of(data: bytes, path: str = "the network") -> Network:
-    """The same of a text in bytes."""
+    """The same as `read_network`, of a text in bytes. What is no UTF-8 in it is read as a mark of its own.
+
+    >>> network_of(b"p edge 2 1\\ne 1 2\\n").edges
+    [(1, 2)]
+    """
     return read_network(data.decode("utf-8", "replace"), path)

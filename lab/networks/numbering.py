@@ -14,7 +14,11 @@ Value = TypeVar("Value")
 
 
 def in_order(network: Network, order: Sequence[int], said: Mapping[int, int]) -> Network:
-    """The network of the vertices of `order` alone, in this order. `said` has their identifiers."""
+    """The network of the vertices of `order` alone, in this order. `said` has their identifiers.
+
+    >>> in_order(Network(3, [(1, 2), (2, 3)]), [3, 2], {}).names
+    {1: '3', 2: '2'}
+    """
     number = {old: new for new, old in enumerate(order, 1)}
 
     def kept(of: Mapping[int, Value]) -> dict[int, Value]:
@@ -33,13 +37,26 @@ def in_order(network: Network, order: Sequence[int], said: Mapping[int, int]) ->
 
 
 def renumbered(network: Network, seed: str | int) -> Network:
-    """The vertices in an order by chance. An identifier that a line gives stays; another one is the new number."""
+    """The network with its vertices in a random order, which comes from the seed. An identifier that a line gives
+    stays; another one is the new number.
+
+    >>> sorted(renumbered(Network(3, [(1, 2)]), "seed").names.values())
+    ['1', '2', '3']
+
+    Raises `Wrong` if an identifier that a line gives is the new number of another vertex.
+    """
     order = shuffled(random.Random(seed), network.vertices)
     return checked(in_order(network, order, network.said), f"{network.name}, numbered again")
 
 
 def near_each_other(network: Network) -> Network:
-    """A large network whose neighbours have near numbers. Each node keeps its identifier, so the plan is the same."""
+    """A large network whose neighbours have near numbers. Each node keeps its identifier, so the plan is the same. A
+    network of fewer than 1,000 nodes is returned as it is.
+
+    >>> small = Network(3, [(1, 2)])
+    >>> near_each_other(small) is small
+    True
+    """
     if network.nodes < LARGE:
         return network
     return in_order(network, near_order(network.neighbours), network.identifiers)

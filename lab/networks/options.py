@@ -48,7 +48,15 @@ def add_stated(command: argparse.ArgumentParser) -> None:
 
 
 def stated_by(given: argparse.Namespace) -> Stated:
-    """What the options state."""
+    """What the options state.
+
+    >>> command = argparse.ArgumentParser()
+    >>> add_stated(command)
+    >>> stated_by(command.parse_args(["--columns", "source=Von", "--encoding", "cp1252"])).columns
+    {'source': 'Von'}
+
+    Ends the command, as its parser does, if a column is named twice.
+    """
     columns = dict(given.columns)
     if len(columns) < len(given.columns):
         given.refuse("--columns names a column twice")
@@ -56,7 +64,14 @@ def stated_by(given: argparse.Namespace) -> Stated:
 
 
 def commands_for(why: Unsaid, begin: list[str], words: list[str], after: str = "") -> str:
-    """What isn't stated, and the commands to choose from, ready to be copied."""
+    """What isn't stated, and the commands to choose from, ready to be copied.
+
+    >>> why = Unsaid("net.txt: its ending doesn't say what it is", [(["--as", "pairs"], "a table")])
+    >>> print(commands_for(why, ["network", "read"], ["net.txt"]))
+    net.txt: its ending doesn't say what it is; say what it is:
+      a table:
+        forestlab network read --as pairs net.txt
+    """
     if not why.choices:
         return str(why)
     lines = [f"{why}; say what it is:"]

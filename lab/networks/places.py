@@ -13,7 +13,11 @@ Cells = dict[tuple[int, int, int], list[tuple[int, Point]]]
 
 
 def on_ground(latitude: float, longitude: float) -> Point:
-    """The point of a place on the globe, by which distances are measured."""
+    """The point of a place on the globe, by which distances are measured.
+
+    >>> on_ground(0, 0) == (EARTH, 0, 0)
+    True
+    """
     north, east = math.radians(latitude), math.radians(longitude)
     return (
         EARTH * math.cos(north) * math.cos(east),
@@ -23,7 +27,12 @@ def on_ground(latitude: float, longitude: float) -> Point:
 
 
 def on_map(places: dict[str, Place]) -> dict[str, Place]:
-    """Places of latitude and longitude on a map with true lengths at their mean latitude, north on top."""
+    """Places of latitude and longitude on a map in kilometres, with true lengths at their mean latitude, and y growing
+    downwards.
+
+    >>> on_map({"Null Island": (0, 0)})["Null Island"] == (0, 0)
+    True
+    """
     middle = sum(latitude for latitude, _ in places.values()) / max(1, len(places))
     degree = math.radians(1) * EARTH
     return {
@@ -33,13 +42,21 @@ def on_map(places: dict[str, Place]) -> dict[str, Place]:
 
 
 def across_of(places: Collection[Place]) -> float:
-    """How far places reach from west to east, or from south to north."""
+    """How far places reach from west to east, or from south to north, whichever is more.
+
+    >>> across_of([(0, 0), (3, 1), (1, 7)])
+    7
+    """
     xs, ys = [x for x, _ in places], [y for _, y in places]
     return max(max(xs) - min(xs), max(ys) - min(ys)) if places else 0.0
 
 
 def near(points: list[Point], reach: float, is_globe: bool) -> Iterator[tuple[int, int]]:
-    """The pairs of rows that are less than the reach apart on the ground; those in neighbouring cells are looked at."""
+    """The pairs of rows that are less than the reach apart on the ground; those in neighbouring cells are looked at.
+
+    >>> list(near([(0, 0, 0), (1, 0, 0), (9, 0, 0)], 5, is_globe=False))
+    [(0, 1)]
+    """
     # On a globe the straight line is shorter than the way on the ground.
     span = 2 * EARTH * math.sin(min(reach / (2 * EARTH), math.pi / 2)) if is_globe else reach
     cells: Cells = {}

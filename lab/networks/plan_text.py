@@ -11,7 +11,13 @@ PlanRow = tuple[int, int, int]
 
 
 def rows_of(text: str, name: str, least: int = 1, below: int = 2**32) -> list[PlanRow]:
-    """(line, vertex, channel) of the lines of a plan, with numbers in these bounds."""
+    """(line, vertex, channel) of the lines of a plan, with channels from `least` on and numbers below `below`.
+
+    >>> rows_of("plan\\n1 3\\n", "the plan")
+    [(2, 1, 3)]
+
+    Raises `Wrong` of the first line that is no line of a plan.
+    """
     rows = fields_by_line(text)
     line, fields = next(rows, (1, []))
     if fields != ["plan"]:
@@ -35,8 +41,13 @@ def fields_by_line(text: str) -> Iterator[tuple[int, list[str]]]:
 
 
 def read_plan(text: str, name: str, network: Network) -> dict[int, int]:
-    """{vertex: channel}, or the first fault that the programs would report. Neighbours may share a channel: a picture
-    shows that."""
+    """{vertex: channel} of a plan of a network. Neighbours may share a channel: a picture shows that.
+
+    >>> read_plan("plan\\n1 2\\n2 1\\n", "the plan", Network(2, [(1, 2)]))
+    {1: 2, 2: 1}
+
+    Raises `Wrong` of the first fault that the programs would report, but for neighbours that share a channel.
+    """
     plan = {}
     for line, vertex, channel in rows_of(text, name):
         if vertex not in network.vertices:
@@ -62,5 +73,9 @@ def read_plan(text: str, name: str, network: Network) -> dict[int, int]:
 
 
 def clashes(network: Network, plan: dict[int, int]) -> list[Edge]:
-    """The edges whose two vertices share a channel."""
+    """The edges whose two vertices share a channel.
+
+    >>> clashes(Network(3, [(1, 2), (2, 3)]), {1: 1, 2: 1, 3: 2})
+    [(1, 2)]
+    """
     return [(v, w) for v, w in network.edges if plan[v] == plan[w]]

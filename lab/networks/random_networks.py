@@ -15,12 +15,20 @@ PAIRS = 40
 
 
 def below(source: Random, bound: int) -> int:
-    """A number from 0 to bound - 1."""
+    """A random number from 0 to bound - 1, the same on every machine.
+
+    >>> 0 <= below(Random(7), 10) < 10
+    True
+    """
     return int(source.random() * bound)
 
 
 def shuffled(source: Random, things: Iterable[int]) -> list[int]:
-    """The things in an order by chance."""
+    """The things in a random order, the same on every machine.
+
+    >>> sorted(shuffled(Random(7), [3, 1, 2]))
+    [1, 2, 3]
+    """
     order = list(things)
     for at in range(len(order) - 1, 0, -1):
         other = below(source, at + 1)
@@ -36,8 +44,14 @@ def alike_edges(
     neighbours: int | None = None,
     forests: int | None = None,
 ) -> set[Edge] | None:
-    """`edges` different edges by a source of chance, or None if none were found in some tries. `neighbours` is the
-    greatest number of neighbours of a node, and `forests` of neighbours of higher number."""
+    """`edges` different random edges, or None if none were found in some tries. `neighbours` is the greatest number of
+    neighbours of a node, and `forests` of neighbours of higher number.
+
+    >>> sorted(alike_edges(Random(7), 3, 3))
+    [(1, 2), (1, 3), (2, 3)]
+    >>> alike_edges(Random(7), 4, 2, connected=True) is None
+    True
+    """
     if connected and edges < nodes - 1 or neighbours is not None and 2 * edges > nodes * neighbours:
         return None
     for _ in range(max(LEAST_TRIES, min(MOST_TRIES, EDGES_TRIED // max(1, edges)))):

@@ -11,7 +11,13 @@ from lab.wrong import Wrong
 
 
 def listed_of(data: bytes, name: str, form: str, stated: Stated) -> Listed:
-    """What a text of a form lists."""
+    """The nodes and edges that a text of a form lists, by their names.
+
+    >>> listed_of(b"source,target\\nUlm,Hof\\n", "pairs.csv", "pairs", Stated()).names()
+    ['Ulm', 'Hof']
+
+    Raises `Wrong` of the text's first fault, and `Unsaid` of what the user has to state.
+    """
     if form in foreign.READERS:
         return foreign.read(data, name, form, stated)
     if form == "dimacs":
@@ -43,7 +49,14 @@ def listed_in(network: Network, path: str) -> Listed:
 
 
 def made_of(found: Listed, name: str) -> tuple[Network, list[str]]:
-    """The network of what a text lists, and what is said of it: how it was read, and what of it wasn't."""
+    """The network of what a text lists, and what is said of it: how it was read, and what of it wasn't.
+
+    >>> network, notes = made_of(Listed("pairs", [(2, "Ulm", "Hof")]), "pairs.csv")
+    >>> network.names, notes[0].partition(";")[0]
+    ({1: 'Ulm', 2: 'Hof'}, 'pairs')
+
+    Raises `Wrong` of a network above the limits.
+    """
     names, by = numbered(found.names())
     number = {node: v for v, node in enumerate(names, 1)}
     edges, notes = edges_of(found, number)
@@ -95,14 +108,25 @@ def numbered(names: list[str]) -> tuple[list[str], str]:
 
 
 def form_read(path: str, stated: Stated) -> str:
-    """The form of what a command line names; what is called by the name of a network is DIMACS."""
+    """The form of what a command line names; what is called by the name of a network is DIMACS.
+
+    >>> form_read("petersen", Stated()), form_read("petersen", Stated("pairs"))
+    ('dimacs', 'pairs')
+    """
     if stated.form is None and path_of(path) != path:
         return "dimacs"
     return form_of(path, one_line(path), stated)
 
 
 def read_any(data: bytes, name: str, form: str, stated: Stated) -> tuple[Network, list[str]]:
-    """The network of a file as the studio opens it, and what is said of it."""
+    """The network of a file as the studio opens it, and what is said of it.
+
+    >>> network, notes = read_any(b"p edge 2 1\\ne 1 2\\n", "two.col", "dimacs", Stated())
+    >>> network.edges, notes
+    ([(1, 2)], [])
+
+    Raises `Wrong` of the text's first fault, and `Unsaid` of what the user has to state.
+    """
     if form == "dimacs":
         return network_of(data, name), []
     found = listed_of(data, name, form, stated)

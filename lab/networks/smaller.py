@@ -13,8 +13,12 @@ def without_vertex(network: Network, gone: int) -> tuple[Network, list[int]]:
 
 
 def smaller(network: Network) -> Iterator[tuple[Network, list[int]]]:
-    """The networks without one of the nodes, without one of the edges, or without the bars of one node; and that with
-    small identifiers in the same order. With each the vertices that its own were."""
+    """The networks without one of the nodes, without one of the edges, or without the bars of one node; and the one
+    with small identifiers in the same order. With each comes which vertices its own were before.
+
+    >>> [(less.nodes, less.edges, before) for less, before in smaller(Network(2, [(1, 2)]))]
+    [(1, [], [2]), (1, [], [1]), (2, [], [1, 2])]
+    """
     same = list(network.vertices)
     names = network.identifiers
     own = replace(network, said=names, names={}, places={})

@@ -97,7 +97,14 @@ class Unsaid(Wrong):
 
 
 def form_of(path: str, name: str, stated: Stated = Stated()) -> str:
-    """The form that is stated, or that the file's ending says; of standard input it is DIMACS."""
+    """The form that is stated, or that the file's ending says; of standard input it is DIMACS. `name` is what a fault
+    calls the file.
+
+    >>> form_of("pairs.csv", "pairs.csv"), form_of("-", "standard input")
+    ('pairs', 'dimacs')
+
+    Raises `Wrong` of an ending that isn't read, and `Unsaid` of one that says nothing.
+    """
     if stated.form or path == "-":
         return stated.form or "dimacs"
     ending = os.path.splitext(path)[1].lower()
@@ -123,7 +130,13 @@ def form_of(path: str, name: str, stated: Stated = Stated()) -> str:
 
 
 def letters_of(data: bytes, name: str, stated: str | None) -> str:
-    """The letters of a file: in the encoding that its mark says, or that is stated, or UTF-8."""
+    """The letters of a file: in the encoding that its mark says, or that is stated, or UTF-8.
+
+    >>> letters_of(b"Z\\xfcrich", "sites.csv", "cp1252")
+    'Z\\xfcrich'
+
+    Raises `Wrong` of what isn't in a stated encoding, and `Unsaid` of what isn't in UTF-8.
+    """
     if data.startswith(COMPRESSED):
         raise Wrong(f"{name}: it is compressed: unpack it by gunzip")
     encoding = stated or "utf-8"
@@ -144,7 +157,13 @@ def letters_of(data: bytes, name: str, stated: str | None) -> str:
 
 
 def decoded(data: bytes, name: str, stated: str | None) -> str:
-    """The text of a file, whose lines end with line feeds."""
+    """The text of a file, whose lines end with line feeds.
+
+    >>> decoded(b"a\\r\\nb\\rc", "text", None)
+    'a\\nb\\nc'
+
+    Raises `Wrong` and `Unsaid` as `letters_of` does, and `Wrong` of a letter of value zero.
+    """
     text = letters_of(data, name, stated).replace("\r\n", "\n").replace("\r", "\n")
     before, zero, _ = text.partition("\0")
     if zero:

@@ -19,7 +19,13 @@ SITES = ("identifier", *(column for columns in UNITS for column in columns))
 
 
 def pairs(text: str, name: str, stated: Stated) -> Listed:
-    """Both ends of an edge in each row."""
+    """What a table of pairs lists: both ends of an edge in each row, with its line.
+
+    >>> pairs("source,target\\nUlm,Hof\\n", "pairs.csv", Stated()).edges
+    [(2, 'Ulm', 'Hof')]
+
+    Raises `Wrong` of the table's first fault, and `Unsaid` of columns that the user has to state.
+    """
     table = Table(text, name, stated, ("source", "target"))
     found = Listed("pairs", notes=table.notes())
     for line, row in table.rows:
@@ -29,7 +35,13 @@ def pairs(text: str, name: str, stated: Stated) -> Listed:
 
 
 def licence_of(text: str, name: str, stated: Stated) -> tuple[list[int], list[str]]:
-    """The real channel numbers of a table, in its order, and what isn't read of it."""
+    """The real channel numbers of a table, in its order, and what isn't read of it.
+
+    >>> licence_of("channel\\n36\\n40\\n", "licence.csv", Stated())
+    ([36, 40], [])
+
+    Raises `Wrong` of the table's first fault, and `Unsaid` of a column that the user has to state.
+    """
     table = Table(text, name, stated, ("channel",))
     return [real_channel(table, line, row) for line, row in table.rows], table.notes()
 
