@@ -1,6 +1,7 @@
 """`forestlab network tell`: what a network is, and what a run on it comes to, its payloads and wires, and about how
 long the commands take."""
 from collections.abc import Iterator
+from functools import cached_property
 from typing import TYPE_CHECKING
 
 from lab.network import Network
@@ -24,15 +25,34 @@ class Run:
     most that there can be."""
 
     def __init__(self, network: Network) -> None:
+        self.network = network
         self.last = LAST_COLOUR + 3 * network.forest_count * network.channels
-        rounds = rounds_here(network) if network.nodes * self.last <= MOST_AT_ONCE else None
-        self.is_bound = rounds is None
-        if rounds:
-            self.payloads = sum(len(pulse.puts) for pulse in rounds.pulses)
-        else:
-            self.payloads = most_payloads(network)
-        self.wires = 2 * self.payloads + 2 * len(network.edges) * (self.last + 1)
-        self.lines = 2 * self.wires + network.nodes * self.last + 1
+
+    @cached_property
+    def counted(self) -> int | None:
+        """The payloads of the rounds, if they are worked out here."""
+        if self.network.nodes * self.last > MOST_AT_ONCE:
+            return None
+        rounds = rounds_here(self.network)
+        return None if rounds is None else sum(len(pulse.puts) for pulse in rounds.pulses)
+
+    @property
+    def is_bound(self) -> bool:
+        return self.counted is None
+
+    @property
+    def payloads(self) -> int:
+        return most_payloads(self.network) if self.counted is None else self.counted
+
+    @property
+    def wires(self) -> int:
+        """What all links carry."""
+        return 2 * self.payloads + 2 * len(self.network.edges) * (self.last + 1)
+
+    @property
+    def lines(self) -> int:
+        """How many lines a transcript has."""
+        return 2 * self.wires + self.network.nodes * self.last + 1
 
 
 def rounds_here(network: Network) -> "Rounds | None":

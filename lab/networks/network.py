@@ -64,7 +64,8 @@ def was_read(given: Namespace) -> str:
     licence = channels_asked(given, asked, "network")
     found = Listed("sites") if given.file is None else file_listed(given, name)
     if given.sites:
-        sites = tables.Sites(*text_asked(given, given.sites), given.stated)
+        text, table = text_asked(given, given.sites)
+        sites = tables.Sites(table, given.stated).read(text)
         tables.with_sites(found, sites, name)
         if given.reach is not None:
             tables.join_near(found, sites, given.reach)

@@ -58,39 +58,50 @@ def words_of(columns: dict[str, str]) -> list[str]:
 
 
 class Table:
-    """The rows of a table, as (line, {column: field}).
+    """The rows of a table, once `read` was called: `rows` has them as (line, {column: field}).
 
     Each of the `wanted` columns has to be there, each of the `others` may be. The mark between the fields is the one
-    with which the first row has all wanted columns.
+    with which the first row has all wanted columns. `line` is that of the first row, `titles` are the columns' titles,
+    and `columns` has where those are that are read.
+
+    >>> Table("pairs.csv", Stated(), ("source", "target")).read("from;to\\nUlm;Hof\\n").rows
+    [(2, {'source': 'Ulm', 'target': 'Hof'})]
     """
 
     def __init__(
-        self,
-        text: str,
-        name: str,
-        stated: Stated,
-        wanted: tuple[str, ...],
-        others: tuple[str, ...] = (),
+        self, name: str, stated: Stated, wanted: tuple[str, ...], others: tuple[str, ...] = ()
     ) -> None:
         self.name = name
+        self.stated = stated
         self.wanted = wanted
+        self.others = others
         self.has_heading = stated.has_heading
         self.named = stated.columns
         if not self.has_heading and not self.named.keys() & set(wanted):
             self.named = {column: str(at) for at, column in enumerate(wanted, 1)} | self.named
+        self.line = 1
+        self.titles: list[str] = []
+        self.columns: dict[str, int] = {}
+        self.rows: list[tuple[int, dict[str, str]]] = []
+        self.decimals = "."
+
+    def read(self, text: str) -> "Table":
+        """Reads a text, and returns this table.
+
+        Raises `Wrong` of its first fault, and `Unsaid` of columns that the user has to state."""
         self.line, self.titles, mark = self.begin(text)
-        found = {column: self.place_of(column) for column in (*wanted, *others)}
+        found = {column: self.place_of(column) for column in (*self.wanted, *self.others)}
         self.columns = {column: at for column, at in found.items() if at is not None}
         for column, at in self.columns.items():
             title = self.titles[at]
-            if stated.columns.get(column, title).casefold() == title.casefold():
-                stated.found.add(column)
-        self.rows = [
-            self.read(*row) for row in islice(rows_of(text, name, mark), self.has_heading, None)
-        ]
+            if self.stated.columns.get(column, title).casefold() == title.casefold():
+                self.stated.found.add(column)
+        below = islice(rows_of(text, self.name, mark), self.has_heading, None)
+        self.rows = [self.row_of(line, fields) for line, fields in below]
         self.decimals = "." if mark == "," else ".,"
         if not self.rows:
             raise self.wrong(self.line, "it has no row below its heading")
+        return self
 
     def wrong(self, line: int, what: str) -> Wrong:
         return wrong_line(self.name, line, what)
@@ -170,7 +181,7 @@ class Table:
 
     # Rows.
 
-    def read(self, line: int, fields: list[str]) -> tuple[int, dict[str, str]]:
+    def row_of(self, line: int, fields: list[str]) -> tuple[int, dict[str, str]]:
         if fields == self.titles and self.has_heading:
             raise self.wrong(line, "the heading a second time")
         if len(fields) != len(self.titles):

@@ -26,7 +26,7 @@ def pairs(text: str, name: str, stated: Stated) -> Listed:
 
     Raises `Wrong` of the table's first fault, and `Unsaid` of columns that the user has to state.
     """
-    table = Table(text, name, stated, ("source", "target"))
+    table = Table(name, stated, ("source", "target")).read(text)
     found = Listed("pairs", notes=table.notes())
     for line, row in table.rows:
         ends = (name_of(row["source"], name, line), name_of(row["target"], name, line))
@@ -42,7 +42,7 @@ def licence_of(text: str, name: str, stated: Stated) -> tuple[list[int], list[st
 
     Raises `Wrong` of the table's first fault, and `Unsaid` of a column that the user has to state.
     """
-    table = Table(text, name, stated, ("channel",))
+    table = Table(name, stated, ("channel",)).read(text)
     return [real_channel(table, line, row) for line, row in table.rows], table.notes()
 
 
@@ -57,10 +57,27 @@ def real_channel(table: Table, line: int, row: dict[str, str]) -> int:
 
 
 class Sites:
-    """A table of sites: the line of each, its identifier, and its place in kilometres or in degrees, if it has them."""
+    """A table of sites, once `read` was called: the line of each, its identifier, and its place in kilometres or in
+    degrees, if it has them. `columns` are the two by which places are read.
 
-    def __init__(self, text: str, path: str, stated: Stated) -> None:
-        self.table = Table(text, path, stated, ("site",), SITES)
+    >>> Sites("sites.csv", Stated()).read("site,x_km,y_km\\nUlm,1,2\\n").on_picture()
+    {'Ulm': (1.0, -2.0)}
+    """
+
+    def __init__(self, path: str, stated: Stated) -> None:
+        self.table = Table(path, stated, ("site",), SITES)
+        self.columns: tuple[str, str] | None = None
+        self.notes: list[str] = []
+        self.lines: dict[str, Where] = {}
+        self.places: dict[str, Place] = {}
+        self.identifiers: dict[str, int] = {}
+        self.owners: dict[int, str] = {}
+
+    def read(self, text: str) -> "Sites":
+        """Reads a text, and returns these sites.
+
+        Raises `Wrong` of its first fault, and `Unsaid` of columns that the user has to state."""
+        self.table.read(text)
         there = self.table.columns
         self.columns = next((pair for pair in UNITS if there.keys() >= set(pair)), None)
         # Places of other columns aren't read.
@@ -68,17 +85,14 @@ class Sites:
             if column not in (self.columns or ()):
                 there.pop(column, None)
         self.notes = self.table.notes()
-        self.lines: dict[str, Where] = {}
-        self.places: dict[str, Place] = {}
-        self.identifiers: dict[str, int] = {}
-        self.owners: dict[int, str] = {}
         for line, row in self.table.rows:
-            self.read(name_of(row["site"], path, line), line, row)
+            self.add(name_of(row["site"], self.table.name, line), line, row)
         if self.places:
             across = f"{across_of(self.on_picture().values()):,.3g} km across"
             self.notes.append(f"places are by {' and '.join(self.columns or ())}, and {across}")
+        return self
 
-    def read(self, name: str, line: int, row: dict[str, str]) -> None:
+    def add(self, name: str, line: int, row: dict[str, str]) -> None:
         """A site: no name and no identifier comes twice."""
         if self.lines.setdefault(name, line) != line:
             raise self.table.wrong(line, f"a second site {shown(name)}")
@@ -159,7 +173,7 @@ def with_bars(
     found: Listed, text: str, name: str, stated: Stated, licence: list[int] | None
 ) -> None:
     """Bars the channels of a table; they are real numbers if a licence has channels 1, 2, .. of the plan."""
-    table = Table(text, name, stated, ("site", "channel"))
+    table = Table(name, stated, ("site", "channel")).read(text)
     known = set(found.names())
     numbers = range(1, MAX_CHANNEL + 1) if licence is None else licence
     outside = 0
