@@ -23,7 +23,7 @@ from lab.workshop.options import parsed
 from lab.workshop.playing import Player
 from lab.workshop.report import as_json, report
 from lab.workshop.sandbox import Sandbox
-from lab.workshop.submissions import RUNS, Outcome, Part, clean
+from lab.workshop.submissions import RUNS, Graded, Part, clean
 from lab.workshop.visible import on_the_path
 from lab.wrong import Wrong
 
@@ -42,7 +42,7 @@ def sandbox_of(folder: str, given: argparse.Namespace, room: str, user: int) -> 
 
 
 def play(part: Part, given: argparse.Namespace, room: str) -> dict[str, object]:
-    """What is found of a part, in a copy of its folder: an `Outcome` before it is written as JSON."""
+    """What is found of a part, in a copy of its folder: an `Graded` before it is written as JSON."""
     place = tempfile.mkdtemp(dir=room)
     copy = os.path.join(place, "submission")
     shutil.copytree(part.folder, copy, symlinks=True)
@@ -116,7 +116,7 @@ def play_all(parts: list[Part], given: argparse.Namespace, jobs: int, room: str)
             end_all()
 
 
-def finished(process: ForkProcess, pipe: Connection) -> Outcome:
+def finished(process: ForkProcess, pipe: Connection) -> Graded:
     """What a process has found: only what it says itself and ends well on is a result."""
     said = b""
     if not pipe.poll():  # its time is over
@@ -125,7 +125,7 @@ def finished(process: ForkProcess, pipe: Connection) -> Outcome:
         said = pipe.recv_bytes()
     process.join()
     if process.exitcode == 0:
-        found: Outcome = json.loads(said)
+        found: Graded = json.loads(said)
         return found
     ending = f"status {process.exitcode}"
     if process.exitcode and process.exitcode < 0:
@@ -146,6 +146,6 @@ def play_again(parts: list[Part], given: argparse.Namespace, room: str) -> None:
             part.found = first
 
 
-def runs_right(found: Outcome) -> int:
+def runs_right(found: Graded) -> int:
     """How many runs were right; fewer than none without a result."""
     return found["result"]["right"] if "result" in found else -1

@@ -46,7 +46,7 @@ class Result(TypedDict):
     cases: list[PlayedCase]
 
 
-class Outcome(TypedDict, total=False):
+class Graded(TypedDict, total=False):
     """What is found of an assignment: its result, with a report for people, or why there is no result."""
 
     result: Result
@@ -62,7 +62,7 @@ class Part:
     folder: str
     assignment: str
     command: list[str] = field(default_factory=list)
-    found: Outcome = field(default_factory=lambda: Outcome())
+    found: Graded = field(default_factory=lambda: Graded())
 
     @property
     def result(self) -> Result | None:

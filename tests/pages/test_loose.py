@@ -24,10 +24,10 @@ LOOSE = {
     ),
     "lab/pictures/picture.py": (1, "the network of a picture that may have none"),
     "lab/python/forestplan/__init__.py": (
-        7,
+        4,
         "a graph of networkx, igraph or a dictionary, with nodes of any kind",
     ),
-    "lab/python/forestplan/_graphs.py": (4, "the same"),
+    "lab/python/forestplan/_graphs.py": (3, "the same"),
     "lab/python/forestplan/_sites.py": (2, "places have names of any kind"),
     "lab/schedules/ruled_node.py": (3, "the node of a program is of any class"),
     "lab/schedules/ruled_rounds.py": (3, "rounds with rules left out are of two classes"),

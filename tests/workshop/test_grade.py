@@ -141,7 +141,7 @@ class Grades(Submitted):
     def test_what_is_in_doubt(self):
         """What a signal ended is played once more, alone."""
         for ending, is_in_doubt in (("status 1", False), ("signal SIGKILL", True)):
-            found = submissions.Outcome(
+            found = submissions.Graded(
                 result=result_of([{"policy": "", "verdict": "ended"}]),
                 report=[f"wrong  it ended with {ending} instead"],
             )
@@ -154,7 +154,7 @@ class Grades(Submitted):
             submissions.Part(student, "", "rounds", ["x"], {"result": result_of([], 5)})
             for student in ("anna", "ben", "cleo")
         ]
-        founds: dict[str, submissions.Outcome] = {
+        founds: dict[str, submissions.Graded] = {
             "anna": {"why": "over"},
             "ben": {"result": result_of([], 9)},
             "cleo": {"why": "x"},

@@ -23,6 +23,7 @@ from forestplan._graphs import (
     MAX_WORKERS,
     Bars,
     Channels,
+    Graph,
     Licence,
     Node,
     Sites,
@@ -165,7 +166,11 @@ class Transcript(_Answer, list[Entry]):
 
 
 def plan(
-    G: Any, bars: Bars = None, licence: Channels = None, workers: int | None = None, passes: int = 0
+    G: Graph,
+    bars: Bars = None,
+    licence: Channels = None,
+    workers: int | None = None,
+    passes: int = 0,
 ) -> Plan:
     """A plan, in which neighbours have different channels.
 
@@ -197,7 +202,7 @@ def plan(
     return found
 
 
-def check(G: Any, plan: Mapping[Any, int], bars: Bars = None, licence: Channels = None) -> int:
+def check(G: Graph, plan: Mapping[Any, int], bars: Bars = None, licence: Channels = None) -> int:
     """Has a plan judged, whoever made it: returns how many channels it takes, counted from 1 to the greatest.
 
     >>> check({"Ulm": ["Aue"], "Aue": []}, {"Ulm": 2, "Aue": 1})
@@ -220,7 +225,7 @@ def check(G: Any, plan: Mapping[Any, int], bars: Bars = None, licence: Channels 
     return int(_called(["forestplan", "check"], network + judged.text, order).split()[1])
 
 
-def rounds(G: Any, bars: Bars = None, licence: Channels = None) -> Rounds:
+def rounds(G: Graph, bars: Bars = None, licence: Channels = None) -> Rounds:
     """The rounds of the algorithm, all nodes at once, a `Pulse` each. Of a large graph they are a long list.
 
     >>> [pulse.phase for pulse in rounds({"Ulm": []})][:2]
@@ -241,7 +246,9 @@ def rounds(G: Any, bars: Bars = None, licence: Channels = None) -> Rounds:
     return found
 
 
-def transcript(G: Any, bars: Bars = None, workers: int = 2, licence: Channels = None) -> Transcript:
+def transcript(
+    G: Graph, bars: Bars = None, workers: int = 2, licence: Channels = None
+) -> Transcript:
     """A run without a clock, by worker threads: all events, an `Entry` each, in an order in which they were possible.
     There are as many threads as `workers` says, 1 to 64, but no more than this process may use processors. Two calls
     differ, as runs do, unless there is one worker.
@@ -286,7 +293,7 @@ def _command_of(workers: int | None, passes: int) -> list[str]:
 
 
 def _asked(
-    command: list[str], G: Any, bars: Bars, licence: Channels
+    command: list[str], G: Graph, bars: Bars, licence: Channels
 ) -> tuple[str, list[Node], str]:
     """A graph as the programs read it, its nodes in the order of their numbers, and what a program writes of it."""
     network, order = text_of(G, bars, licence)

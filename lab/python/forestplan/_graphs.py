@@ -8,6 +8,8 @@ from forestplan._programs import of_lab
 Node = Hashable
 Bars = Mapping[Any, Iterable[int]] | None
 Channels = Sequence[int] | None
+# A graph of networkx, or a dict with a list of the neighbours of each node.
+Graph = Any
 # The numbers of the nodes, and the two ends of an edge.
 Numbers = Mapping[Node, int]
 Pair = tuple[Node, Node]
@@ -73,7 +75,7 @@ class Sites(dict[Node, list[Node]]):
         self.places: dict[Node, tuple[float, float]] = {}
 
 
-def text_of(G: Any, bars: Bars = None, licence: Channels = None) -> tuple[str, list[Node]]:
+def text_of(G: Graph, bars: Bars = None, licence: Channels = None) -> tuple[str, list[Node]]:
     """The graph as the programs read it, and its nodes in the order of their numbers. Raises TypeError and ValueError,
     as `plan` does."""
     pairs = pairs_of(G)
@@ -134,7 +136,7 @@ def barred_in(bars: Bars, number: Numbers, licence: Licence) -> list[tuple[int, 
     return sorted(found)
 
 
-def pairs_of(G: Any) -> list[Pair]:
+def pairs_of(G: Graph) -> list[Pair]:
     """The edges of a graph of networkx, or of a dict of lists."""
     if callable(getattr(G, "edges", None)):
         return [(one, other) for one, other, *_ in G.edges()]
