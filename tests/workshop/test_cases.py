@@ -162,7 +162,8 @@ class Silent(Player):
 
     def play(self, case: runs.Case) -> bool:
         self.made.append(case.number)
-        case.run, case.finding = "played", Finding("silent", 1, 0, is_first=True)
+        case.run = OpenRun(case.network)
+        case.finding = Finding("silent", 1, 0, is_first=True)
         return False
 
 
