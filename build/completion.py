@@ -8,7 +8,7 @@ import sys
 from collections.abc import Iterable, Iterator
 
 from build.crate_lists import TOP
-from lab.networks.stated import ENDINGS
+from lab.networks.forms import ENDINGS
 from lab.pictures.run_picture import KINDS
 from lab.pictures.sheet import LESSONS
 from lab.schedules.policies import POLICIES

@@ -8,7 +8,7 @@ from lab.networks.fields import shown
 from lab.networks.network_text import MAX_CHANNEL
 from lab.networks.options import add_stated, commands_for, stated_by
 from lab.networks.plan_text import PlanRow, rows_of
-from lab.networks.stated import Unsaid, decoded
+from lab.networks.forms import Unsaid, decoded
 from lab.networks.tables import MOST_DIGITS, licence_of
 from lab.words import add_output, bytes_at, one_line, parser_of, text_at, write
 from lab.wrong import Wrong, wrong_line

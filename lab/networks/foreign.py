@@ -1,6 +1,6 @@
 """Networks that other programs wrote, read by networkx, where that is installed.
 
-What the text declares (declared.py) is compared with what networkx makes of it.
+What the text declares (cross_check.py) is compared with what networkx makes of it.
 """
 import importlib
 import importlib.util
@@ -13,13 +13,13 @@ import warnings
 from collections.abc import Callable, Collection, Iterable
 from types import ModuleType
 
-from lab.networks.declared import Declared, in_json, in_xml
+from lab.networks.cross_check import Declared, in_json, in_xml
 from lab.networks.fields import shown
 from lab.networks.gml import in_gml, with_multigraph
 from lab.networks.letters import from_graph6, in_graph6, in_sparse6
-from lab.networks.listed import Listed, Where, name_of, not_read
+from lab.networks.listing import Listed, Where, name_of, not_read
 from lab.networks.networkx_graph import Attributes, Graph
-from lab.networks.stated import Stated, decoded
+from lab.networks.forms import Stated, decoded
 from lab.networks.table import FARTHEST
 from lab.words import one_line
 from lab.wrong import Wrong, wrong_line

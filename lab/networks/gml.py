@@ -5,7 +5,7 @@ from collections.abc import Iterator
 from dataclasses import dataclass, field
 from typing import NamedTuple
 
-from lab.networks.declared import Declared
+from lab.networks.cross_check import Declared
 from lab.networks.fields import shown
 from lab.wrong import Wrong, wrong_line
 

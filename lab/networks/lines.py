@@ -3,7 +3,7 @@ before it."""
 import re
 
 from lab.networks.fields import shown
-from lab.networks.listed import Listed, Where, name_of
+from lab.networks.listing import Listed, Where, name_of
 from lab.networks.table import NUMBER, TITLES
 from lab.words import counted
 from lab.wrong import Wrong, wrong_line

@@ -12,14 +12,14 @@ from lab.networks.codes import code_of, tell_code
 from lab.networks.command_line import command_line
 from lab.networks.describe import facts, warnings
 from lab.networks.kinds import KINDS
-from lab.networks.listed import Listed
-from lab.networks.named import network_at, network_bytes, path_of
+from lab.networks.listing import Listed
+from lab.networks.sources import network_at, network_bytes, path_of
 from lab.networks.network_text import reading_of
 from lab.networks.numbering import near_each_other, renumbered
 from lab.networks.options import commands_for, stated_by
 from lab.networks.plan_text import rows_of
 from lab.networks.reading import form_read, listed_of, made_of
-from lab.networks.stated import Unsaid, decoded
+from lab.networks.forms import Unsaid, decoded
 from lab.networks.tables import MOST_DIGITS
 from lab.networks.texts import text_of
 from lab.words import as_text, one_line, source_of, text_at, write

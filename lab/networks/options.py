@@ -3,7 +3,7 @@ import argparse
 import csv
 import shlex
 
-from lab.networks.stated import ENDINGS, Stated, Unsaid
+from lab.networks.forms import ENDINGS, Stated, Unsaid
 from lab.networks.table import TITLES
 
 

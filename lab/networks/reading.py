@@ -2,10 +2,10 @@
 from lab.network import Edge, Network
 from lab.networks import foreign, lines, tables
 from lab.networks.fields import whole
-from lab.networks.listed import Listed
-from lab.networks.named import path_of
+from lab.networks.listing import Listed
+from lab.networks.sources import path_of
 from lab.networks.network_text import checked, network_of, read_network, stem
-from lab.networks.stated import Stated, decoded, form_of, letters_of
+from lab.networks.forms import Stated, decoded, form_of, letters_of
 from lab.words import counted, one_line
 from lab.wrong import Wrong
 

@@ -7,8 +7,8 @@ from collections.abc import Iterator
 from itertools import islice
 
 from lab.networks.fields import shown
-from lab.networks.listed import not_read
-from lab.networks.stated import Stated, Unsaid
+from lab.networks.listing import not_read
+from lab.networks.forms import Stated, Unsaid
 from lab.words import counted, in_words
 from lab.wrong import Wrong, wrong_line
 

@@ -17,7 +17,7 @@ from lab.definitions.nodes import Colouring, Program
 from lab.definitions.programs import add_program, program_asked, program_words
 from lab.definitions.rounds import Rounds
 from lab.network import Network
-from lab.networks.named import network_bytes
+from lab.networks.sources import network_bytes
 from lab.networks.network_text import network_of, stem
 from lab.networks.plan_text import read_plan
 from lab.pictures import (

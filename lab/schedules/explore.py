@@ -13,7 +13,7 @@ from lab.definitions.nodes import Program
 from lab.definitions.own_program import AGAIN, OwnNode, check_repeats, has_verdict, wrong_end
 from lab.definitions.programs import add_program, program_asked
 from lab.network import Network
-from lab.networks.named import network_at
+from lab.networks.sources import network_at
 from lab.schedules.own_rounds import verdict_of, verdict_on_many
 from lab.schedules.ruled_rounds import looked_at
 from lab.schedules.rules import ALL, OF_SCHEDULES, program_of, table, unknown_to

@@ -10,7 +10,7 @@ from random import Random
 from lab.definitions.nodes import Program, synchronous_pulses
 from lab.definitions.own_program import check_repeats, results_of, wrong_end
 from lab.network import Network
-from lab.networks.smaller import smaller
+from lab.networks.reductions import smaller
 from lab.networks.texts import plain_text
 from lab.words import as_text, counted, in_words
 

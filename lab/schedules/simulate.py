@@ -13,7 +13,7 @@ from lab.definitions.own_program import check_repeats, wrong_end
 from lab.definitions.programs import add_program, program_asked
 from lab.network import Edge, Network
 from lab.networks.fields import shown
-from lab.networks.named import network_at
+from lab.networks.sources import network_at
 from lab.schedules.policies import POLICIES, Policy, Step
 from lab.schedules.ruled_node import RuledNode
 from lab.transcripts.fields import first_line

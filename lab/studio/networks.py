@@ -12,7 +12,7 @@ from lab.networks.kinds import KINDS
 from lab.networks.network_text import read_network, stem
 from lab.networks.options import add_form, add_stated, stated_by
 from lab.networks.reading import read_any
-from lab.networks.stated import BY_MARK, COMPRESSED, Unsaid, form_of
+from lab.networks.forms import BY_MARK, COMPRESSED, Unsaid, form_of
 from lab.networks.texts import text_of
 from lab.pictures.page_data import Net
 from lab.pictures.pages import net_of

@@ -10,10 +10,10 @@ from collections.abc import Iterable
 
 from lab.definitions.programs import PROGRAMS, program_at
 from lab.network import Network
-from lab.networks.named import network_bytes
+from lab.networks.sources import network_bytes
 from lab.networks.options import commands_for
 from lab.networks.reading import form_read, read_any
-from lab.networks.stated import Stated, Unsaid
+from lab.networks.forms import Stated, Unsaid
 from lab.studio.asked import OPENED
 from lab.studio.building import are_built
 from lab.studio.links import judge

@@ -9,7 +9,7 @@ from lab.definitions.nodes import Program
 from lab.definitions.own_program import OwnNode, wrong_end
 from lab.definitions.programs import add_program, program_asked, program_words
 from lab.network import Network
-from lab.networks.named import network_bytes
+from lab.networks.sources import network_bytes
 from lab.networks.network_text import network_of
 from lab.transcripts.check import in_order, whole_run
 from lab.transcripts.convert import FORMS, entries_of

@@ -7,7 +7,7 @@ from itertools import combinations
 from random import Random
 
 from lab.network import Network
-from lab.networks.named import network_at
+from lab.networks.sources import network_at
 from lab.workshop.alpha_run import AlphaRun
 from lab.workshop.clock_run import ClockRun
 from lab.workshop.findings import Finding

@@ -4,7 +4,7 @@ import sys
 import time
 from argparse import Namespace
 
-from lab.networks.smaller import smaller
+from lab.networks.reductions import smaller
 from lab.schedules.policies import Policy
 from lab.workshop.alpha_run import AlphaRun
 from lab.workshop.alpha_verdict import finding_of

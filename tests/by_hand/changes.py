@@ -61,7 +61,7 @@ def changed(file: str, data: bytes, line: int, begin: int, end: int, new: str) -
 
 
 def package_of(file: str) -> str:
-    """`networks` of lab/networks/near.py; a module of lab/ itself is of `lab`."""
+    """`networks` of lab/networks/search_order.py; a module of lab/ itself is of `lab`."""
     folders = file.split("/")[1:-1]
     return folders[0] if folders else "lab"
 

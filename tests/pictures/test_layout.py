@@ -3,7 +3,7 @@ another one. And where the vertices of a network are drawn, and their names."""
 import re
 from itertools import combinations, product
 
-from lab.networks.named import network_bytes
+from lab.networks.sources import network_bytes
 from lab.networks.network_text import network_of
 from lab.pictures.pages import net_of
 from lab.pictures.places import Places, page_bends

@@ -4,7 +4,7 @@ from unittest import mock
 
 from lab.networks import foreign
 from lab.networks.reading import listed_of, made_of
-from lab.networks.stated import Stated
+from lab.networks.forms import Stated
 from lab.wrong import Wrong
 from tests.cases import Case
 

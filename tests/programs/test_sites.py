@@ -7,7 +7,7 @@ import re
 
 from lab.networks import tables
 from lab.networks.network_text import MAX_NODES, network_of
-from lab.networks.stated import Stated
+from lab.networks.forms import Stated
 from lab.wrong import Wrong
 from tests.cases import Case, called, example, said_by
 from tests.programs.test_own_networks import call, edges_of

@@ -14,7 +14,7 @@ from dataclasses import dataclass
 
 from lab.networks import foreign, network
 from lab.networks.network_text import read_network
-from lab.networks.stated import ENDINGS
+from lab.networks.forms import ENDINGS
 from tests.cases import Case, in_process
 from tests.settings import setting
 from tests.tools import need

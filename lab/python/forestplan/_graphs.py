@@ -104,14 +104,14 @@ def lines_of_nodes(G: object, given: list[Node], number: Numbers) -> list[str]:
 
 def near_order(given: list[Node], pairs: list[Pair]) -> list[Node]:
     """The nodes as they are given; those of a large graph near their neighbours. Their identifiers stay."""
-    near = of_lab("networks", "near")
-    if len(given) < near.LARGE:
+    search_order = of_lab("networks", "search_order")
+    if len(given) < search_order.LARGE:
         return given
     neighbours: dict[Node, dict[Node, None]] = {node: {} for node in given}
     for one, other in pairs:
         if one != other:
             neighbours[one][other] = neighbours[other][one] = None
-    order: list[Node] = near.near_order(neighbours)
+    order: list[Node] = search_order.near_order(neighbours)
     return order
 
 

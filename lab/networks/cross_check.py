@@ -11,7 +11,7 @@ from dataclasses import dataclass, field
 from xml.parsers import expat
 
 from lab.networks.fields import shown
-from lab.networks.listed import Where
+from lab.networks.listing import Where
 from lab.wrong import Wrong, wrong_line
 
 
