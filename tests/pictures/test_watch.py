@@ -3,6 +3,7 @@ each entry is in the stored page."""
 from unittest import mock
 
 from lab.definitions.nodes import last_pulse
+from lab.definitions.rounds import Rounds
 from lab.networks.network_text import network_of
 from lab.pictures import watch_page
 from lab.pictures.watch_page import Run, Steps, steps_of_text
@@ -53,6 +54,22 @@ class Watch(PictureCase):
             page = self.page("triangle", text)
         self.assertIn("at most 100 entries of a run; --pulses A..B shows other", page)
         self.assertLessEqual(len(data_of(page)["runs"][0]["rows"]), most)
+
+    def test_channels(self):
+        """A node has no channel before its turn in the first merge, and from then on that of the rounds."""
+        for name in ("petersen", "triangle"):
+            rounds = Rounds(network_of(example(name)))
+            wanted = {}
+            for v in rounds.network.vertices:
+                channel = 0
+                for pulse in rounds.pulses:
+                    channel = pulse.chosen.get(v, channel - 1) + 1
+                    wanted[v, pulse.number] = channel
+            (run,) = data_of(self.page(name, transcript(example(name), "channels")))["runs"]
+            looks = [(row[1], run["looks"][row[2]]) for row in run["rows"]]
+            found = {(v, look["pulse"]): look["found"] for v, look in looks if look["pulse"]}
+            wanted = {at: channel for at, channel in wanted.items() if at[1]}
+            self.same(name, found, wanted)
 
     def test_run_of_a_player(self):
         """The steps of a player show what its transcript shows."""
