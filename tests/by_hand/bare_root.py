@@ -3,8 +3,8 @@
   python3 -m tests.by_hand.bare_root FOLDER [RUN ..] [--built TREE | --gate] [--jobs N] [--only NAMES]
 
 A RUN is `nothing`, where nothing else is installed; `all`, where .ci/run installs what it can; or a package of its
-list, where all but this one is installed. Without a RUN each of them runs, in this order. A run is good if it ends with
-`0 failed`. What didn't run in it is printed, with what was missing.
+list, where all but this one is installed. Without a RUN each of them runs, in this order, and last `libseccomp2`. A run
+is good if it ends with `0 failed`. What didn't run in it is printed, with what was missing.
 
 It needs root, mmdebstrap or debootstrap (Debian's packages of these names), Debian's mirror, and about 4 GB in FOLDER,
 which keeps the roots for the next call, and of each run RUN.log. The tests run in a clean clone of this tree's HEAD.
@@ -34,6 +34,8 @@ BUILT = (
     ),
     "checks/out/checks_tests",
 )
+# apt needs it itself, and so removes it from no root; here its file is removed.
+NEEDED = "libseccomp2"
 # The layers of a root, lowest last; what is written goes to the folder `new`. $0 is the whole root, and $1 the command.
 ENTER = """
 set -e
@@ -139,7 +141,9 @@ class Roots:
         """Whether the tests pass in a run. Prints what didn't run, and the last line."""
         begin, layers, new = time.monotonic(), ["all", "base"], self.fresh("new")
         command = f"apt-get -qq purge -y --auto-remove {name} && ./test {words}"
-        if name == "nothing":
+        if name == NEEDED:
+            command = f"rm /usr/lib/*/libseccomp.so.2* && ./test {words}"
+        elif name == "nothing":
             layers, command = ["base"], f"./test {words}"
         elif name == "all":
             layers, command = ["base"], f".ci/run {words}"
@@ -174,7 +178,7 @@ def main() -> int:
     roots = Roots(given.folder, given.built)
     os.makedirs(roots.folder, exist_ok=True)
     roots.make_base()
-    runs = given.runs or ["nothing", "all", *roots.packages()]
+    runs = given.runs or ["nothing", "all", *roots.packages(), NEEDED]
     words = "" if given.gate else f"--jobs {given.jobs} {given.only}"
     wrong = [name for name in runs if not roots.try_out(name, words)]
     print(
