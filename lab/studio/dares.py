@@ -20,7 +20,8 @@ DARES = {
     "results": "have all nodes halt with other results than those of the rounds",
 }
 
-# Why nobody wins a dare with all rules: it is proved, and where (docs/claim/THEOREMS.md). Of programs in files nothing is.
+# Why nobody wins a dare with all rules: it is proved, and where (docs/claim/THEOREMS.md). Nothing is proved of a
+# program in a file.
 PROVED = {
     "apart": "neighbours are at most one pulse apart (Theorem 5)",
     "wrong": "each pulse has the inbox of its round (Theorem 2)",

@@ -36,8 +36,8 @@ PLACES = [
         "example=four_cycle&tab=rounds&at=1",
         "An arrow goes from a child to its parent, always to the higher identifier, so arrows never close a ring. "
         "Every edge is in one forest.",
-        "[Open the star in Draw](http://127.0.0.1:8321/#example=star&tab=draw&node=9&lesson=2), where its centre is chosen, "
-        "and give it the least identifier (0 is one): how many forests does the plan take then?",
+        "[Open the star in Draw](http://127.0.0.1:8321/#example=star&tab=draw&node=9&lesson=2), where its centre is "
+        "chosen, and give it the least identifier (0 is one): how many forests does the plan take then?",
     ),
     (
         "example=petersen&tab=rounds&at=2&forest=0&node=1",

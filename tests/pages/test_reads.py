@@ -159,8 +159,8 @@ READS = {
         "lab/studio/building.py",
         "Building.look: subprocess.Popen",
     ): "nothing is read of it: it writes the log",
-    ("lab/studio/building.py", "so_far: open"): "16 KiB: the end of the log",
-    ("lab/studio/building.py", "so_far: log.read"): "16 KiB: the same",
+    ("lab/studio/building.py", "build_so_far: open"): "16 KiB: the end of the log",
+    ("lab/studio/building.py", "build_so_far: log.read"): "16 KiB: the same",
     ("lab/version.py", "commit: subprocess.run"): "a line of git",
     # Files of this folder.
     ("lab/version.py", "text: open"): OF_TREE,

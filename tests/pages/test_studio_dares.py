@@ -3,8 +3,8 @@ its goal, of which the link is copied."""
 
 from tests.pages.test_studio_page import Page
 
-COPIED = """Object.defineProperty(navigator, 'clipboard', {value: {writeText: async words => { window.copied = words; }},
-  configurable: true})"""
+COPIED = """Object.defineProperty(navigator, 'clipboard',
+  {value: {writeText: async words => { window.copied = words; }}, configurable: true})"""
 # The shortest list of events that `explore` finds for two nodes without safes.
 WON = "example=two&tab=adversary&without=safes&dare=wrong&steps=1-2_2-1_2-1_2_2"
 
@@ -24,8 +24,8 @@ class Predictions(Page):
         self.sees("an empty answer is said", "question.textContent.includes('missing')")
         self.answer("5")
         self.sees("a first one", "document.querySelector('#question pre')")
-        # Node 8 has the binary digits 1000, and its parent 10 has 1010: they differ in the place 1, so that the colour is
-        # 2 * 1 + 0.
+        # Node 8 has the binary digits 1000, and its parent 10 has 1010: they differ in the place 1, so that the
+        # colour is 2 * 1 + 0.
         rows = self.value("document.querySelector('#question pre').textContent.split('\\n')")
         self.same("the numbers", [row.split()[-3] for row in rows], ["1000", "1010"])
         self.same("below each other", len({row.index("=") for row in rows}), 1)

@@ -406,7 +406,7 @@ class Drawn(Page):
             self.sees("its pictures", f"{pictures}.every(one => one.naturalWidth)")
         self.page.choose("lecture", "4")
         self.sees("minute 12", "studio.time.at === 13 && studio.rounds.film")
-        self.sees("what to ask", "lesson.textContent.includes('whose turn is it?')")
+        self.sees("what to ask", "lesson.textContent.includes('which nodes choose now, and why?')")
 
     def test_token(self):
         """A token counts when the server has taken it: a link with a wrong one harms no later one."""
