@@ -1,7 +1,9 @@
 """Layers around a root, the node of identifier 1 unless another one is named (breadth-first search in rounds: Lynch,
 Distributed Algorithms, 1996, section 4.2), at one node, by its definition (docs/claim/DEFINITIONS.md), slow and plain.
-Payloads, ports and pulses are as in lab/definitions/nodes.py."""
-from lab.definitions.nodes import Slot
+Payloads, ports and pulses are as in lab/definitions/program.py."""
+from functools import partial
+
+from lab.definitions.program import Program, Slot
 from lab.network import Network
 
 # The identifier of the node in layer 0.
@@ -10,11 +12,8 @@ ROOT = 1
 
 class Layers:
     """A node that learns its distance from the root, in edges, and a port that leads there: `layer` is None as long as
-    nothing has come, and `by` is None then and at the root."""
-
-    name = "layers"
-    # The vertex that is the root, whatever its identifier is; None if it is the node of identifier 1.
-    root: int | None = None
+    nothing has come, and `by` is None then and at the root. `root` is the vertex that is the root, whatever its
+    identifier is; None if it is the node of identifier 1."""
 
     degree: int
     last: int
@@ -22,13 +21,12 @@ class Layers:
     layer: int | None
     by: int | None
 
-    def __init__(self, net: Network, v: int):
-        self.degree, self.last = len(net.neighbours[v]), self.last_pulse(net)
-        self.is_root, self.by = (
-            net.identifiers[v] == ROOT if self.root is None else v == self.root,
-            None,
-        )
+    def __init__(self, net: Network, v: int, root: int | None = None) -> None:
+        self.degree = len(net.neighbours[v])
+        self.last = self.last_pulse(net)
+        self.is_root = net.identifiers[v] == ROOT if root is None else v == root
         self.layer = 0 if self.is_root else None
+        self.by = None
 
     @staticmethod
     def last_pulse(net: Network) -> int:
@@ -56,3 +54,8 @@ class Layers:
         if self.layer is None:
             return "layer none"
         return f"layer {self.layer}" if self.by is None else f"layer {self.layer} by {self.by}"
+
+
+def layers(root: int | None = None) -> Program:
+    """The program, with a vertex that is the root if it isn't the node of identifier 1."""
+    return Program("layers", partial(Layers, root=root), Layers.last_pulse, root, reads_bars=False)

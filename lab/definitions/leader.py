@@ -1,25 +1,21 @@
 """Electing a leader by flooding (OptFloodMax: Lynch, Distributed Algorithms, 1996, section 4.1), at one node, by its
 definition (docs/claim/DEFINITIONS.md), slow and plain. Payloads, ports and pulses are as in
-lab/definitions/nodes.py."""
-from lab.definitions.nodes import Slot
+lab/definitions/program.py."""
+from lab.definitions.program import Program, Slot
 from lab.network import Network
 
 
 class Leader:
     """A node that learns the greatest identifier of its component: `best` is the greatest that it knows."""
 
-    name = "leader"
-
     degree: int
     last: int
     best: int
 
-    def __init__(self, net: Network, v: int):
-        self.degree, self.last, self.best = (
-            len(net.neighbours[v]),
-            self.last_pulse(net),
-            net.identifiers[v],
-        )
+    def __init__(self, net: Network, v: int) -> None:
+        self.degree = len(net.neighbours[v])
+        self.last = self.last_pulse(net)
+        self.best = net.identifiers[v]
 
     @staticmethod
     def last_pulse(net: Network) -> int:
@@ -44,3 +40,6 @@ class Leader:
 
     def result(self) -> str:
         return f"leader {self.best}"
+
+
+LEADER = Program("leader", Leader, Leader.last_pulse, reads_bars=False)

@@ -1,6 +1,6 @@
 """A maximal matching (A. Panconesi and R. Rizzi, Some simple distributed algorithms for sparse networks, 2001), at one
 node, by its definition (docs/claim/DEFINITIONS.md), slow and plain."""
-from lab.definitions.nodes import Slot
+from lab.definitions.program import Program, Slot
 from lab.definitions.sequel import Sequel
 from lab.network import Network
 
@@ -11,12 +11,11 @@ COLOURED = 12
 class Matching(Sequel):
     """A node that finds a partner: `partner` is the port that leads to it, or None."""
 
-    name = "matching"
     kinds = ("Free", "Take")
 
     partner: int | None
 
-    def __init__(self, net: Network, v: int):
+    def __init__(self, net: Network, v: int) -> None:
         super().__init__(net, v)
         self.partner = None
 
@@ -62,3 +61,6 @@ class Matching(Sequel):
 
     def drawn(self) -> tuple[int | None, int | None]:
         return None, self.partner
+
+
+MATCHING = Program("matching", Matching, Matching.last_pulse, reads_bars=False)

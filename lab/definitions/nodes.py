@@ -2,28 +2,20 @@
 by their definitions (docs/claim/DEFINITIONS.md), slow and plain. What a caller may only do wrong (a wire that is
 refused, an event that isn't possible) raises `Refused`.
 
-The node under alpha, the network and the synchronous run are of any program: a class with `name`, `last_pulse(net)`,
-the node of a vertex `(net, v)`, and of a node `greet()`, `next(pulse, inbox)` and `result()`, as `Colouring` has them.
-lab/definitions/programs.py has them all.
+The node under alpha and the network are of any program (lab/definitions/program.py, which says what vertices, ports,
+pulses and payloads are; lab/definitions/programs.py has all programs).
 
-A vertex is a number from 1. Its ports are numbers from 0: port 0 goes to its neighbour with the least number, as entry
-0 of `neighbours`. A pulse is a number from 0, a forest and a colour too.
-
-A payload is (kind, number), the kind being "Hello", "Label", "Colour" or "Chosen"; None is no payload. A wire
-is a tuple: ("Payload", pulse, (kind, number)), ("Ack", pulse), ("Safe", pulse) or ("Close",). An event is
+A wire is a tuple: ("Payload", pulse, (kind, number)), ("Ack", pulse), ("Safe", pulse) or ("Close",). An event is
 ("Pulse", vertex, None), ("Put", vertex, port) or ("Take", vertex, port)."""
 from collections.abc import Iterable, Iterator
 from dataclasses import dataclass, field
 from typing import Any
 
 from lab.definitions.colours import other_than
+from lab.definitions.program import Program, RoundsNode, Slot
 from lab.network import Network
 from lab.words import in_words
 
-# A class of nodes, as above.
-Program = Any
-Payload = tuple[str, int]
-Slot = Payload | None
 # Up to the parent or down to a child, and the forest.
 Role = tuple[str, int]
 Wire = tuple
@@ -52,9 +44,6 @@ class Colouring:
     the forests merged so far, `old` the one before this merge, and `chosen` has what neighbours chose in this merge.
     """
 
-    name = "colouring"
-    last_pulse = staticmethod(last_pulse)
-
     id: int
     degree: int
     span: int
@@ -67,14 +56,20 @@ class Colouring:
     merged: int
     chosen: set[int]
 
-    def __init__(self, net: Network, v: int):
-        self.id, self.degree = net.identifiers[v], len(net.neighbours[v])
-        self.span, self.forests, self.barred = net.span, net.forest_count, net.barred[v]
+    def __init__(self, net: Network, v: int) -> None:
+        self.id = net.identifiers[v]
+        self.degree = len(net.neighbours[v])
+        self.span = net.span
+        self.forests = net.forest_count
+        self.barred = net.barred[v]
         self.roles = [None] * self.degree
-        self.colours, self.before = [0] * self.forests, [0] * self.forests
-        self.old, self.merged, self.chosen = 0, self.least_free(()), set()
+        self.colours = [0] * self.forests
+        self.before = [0] * self.forests
+        self.old = 0
+        self.merged = self.least_free(())
+        self.chosen = set()
 
-    def least_free(self, chosen) -> int:
+    def least_free(self, chosen: Iterable[int]) -> int:
         """The least colour of 0 to the span that is neither barred at the node nor chosen."""
         return min(set(range(self.span + 1)) - self.barred - set(chosen))
 
@@ -169,30 +164,7 @@ def bit_step(own: int, parent: int | None) -> int:
     return 2 * i + (own >> i & 1)
 
 
-def synchronous_pulses(
-    net: Network, program: Program = Colouring, order: Iterable[int] = ()
-) -> Iterator[tuple]:
-    """(pulse, nodes, inboxes, sent) of each pulse of the synchronous run, from 0: the nodes after it, and what each
-    read in it and sends at each port. They are made and called in an order, by default that of the network.
-    """
-    ports = net.neighbours
-    # Where each port leads: the neighbour, and its port back.
-    ends = {v: [(w, ports[w].index(v)) for w in ws] for v, ws in ports.items()}
-    nodes = {v: program(net, v) for v in order or ports}
-    inboxes: dict[int, list[Slot]] = {}
-    sent = {v: nodes[v].greet() for v in nodes}
-    yield 0, nodes, inboxes, sent
-    for pulse in range(1, program.last_pulse(net) + 1):
-        inboxes = {v: [sent[w][back] for w, back in ends[v]] for v in nodes}
-        sent = {v: nodes[v].next(pulse, inboxes[v]) for v in nodes}
-        yield pulse, nodes, inboxes, sent
-
-
-def synchronous_run(net: Network, program: Program = Colouring) -> dict:
-    """The nodes of a program after the last pulse, all pulses being made at once."""
-    for _, nodes, _, _ in synchronous_pulses(net, program):
-        pass
-    return nodes
+COLOURING = Program("colouring", Colouring, last_pulse)
 
 
 @dataclass(eq=False)
@@ -221,21 +193,24 @@ class Port:
 
 
 class AlphaNode:
-    """A node of a program under synchroniser alpha: `pulse_number` is 0 to `last`, and `said` means that it has said
-    safe for this pulse."""
+    """A node under synchroniser alpha. It simulates the rounds of a node of a program, `simulated`: `pulse_number` is 0
+    to `last`, and `said` means that it has said safe for this pulse."""
 
+    simulated: RoundsNode
     last: int
     ports: list[Port]
     pulse_number: int
     said: bool
 
-    def __init__(self, net: Network, v: int, program: Program = Colouring):
-        self.program, self.last = program(net, v), program.last_pulse(net)
+    def __init__(self, net: Network, v: int, program: Program = COLOURING) -> None:
+        self.simulated = program.node(net, v)
+        self.last = program.last_pulse(net)
         self.ports = [Port() for _ in net.neighbours[v]]
-        self.pulse_number, self.said = 0, False
-        self.enter(self.program.greet())
+        self.pulse_number = 0
+        self.said = False
+        self.enter(self.simulated.greet())
 
-    def enter(self, sent: list[Slot]):
+    def enter(self, sent: list[Slot]) -> None:
         """It begins a pulse: its payloads, or at the last pulse the closing marks, are to be put."""
         for port, payload in zip(self.ports, sent):
             if self.pulse_number == self.last:
@@ -245,7 +220,7 @@ class AlphaNode:
                 port.waits = True
         self.settle()
 
-    def settle(self):
+    def settle(self) -> None:
         """Without an acknowledgement still to come, it says safe to all neighbours."""
         if self.pulse_number < self.last and not any(port.waits for port in self.ports):
             self.said = True
@@ -256,7 +231,7 @@ class AlphaNode:
         """Whether there is room for an answer to whatever comes."""
         return all(len(port.out) <= 3 for port in self.ports)
 
-    def can_pulse(self) -> bool:
+    def may_act(self) -> bool:
         """Whether it may begin its next pulse: it has said safe, and all neighbours have."""
         return (
             self.pulse_number != self.last
@@ -275,11 +250,11 @@ class AlphaNode:
             port.closed and not port.out for port in self.ports
         )
 
-    def pulse(self):
+    def act(self) -> None:
         """It begins its next pulse."""
-        if not self.can_pulse():
+        if not self.may_act():
             raise Refused("NotReady")
-        sent = self.program.next(self.pulse_number + 1, [port.present for port in self.ports])
+        sent = self.simulated.next(self.pulse_number + 1, [port.present for port in self.ports])
         self.pulse_number, self.said = self.pulse_number + 1, False
         for port in self.ports:
             port.present, port.early = port.early, None
@@ -300,7 +275,7 @@ class AlphaNode:
             return q == expected <= horizon and q < self.last
         return expected == self.last == horizon
 
-    def on_wire(self, at: int, wire: Wire):
+    def on_wire(self, at: int, wire: Wire) -> None:
         """It takes a wire by a port."""
         port, kind, q = self.ports[at], wire[0], wire[1] if len(wire) > 1 else self.last
         if port.closed or not self.is_due(port, kind, q):
@@ -330,7 +305,7 @@ class NetState:
     nodes: dict[int, AlphaNode]
     link: dict[tuple[int, int], list[Wire]]
 
-    def __init__(self, net: Network, program: Program = Colouring):
+    def __init__(self, net: Network, program: Program = COLOURING) -> None:
         self.neighbours = net.neighbours
         self.port_to = {
             (v, w): port for v, ws in self.neighbours.items() for port, w in enumerate(ws)
@@ -349,7 +324,7 @@ class NetState:
             raise Refused("NoSuch")
         node = self.nodes[v]
         if kind == "Pulse":
-            if not node.can_pulse():
+            if not node.may_act():
                 raise Refused("NotReady")
             return node.pulse_number + 1
         assert port is not None
@@ -366,7 +341,7 @@ class NetState:
         if what not in (None, carried):
             raise Refused("WrongWire")
         if port is None or isinstance(carried, int):
-            self.nodes[v].pulse()
+            self.nodes[v].act()
         elif kind == "Put":
             self.link[v, port].append(self.nodes[v].ports[port].out.pop(0))
         else:
@@ -377,7 +352,7 @@ class NetState:
     def possible(self) -> Iterator[Event]:
         """All events that are possible now."""
         for v, node in self.nodes.items():
-            if node.can_pulse():
+            if node.may_act():
                 yield "Pulse", v, None
             for port, other in enumerate(node.ports):
                 if other.out:

@@ -23,7 +23,7 @@ nothing may be sent.
 
 The file is run as it is, with the rights of who calls the command; what it prints goes to standard error. Nothing is
 proved of it."""
-from collections.abc import Callable, Iterator, Sequence
+from collections.abc import Callable, Hashable, Iterable, Iterator, Sequence
 import contextlib
 import os
 import random
@@ -32,10 +32,11 @@ import sys
 import threading
 import traceback
 import unicodedata
+from functools import partial
 from types import CodeType, FunctionType, ModuleType, SimpleNamespace
-from typing import Any
+from typing import TypeGuard, TypeVar
 
-from lab.definitions.nodes import Program, synchronous_pulses, synchronous_run
+from lab.definitions.program import Payload, Program, ProgramFile, Slot, pulses_of, synchronous_run
 from lab.definitions.values import by_name, frozen
 from lab.network import Network
 from lab.words import bytes_at
@@ -55,24 +56,22 @@ MOST_BYTES = 1 << 20
 MOST_MARKS = 30
 
 
-def own_program(path: str, lots: str = "1") -> type:
+def own_program(path: str, lots: str = "1") -> Program:
     """The program of a file; `lots` is the seed of `me.random`."""
     code = code_of(path)
-    functions = loaded(path, code)
+    found = loaded(path, code)
+    functions = {name: value for name, value in found.items() if callable(value)}
     missing = [
-        " or ".join(names)
-        for names in NEEDED
-        if not any(callable(functions.get(name)) for name in names)
+        " or ".join(names) for names in NEEDED if not any(name in functions for name in names)
     ]
-    missing += [name for name in MAY_BE if name in functions and not callable(functions[name])]
+    missing += [name for name in MAY_BE if name in found and name not in functions]
     if missing:
         raise Wrong(f"{path} has no function {' and no function '.join(missing)}")
-
-    class Own(OwnNode):
-        name = os.path.splitext(os.path.basename(path))[0]
-        file, of_file, of_code, seed = path, functions, code, lots
-
-    return Own
+    file = ProgramFile(path, functions, code, lots)
+    name = os.path.splitext(os.path.basename(path))[0]
+    return Program(
+        name, partial(OwnNode, file=file), partial(OwnNode.last_pulse, file=file), file=file
+    )
 
 
 def code_of(path: str) -> CodeType:
@@ -81,7 +80,8 @@ def code_of(path: str) -> CodeType:
         text = bytes_at(path, MOST_BYTES).decode("utf-8-sig")
         if marks_in_a_row(text) > MOST_MARKS:
             raise Wrong(f"{path}: more than {MOST_MARKS} marks over one letter")
-        return compile(text, path, "exec")
+        code: CodeType = compile(text, path, "exec")
+        return code
     except SyntaxError as why:
         raise wrong_line(path, why.lineno or 1, why.msg) from None
     except (RecursionError, MemoryError):
@@ -100,9 +100,9 @@ def marks_in_a_row(text: str) -> int:
     return most
 
 
-def loaded(path: str, code: CodeType) -> dict:
+def loaded(path: str, code: CodeType) -> dict[str, object]:
     """What a file defines, each time with variables of its own."""
-    found = {"__name__": "program", "__file__": path}
+    found: dict[str, object] = {"__name__": "program", "__file__": path}
     call(path, "", exec, code, found)  # pylint: disable=exec-used
     return found
 
@@ -111,7 +111,7 @@ class TooLong(BaseException):
     """A call that doesn't end. The file's own handlers of exceptions don't catch it."""
 
 
-def end_call(*_) -> None:
+def end_call(*_: object) -> None:
     raise TooLong(f"it hasn't ended after {LONGEST} seconds")
 
 
@@ -130,7 +130,10 @@ def limited() -> Iterator[None]:
         signal.signal(signal.SIGALRM, before)
 
 
-def call(path: str, where: str, function: Callable, *values) -> Any:
+Returned = TypeVar("Returned")
+
+
+def call(path: str, where: str, function: Callable[..., Returned], *values: object) -> Returned:
     """What a function of the file returns. Whatever it raises is said with its line and where that was; what it prints
     goes to standard error."""
     try:
@@ -149,7 +152,7 @@ def call(path: str, where: str, function: Callable, *values) -> Any:
         ) from None
 
 
-def variables_of(functions: dict) -> dict:
+def variables_of(functions: dict[str, object]) -> dict[str, Hashable]:
     """The variables of a loaded file, by name, as keys that are equal for equal values; what can't be compared isn't
     among them."""
     found = {}
@@ -164,30 +167,58 @@ def variables_of(functions: dict) -> dict:
 class Me(SimpleNamespace):
     """A node as the file has it. Most have no need of chance, so `random` is made when it is first asked for."""
 
-    def __getattr__(self, name):
+    _lots: str
+
+    def __getattr__(self, name: str) -> random.Random:
         if name != "random":
             raise AttributeError(f"`me` has no `{name}`")
         self.random = random.Random(self._lots)
         return self.random
 
 
+class LoadedFile:
+    """The file of a program as one node has it. `variables` are those of the file before the first call, which may not
+    change. It is never copied and never compared."""
+
+    def __init__(self, file: ProgramFile) -> None:
+        self.path = file.path
+        self.values = loaded(file.path, file.code)
+        self.variables = variables_of(self.values)
+        self.greeting = self.needed("greet")
+        self.stepping = self.needed("step", "next")
+        self.finding = self.needed("result")
+        self.drawing = self.function("drawn")
+        self.stepping_name = "step" if self.function("step") else "next"
+
+    def function(self, *names: str) -> Callable[..., object] | None:
+        """The function of the first of these names that the file has."""
+        found = (self.values.get(name) for name in names)
+        return next((value for value in found if callable(value)), None)
+
+    def needed(self, *names: str) -> Callable[..., object]:
+        function = self.function(*names)
+        if function is None:
+            raise Wrong(f"{self.path} has no function {' or '.join(names)} when it is run again")
+        return function
+
+    def changed_variable(self) -> str | None:
+        """A variable of the file that isn't what it was before the first call, if there is one."""
+        now = variables_of(self.values)
+        return next((name for name in now if now[name] != self.variables.get(name)), None)
+
+    def __deepcopy__(self, memo: object) -> "LoadedFile":
+        return self
+
+    def __reduce_ex__(self, protocol: object) -> tuple[type, tuple[()]]:
+        return LoadedFile, ()
+
+
 class OwnNode:
-    """A node of such a program. `variables` are those of the file before its first call, which it may not change."""
+    """A node of such a program: `me` is what the file's functions keep and change."""
 
-    name: str
-    file: str
-    of_file: dict
-    of_code: CodeType
-    seed: str
-
-    def __init__(self, net, v):
-        functions = loaded(self.file, self.of_code)
-        self.variables = Kept(variables_of(functions))
-        self.greeting = functions["greet"]
-        self.stepping = functions.get("step") or functions["next"]
-        self.finding = functions["result"]
-        self.drawing = functions.get("drawn")
-        self.last = self.last_pulse(net)
+    def __init__(self, net: Network, v: int, file: ProgramFile) -> None:
+        self.of_file = LoadedFile(file)
+        self.last = self.last_pulse(net, file)
         self.me = Me(
             id=net.identifiers[v],
             degree=len(net.neighbours[v]),
@@ -196,91 +227,85 @@ class OwnNode:
             forests=net.forest_count,
             greatest_bars=net.greatest_bars,
             barred=tuple(colour + 1 for colour in sorted(net.barred[v])),
-            _lots=f"{self.seed} {net.identifiers[v]}",
+            _lots=f"{file.seed} {net.identifiers[v]}",
         )
-        self.degree = self.me.degree
+        self.id: int = net.identifiers[v]
+        self.degree = len(net.neighbours[v])
 
-    @classmethod
-    def last_pulse(cls, net) -> int:
-        if "last_pulse" not in cls.of_file:
+    @staticmethod
+    def last_pulse(net: Network, file: ProgramFile) -> int:
+        """The last pulse of a file: what it says, or the number of nodes."""
+        if "last_pulse" not in file.functions:
             return net.nodes
-        function = cls.of_file["last_pulse"]
+        function = file.functions["last_pulse"]
         sizes = (net.nodes, net.greatest_degree, net.forest_count, net.greatest_bars)
-        takes_four = getattr(getattr(function, "__code__", None), "co_argcount", 2) == 4
-        last = call(cls.file, "`last_pulse`", function, *sizes[: 4 if takes_four else 2])
+        last = call(file.path, "`last_pulse`", function, *sizes[: 4 if takes(function, 4) else 2])
         if not isinstance(last, int) or isinstance(last, bool) or not 0 <= last < 2**32:
-            raise Wrong(f"{cls.file}: `last_pulse` returns {last!r}, which is no pulse")
+            raise Wrong(f"{file.path}: `last_pulse` returns {last!r}, which is no pulse")
         return last
 
     def where(self, function: str, pulse: int) -> str:
-        return f"`{function}` at pulse {pulse} of the node of identifier {self.me.id}"
+        return f"`{function}` at pulse {pulse} of the node of identifier {self.id}"
 
-    def greet(self) -> list:
+    def greet(self) -> list[Slot]:
         where = self.where("greet", 0)
-        return self.sent(where, 0, call(self.file, where, self.greeting, self.me))
+        return self.sent(where, 0, call(self.of_file.path, where, self.of_file.greeting, self.me))
 
-    def next(self, pulse: int, inbox: list) -> list:
+    def next(self, pulse: int, inbox: list[Slot]) -> list[Slot]:
+        file = self.of_file
         came = [slot and (slot[0].lower(), slot[1]) for slot in inbox]
-        where = self.where(self.stepping.__name__, pulse)
+        where = self.where(file.stepping_name, pulse)
         with_inbox = f"{where}, whose inbox is {cut(repr(came))}"
-        return self.sent(
-            where, pulse, call(self.file, with_inbox, self.stepping, self.me, pulse, came)
-        )
+        sent = call(file.path, with_inbox, file.stepping, self.me, pulse, came)
+        return self.sent(where, pulse, sent)
 
-    def sent(self, where: str, pulse: int, what) -> list:
+    def sent(self, where: str, pulse: int, what: object) -> list[Slot]:
         """By port, what a function returned, with the words of payloads as the definitions write them."""
-        where = f"{self.file}: {where}"
+        where = f"{self.of_file.path}: {where}"
         if isinstance(what, (dict, set)):
             raise Wrong(f"{where} returns a {type(what).__name__}: {ALL_THAT_IS_SENT}")
-        slots = list(what) if isinstance(what, list) else [what] * self.degree
-        if len(slots) != self.degree:
-            raise Wrong(f"{where} returns a list of {len(slots)} for {self.degree} ports")
-        for slot in slots:
-            if slot is not None and (why := no_payload(slot)):
-                raise Wrong(f"{where} sends {slot!r}: {why}")
+        found: list[object] = list(what) if isinstance(what, list) else [what] * self.degree
+        if len(found) != self.degree:
+            raise Wrong(f"{where} returns a list of {len(found)} for {self.degree} ports")
+        slots: list[Slot] = []
+        for slot in found:
+            try:
+                slots.append(None if slot is None else payload_of(slot))
+            except NoPayload as why:
+                raise Wrong(f"{where} sends {slot!r}: {why}") from None
         if pulse == self.last and any(slot is not None for slot in slots):
             raise Wrong(f"{where} sends something, and {pulse} is the last pulse")
-        return [slot and (slot[0].title(), slot[1]) for slot in slots]
+        return slots
 
     def result(self) -> str:
-        where = f"`result` of the node of identifier {self.me.id}"
-        words = call(self.file, where, self.finding, self.me)
+        path = self.of_file.path
+        where = f"`result` of the node of identifier {self.id}"
+        words = call(path, where, self.of_file.finding, self.me)
         if not isinstance(words, str) or "\n" in words:
-            raise Wrong(f"{self.file}: `result` returns {words!r}: it must be words on one line")
+            raise Wrong(f"{path}: `result` returns {words!r}: it must be words on one line")
         return words
 
     def drawn(self) -> tuple[int | None, int | None]:
         """Colour and port for pictures, if the file says them."""
-        if self.drawing is None:
+        path, drawing = self.of_file.path, self.of_file.drawing
+        if drawing is None:
             return None, None
-        where = f"`drawn` of the node of identifier {self.me.id}"
-        pair = call(self.file, where, self.drawing, self.me)
-        is_pair = isinstance(pair, tuple) and len(pair) == 2
-        if not is_pair or not is_below(pair[0], COLOURS) or not is_below(pair[1], self.degree):
-            raise Wrong(
-                f"{self.file}: `drawn` returns {pair!r} at the node of identifier {self.me.id}: it must be a "
-                f"pair, a colour below {COLOURS} or None, and a port or None"
-            )
-        return pair
-
-    def changed_variable(self) -> str | None:
-        """A variable of the file that isn't what it was before the first call, if there is one."""
-        before = self.variables.value
-        now = variables_of(self.stepping.__globals__)
-        return next((name for name in now if now[name] != before.get(name)), None)
+        where = f"`drawn` of the node of identifier {self.id}"
+        pair = call(path, where, drawing, self.me)
+        if isinstance(pair, tuple) and len(pair) == 2:
+            colour, port = pair
+            if is_below(colour, COLOURS) and is_below(port, self.degree):
+                return colour, port
+        raise Wrong(
+            f"{path}: `drawn` returns {pair!r} at the node of identifier {self.id}: it must be a "
+            f"pair, a colour below {COLOURS} or None, and a port or None"
+        )
 
 
-class Kept:
-    """A value that is never copied and never compared."""
-
-    def __init__(self, value):
-        self.value = value
-
-    def __deepcopy__(self, memo):
-        return self
-
-    def __reduce_ex__(self, protocol):
-        return Kept, ()
+def takes(function: object, count: int) -> bool:
+    """Whether a function of a file takes so many values."""
+    code = getattr(function, "__code__", None)
+    return isinstance(code, CodeType) and code.co_argcount == count
 
 
 ALL_THAT_IS_SENT = (
@@ -292,25 +317,35 @@ def cut(words: str) -> str:
     return words if len(words) <= LONGEST_INBOX else f"{words[:LONGEST_INBOX]}.."
 
 
-def no_payload(slot: object) -> str:
-    """Why something is no payload, or nothing."""
-    pair = slot if isinstance(slot, tuple) and len(slot) == 2 else (None, None)
-    if not is_word(pair[0]) or pair[1] is None or not is_below(pair[1], None):
-        return "a payload is a pair, a word of small letters and a number from 0"
-    return "" if pair[1] < 2**128 else "its number has to be below 2^128"
+class NoPayload(ValueError):
+    """Why something is no payload."""
 
 
-def is_word(word: object) -> bool:
+def payload_of(slot: object) -> Payload:
+    """A payload of a file as the definitions write it."""
+    match slot:
+        case tuple((word, number)) if is_word(word) and is_number(number):
+            if number >= 2**128:
+                raise NoPayload("its number has to be below 2^128")
+            return word.title(), number
+    raise NoPayload(WHAT_A_PAYLOAD_IS)
+
+
+WHAT_A_PAYLOAD_IS = "a payload is a pair, a word of small letters and a number from 0"
+
+
+def is_word(word: object) -> TypeGuard[str]:
     return isinstance(word, str) and word.isascii() and word.isalpha() and word.islower()
 
 
-def is_below(number: object, bound: int | None) -> bool:
-    """Whether something is a number from 0, below the bound if there is one, or None."""
-    if number is None:
-        return True
-    if not isinstance(number, int) or isinstance(number, bool):
-        return False
-    return number >= 0 and (bound is None or number < bound)
+def is_number(number: object) -> TypeGuard[int]:
+    """Whether something is a number from 0."""
+    return isinstance(number, int) and not isinstance(number, bool) and number >= 0
+
+
+def is_below(number: object, bound: int) -> TypeGuard[int | None]:
+    """Whether something is a number from 0 and below the bound, or None."""
+    return number is None or is_number(number) and number < bound
 
 
 # What a file has to keep to, and what has to hold.
@@ -320,37 +355,39 @@ def check_repeats(net: Network, program: Program) -> None:
     """Refuses a program of a file that does something else the second time, or keeps something outside `me`: then the
     rounds, and what nodes find in them, mean nothing. The second time the nodes come in the opposite order.
     """
-    if not issubclass(program, OwnNode):
+    file = program.file
+    if file is None:
         return
     vertices = net.vertices
     for (node, where, one), (_, _, two) in zip(
-        rounds_of(net, program, vertices), rounds_of(net, program, vertices[::-1])
+        rounds_of(net, file, vertices), rounds_of(net, file, vertices[::-1])
     ):
         if one != two:
-            raise Wrong(f"{node.file}: {where} does something else the second time: {AGAIN}")
-        if name := node.changed_variable():
+            raise Wrong(f"{file.path}: {where} does something else the second time: {AGAIN}")
+        if name := node.of_file.changed_variable():
             raise Wrong(
-                f"{node.file}: {where} changes the variable `{name}` outside `me`: keep everything in `me`, "
+                f"{file.path}: {where} changes the variable `{name}` outside `me`: keep everything in `me`, "
                 "since orders of events play on copies of it"
             )
 
 
 def rounds_of(
-    net: Network, program: Program, order: Sequence[int]
-) -> Iterator[tuple[OwnNode, str, tuple]]:
+    net: Network, file: ProgramFile, order: Sequence[int]
+) -> Iterator[tuple[OwnNode, str, tuple[object, Hashable]]]:
     """(node, where, what it sends or finds and what it keeps) of all rounds, by vertex, the nodes being called in an
     order."""
-    for pulse, nodes, _, sent in synchronous_pulses(net, program, order):
+    nodes = {v: OwnNode(net, v, file) for v in order}
+    for pulse, _, _, sent in pulses_of(net, nodes, OwnNode.last_pulse(net, file)):
         for v in sorted(order):
             node = nodes[v]
-            function = node.stepping.__name__ if pulse else "greet"
+            function = node.of_file.stepping_name if pulse else "greet"
             yield node, node.where(function, pulse), (sent[v], kept_by(node))
     found = {v: nodes[v].result() for v in order}
     for v in sorted(order):
         yield nodes[v], nodes[v].where("result", nodes[v].last), (found[v], kept_by(nodes[v]))
 
 
-def kept_by(node: OwnNode) -> Any:
+def kept_by(node: OwnNode) -> Hashable:
     """What a node keeps, as a key; nothing of what can't be compared, which `explore` refuses."""
     try:
         return frozen(node.me, by_name)
@@ -363,28 +400,31 @@ def what_is_wrong(
     program: Program,
     found: dict[int, str],
     function: str = "right",
-    messages: tuple = (),
+    messages: Iterable[tuple[int, int, Payload]] = (),
 ) -> str:
     """What the file's `right` or `always` says of what nodes have found, in words; nothing if that is right, or if the
     file has no such function."""
-    if not issubclass(program, OwnNode) or function not in program.of_file:
+    file = program.file
+    if file is None or function not in file.functions:
         return ""
     more = [list(messages)] if function == "always" and asks_for_messages(program) else []
-    said = call(
-        program.file, f"`{function}`", program.of_file[function], *by_identifier(net, found), *more
-    )
+    values = [*by_identifier(net, found), *more]
+    said = call(file.path, f"`{function}`", file.functions[function], *values)
     if said is True:
         return ""
-    is_sentence = isinstance(said, str) and said.strip() and "\n" not in said
-    if said is not False and not is_sentence:
-        raise Wrong(
-            f"{program.file}: `{function}` returns {said!r}: it must be True, False, or what isn't right in "
-            "words on one line"
-        )
-    return said or f"`{function}` says that it isn't right"
+    if said is False:
+        return f"`{function}` says that it isn't right"
+    if isinstance(said, str) and said.strip() and "\n" not in said:
+        return said
+    raise Wrong(
+        f"{file.path}: `{function}` returns {said!r}: it must be True, False, or what isn't right in "
+        "words on one line"
+    )
 
 
-def by_identifier(net: Network, found: dict[int, str]) -> tuple[dict, dict]:
+def by_identifier(
+    net: Network, found: dict[int, str]
+) -> tuple[dict[int, str], dict[int, list[int]]]:
     """What nodes have found, and their neighbours, as a file knows them."""
     name = net.identifiers
     results = {name[v]: words for v, words in found.items()}
@@ -398,7 +438,7 @@ def results_of(net: Network, program: Program) -> dict[int, str]:
 
 def has_verdict(program: Program) -> bool:
     """Whether a program says which ends are right."""
-    return issubclass(program, OwnNode) and "right" in program.of_file
+    return program.file is not None and "right" in program.file.functions
 
 
 def wrong_end(net: Network, program: Program) -> str:
@@ -409,5 +449,4 @@ def wrong_end(net: Network, program: Program) -> str:
 
 def asks_for_messages(program: Program) -> bool:
     """Whether the file's `always` takes the messages under way."""
-    code = getattr(program.of_file.get("always"), "__code__", None)
-    return code is not None and code.co_argcount == 3
+    return program.file is not None and takes(program.file.functions.get("always"), 3)

@@ -1,16 +1,18 @@
 """The programs that nodes can run, by their names, and programs of one's own, from a file."""
 from argparse import ArgumentParser, Namespace
+from collections.abc import Callable
 from functools import partial
 import os
 import sys
 
-from lab.definitions.independent_set import IndependentSet
-from lab.definitions.layers import Layers
-from lab.definitions.leader import Leader
-from lab.definitions.matching import Matching
-from lab.definitions.nodes import Colouring, Program
+from lab.definitions.independent_set import INDEPENDENT_SET
+from lab.definitions.layers import layers
+from lab.definitions.leader import LEADER
+from lab.definitions.matching import MATCHING
+from lab.definitions.nodes import COLOURING
 from lab.definitions.own_program import own_program
-from lab.definitions.recolouring import Recolouring
+from lab.definitions.program import Program
+from lab.definitions.recolouring import recolouring
 from lab.network import Network
 from lab.words import count
 from lab.wrong import Wrong
@@ -18,14 +20,15 @@ from lab.wrong import Wrong
 # Those that `forestplay` runs.
 PROGRAMS: dict[str, Program] = {
     program.name: program
-    for program in list[Program]((Colouring, Leader, Layers, Matching, IndependentSet, Recolouring))
+    for program in (COLOURING, LEADER, layers(), MATCHING, INDEPENDENT_SET, recolouring())
 }
-# The options that a program has, each of which sets what its class has by this name.
-OPTIONS: dict[str, Program] = {"root": Layers, "passes": Recolouring}
+# The options that a program has: its name, and what makes it with a value of the option.
+OPTIONS: dict[str, tuple[str, Callable[[int], Program]]] = {
+    "root": ("layers", layers),
+    "passes": ("recolouring", recolouring),
+}
 # How often recolouring may choose anew.
 MAX_PASSES = 64
-# Those whose nodes don't look at their bars; a file may.
-WITHOUT_BARS = (Leader, Layers, Matching)
 HELP = f"what the nodes run: {', '.join(PROGRAMS)}, or a file of your own, as NAME.py; default: colouring"
 
 
@@ -34,10 +37,15 @@ def program_at(name: str, lots: str = "1", **options: int | None) -> Program:
     vertex that is the root of the layers, `passes` how often recolouring chooses anew."""
     given = {option: value for option, value in options.items() if value is not None}
     for option in given:
-        if name != OPTIONS[option].name:
-            raise Wrong(f"--{option} is for --program {OPTIONS[option].name}, not for {name}")
+        of, _ = OPTIONS[option]
+        if name != of:
+            raise Wrong(f"--{option} is for --program {of}, not for {name}")
+    # Each option is another program's, so there is one at most.
+    for option, value in given.items():
+        _, with_option = OPTIONS[option]
+        return with_option(value)
     if name in PROGRAMS:
-        return type(PROGRAMS[name].__name__, (PROGRAMS[name],), given) if given else PROGRAMS[name]
+        return PROGRAMS[name]
     if name.endswith(".py"):
         return own_program(name, lots)
     raise Wrong(
@@ -49,13 +57,14 @@ def program_at(name: str, lots: str = "1", **options: int | None) -> Program:
 
 def program_words(program: Program) -> list[str]:
     """The words with which a command runs the program of a name."""
-    more = [
-        word
-        for option, base in OPTIONS.items()
-        if issubclass(program, base) and getattr(program, option) != getattr(base, option)
-        for word in (f"--{option}", str(getattr(program, option)))
-    ]
-    return [] if program is Colouring else ["--program", program.name, *more]
+    if program == COLOURING:
+        return []
+    words = ["--program", program.name]
+    if program.root is not None:
+        words += ["--root", str(program.root)]
+    if program.passes != 1:
+        words += ["--passes", str(program.passes)]
+    return words
 
 
 def program_asked(command: str, given: Namespace, network: Network | None = None) -> Program:
@@ -63,13 +72,13 @@ def program_asked(command: str, given: Namespace, network: Network | None = None
     the program ignores the network's bars, that is said on standard error."""
     options = {option: getattr(given, option, None) for option in OPTIONS}
     program = program_at(
-        getattr(given, "program", Colouring.name), getattr(given, "lots", "1"), **options
+        getattr(given, "program", COLOURING.name), getattr(given, "lots", "1"), **options
     )
     if network and options["root"] not in (None, *network.vertices):
         raise Wrong(
             f"there is no node {program.root} that could be the root: the network has {network.nodes}"
         )
-    if network and network.bars and issubclass(program, WITHOUT_BARS):
+    if network and network.bars and not program.reads_bars:
         print(
             f"{command}: {program.name} ignores the bars of the network, its lines `b`",
             file=sys.stderr,
@@ -79,7 +88,7 @@ def program_asked(command: str, given: Namespace, network: Network | None = None
 
 def add_program(words: ArgumentParser) -> None:
     """Adds the options to a command line."""
-    words.add_argument("--program", default=Colouring.name, metavar="P", help=HELP)
+    words.add_argument("--program", default=COLOURING.name, metavar="P", help=HELP)
     words.add_argument(
         "--root",
         type=int,

@@ -1,6 +1,9 @@
 """The classes of a plan choose anew (J. C. Culberson, Iterated greedy graph coloring and the difficulty landscape,
 1992), at one node, by its definition (docs/claim/DEFINITIONS.md), slow and plain."""
-from lab.definitions.nodes import Slot, last_pulse
+from functools import partial
+
+from lab.definitions.nodes import last_pulse
+from lab.definitions.program import Program, Slot
 from lab.definitions.sequel import Sequel
 from lab.network import Network, order
 
@@ -11,11 +14,8 @@ class Recolouring(Sequel):
     have chosen in this sweep. A pass is a sweep, or two if a node of the network has bars (`barring`): in the first the
     classes rise."""
 
-    name = "recolouring"
     kinds = ("Anew",)
     cut_of = staticmethod(last_pulse)
-    # How many passes there are, 1 to 64.
-    passes: int = 1
 
     span: int
     barring: bool
@@ -23,16 +23,19 @@ class Recolouring(Sequel):
     colour: int | None
     held: set[int]
 
-    def __init__(self, net: Network, v: int):
+    def __init__(self, net: Network, v: int) -> None:
         super().__init__(net, v)
-        self.span, self.barring = net.span, net.greatest_bars > 0
-        self.old, self.colour, self.held = None, None, set()
+        self.span = net.span
+        self.barring = net.greatest_bars > 0
+        self.old = None
+        self.colour = None
+        self.held = set()
 
-    @classmethod
-    def last_pulse(cls, net: Network) -> int:
+    @staticmethod
+    def last_pulse(net: Network, passes: int) -> int:
         """After the colouring each colour has a pulse, in each sweep."""
         sweeps = 2 if net.greatest_bars else 1
-        return last_pulse(net) + cls.passes * sweeps * net.channels
+        return last_pulse(net) + passes * sweeps * net.channels
 
     def go_on(self, pulse: int, inbox: list[Slot]) -> list[Slot]:
         """The pulse of the nodes of a colour. When all have had theirs, a sweep begins."""
@@ -62,3 +65,9 @@ class Recolouring(Sequel):
 
     def drawn(self) -> tuple[int | None, int | None]:
         return self.present(), None
+
+
+def recolouring(passes: int = 1) -> Program:
+    """The program of so many passes, 1 to 64."""
+    last = partial(Recolouring.last_pulse, passes=passes)
+    return Program("recolouring", Recolouring, last, passes=passes)

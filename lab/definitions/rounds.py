@@ -7,7 +7,8 @@ from dataclasses import dataclass, field
 from operator import itemgetter
 
 from lab.definitions.colours import Colours, text_of
-from lab.definitions.nodes import Colouring, Slot, last_pulse, synchronous_pulses
+from lab.definitions.nodes import Colouring, last_pulse
+from lab.definitions.program import Slot, pulses_of
 from lab.network import Network
 from lab.wrong import Wrong
 
@@ -71,7 +72,7 @@ class Pulse:
     colours: dict[tuple[int, int], int] = field(default_factory=dict)
     chosen: Colours = field(default_factory=dict)
     results: dict[int, str] = field(default_factory=dict)
-    drawn: dict[int, tuple] = field(default_factory=dict)
+    drawn: dict[int, tuple[int | None, int | None]] = field(default_factory=dict)
 
     def turn(self) -> tuple[int, int, int]:
         """The step of a pulse of a merge."""
@@ -97,8 +98,10 @@ class Rounds:
     the least colours that aren't barred. `turns[f, v]` is the pulse of the merge of forest f at which v chooses.
     """
 
-    def __init__(self, network: Network):
-        self.network, self.forests, self.width = network, network.forest_count, network.channels
+    def __init__(self, network: Network) -> None:
+        self.network = network
+        self.forests = network.forest_count
+        self.width = network.channels
         self.parents = {(v, f): w for v, ws in network.higher.items() for f, w in enumerate(ws)}
         self.forest_of = {
             pair: f for (v, f), w in self.parents.items() for pair in ((v, w), (w, v))
@@ -107,9 +110,10 @@ class Rounds:
         self.colours: list[dict[int, Colours]] = [{} for _ in range(self.forests)]
         self.merged: list[Colours] = []
         self.turns: dict[tuple[int, int], int] = {}
+        nodes = {v: Colouring(network, v) for v in network.vertices}
         self.pulses = [
             self.pulse(p, nodes, puts_of(network, sent))
-            for p, nodes, _, sent in synchronous_pulses(network)
+            for p, nodes, _, sent in pulses_of(network, nodes, self.last)
         ]
         self.first = self.merged[0]
 
@@ -138,7 +142,7 @@ class Rounds:
             own += [(v, f"chose {colour}") for v, colour in pulse.chosen.items()]
             yield from pulse.lines(phase_words(self.network, pulse.number), own)
 
-    def asked_forests(self, asked, usual=1):
+    def asked_forests(self, asked: tuple[int, int] | None, usual: int = 1) -> range:
         """The forests A to B that are asked for, if the network has them; else the `usual` first ones."""
         if not self.forests:
             raise Wrong(f"{self.network.name} has no edge, so no forest")
@@ -148,7 +152,7 @@ class Rounds:
             raise Wrong(f"{self.network.name} has {there}")
         return range(first, last + 1)
 
-    def in_forest(self, v, f):
+    def in_forest(self, v: int, f: int) -> bool:
         """Whether an edge of forest f ends at v."""
         return (v, f) in self.parents or any(
             self.parents.get((w, f)) == v for w in self.network.neighbours[v]

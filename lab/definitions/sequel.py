@@ -1,8 +1,7 @@
 """Programs that go on where the colouring ends, at one node, by their definition
-(docs/claim/DEFINITIONS.md), slow and plain. Payloads, ports and pulses are as in lab/definitions/nodes.py."""
-from typing import Any
-
-from lab.definitions.nodes import Colouring, Slot
+(docs/claim/DEFINITIONS.md), slow and plain. Payloads, ports and pulses are as in lab/definitions/program.py."""
+from lab.definitions.nodes import Colouring
+from lab.definitions.program import Slot
 from lab.network import Network
 
 
@@ -13,12 +12,13 @@ class Sequel:
     # The kinds of its own payloads: up to the cut it refuses them.
     kinds: tuple[str, ...]
 
-    first: Any
+    first: Colouring
     degree: int
     cut: int
 
-    def __init__(self, net: Network, v: int):
-        self.first, self.degree = Colouring(net, v), len(net.neighbours[v])
+    def __init__(self, net: Network, v: int) -> None:
+        self.first = Colouring(net, v)
+        self.degree = len(net.neighbours[v])
         self.cut = self.cut_of(net)
 
     @staticmethod
@@ -38,4 +38,8 @@ class Sequel:
 
     def go_on(self, pulse: int, inbox: list[Slot]) -> list[Slot]:
         """What it sends at a pulse of its own, by port."""
+        raise NotImplementedError
+
+    def result(self) -> str:
+        """What it has found so far, in words."""
         raise NotImplementedError

@@ -4,7 +4,8 @@ on where the colouring ends, what its nodes have found at their last pulse. What
 from functools import partial
 from typing import Protocol
 
-from lab.definitions.nodes import Colouring, Program
+from lab.definitions.nodes import COLOURING
+from lab.definitions.program import Program
 from lab.network import Network
 from lab.pictures.map_picture import box_of, draw_map
 from lab.pictures.marks import Map, colour_square
@@ -30,8 +31,8 @@ def drawn_by(
         return OfEnd(rounds, right)
     if not isinstance(rounds, RuledRounds) or not isinstance(right, RuledRounds):
         raise TypeError("both rounds are of one program")
-    if clash_of(rounds).pulse:
-        return OfForest(rounds, right)
+    if pulse := clash_of(rounds).pulse:
+        return OfForest(pulse, rounds, right)
     return OfMerge(rounds, right)
 
 
@@ -65,13 +66,13 @@ class BrokenPicture(Protocol):
         ...
 
 
-def draw(network: Network | None, without: tuple[str, ...], program: Program = Colouring) -> str:
+def draw(network: Network | None, without: tuple[str, ...], program: Program = COLOURING) -> str:
     """Of a network, or of a smallest one on which the rounds of a program go wrong."""
     rounds, where = looked_at(network, without, program)
     left_out = " and ".join(f"‘{rule}’" for rule in without)
     if rounds is None:
         raise Wrong(f"{where} without {','.join(without)}")
-    picture = drawn_by(rounds, ruled(program)(rounds.net, ()))
+    picture = drawn_by(rounds, ruled(program, rounds.net, ()))
     width, (right, down) = max(picture.width, LEAST_WIDTH), picture.step
     said = [
         f"{line[0].upper()}{line[1:]}.".replace("'", "’")
@@ -123,18 +124,19 @@ def check_size(rounds: RuledRounds | RuledSequel) -> None:
 
 
 class OfForest:
-    """A row for the node that goes wrong and for each one above it, the highest on top; a column for each pulse."""
+    """A row for the node that goes wrong and for each one above it, the highest on top; a column for each pulse, up to
+    the one after which it does."""
 
-    def __init__(self, *both: RuledRounds) -> None:
-        self.both, self.clash, net = both, clash_of(both[0]), both[0].net
-        v = self.clash.v
+    def __init__(self, pulse: int, *both: RuledRounds) -> None:
+        self.pulse, self.both, self.clash, net = pulse, both, clash_of(both[0]), both[0].net
+        v: int | None = self.clash.v
         above: list[tuple[int, int | None]] = []
         # A colour after pulse P hangs on P - 2 nodes above it.
-        while v and len(above) < self.clash.pulse - 1:
+        while v and len(above) < pulse - 1:
             above.append((v, net.parent(self.clash.forest, v)))
             v = above[-1][1]
         self.parents = dict(reversed(above))
-        block = LEFT + max(self.clash.pulse - 1, 5) * COLUMN + 24
+        block = LEFT + max(pulse - 1, 5) * COLUMN + 24
         self.width, self.height, self.step = 2 * block, OVER + 32 + len(above) * ROW, (block, 0)
         self.legend = (
             f"Square: the node’s colour in forest {self.clash.forest} after the pulse; grey: still a name. "
@@ -147,10 +149,10 @@ class OfForest:
         def square(v: int, pulse: int, x: float, y: float) -> None:
             colour_square(svg, x, y, SQUARE, lists[pulse - 2][v], is_name=pulse == 2)
 
-        draw_rows(svg, left, top, self.parents, self.clash.pulse, square)
+        draw_rows(svg, left, top, self.parents, self.pulse, square)
         if number == 0:
             # Around the two squares with one colour.
-            x, y = place_of(left, top, len(self.parents) - 2, self.clash.pulse)
+            x, y = place_of(left, top, len(self.parents) - 2, self.pulse)
             svg.rect(
                 x - SQUARE - 3,
                 y - SQUARE - 3,

@@ -13,7 +13,8 @@ from typing import Any, NamedTuple
 
 from lab import programs
 from lab.definitions.colours import plan_text as plan_by_definition
-from lab.definitions.nodes import Colouring, Program
+from lab.definitions.nodes import COLOURING
+from lab.definitions.program import Program
 from lab.definitions.programs import add_program, program_asked, program_words
 from lab.definitions.rounds import Rounds
 from lab.network import Network
@@ -80,7 +81,7 @@ class Source:
     told now and then how many states and events a search has found."""
 
     network: Any = None
-    program: Program = Colouring
+    program: Program = COLOURING
     texts: Sequence[Text] = ()
     written: Callable[[str], str] | None = None
     title: str | None = None
@@ -455,7 +456,7 @@ def run_text(kind: str, network: Network, network_text: bytes, program: Program)
         )
     if is_own(program):
         return text_of_run(network.nodes, played(network, program=program), program)
-    if program is Colouring:
+    if program == COLOURING:
         return programs.text_of("forestplan", ["transcript"], network_text)
     words = ["run", "--transcript", *program_words(program)]
     return programs.text_of("forestplay", words, network_text)

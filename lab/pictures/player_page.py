@@ -1,6 +1,6 @@
 """The player: one HTML page without any library, the network at each pulse, with a slider and a play button; of the
 colouring, or of another program. page/player.js draws it."""
-from lab.definitions.recolouring import Recolouring
+from lab.definitions.recolouring import recolouring
 from lab.definitions.rounds import Pulse, Rounds, SEED
 from lab.pictures.page_data import (
     RoundsFound,
@@ -57,7 +57,7 @@ def film_of(rounds: Rounds | ProgramRounds) -> RoundsFound:
         forests=0,
         pulses=[pulse_of_program(rounds, pulse) for pulse in rounds.pulses],
         first=[],
-        channels=issubclass(rounds.program, Recolouring),
+        channels=rounds.program == recolouring(rounds.program.passes),
         parents=[],
     )
 

@@ -1,8 +1,9 @@
 """The rounds of any program as pictures need them, pulse by pulse, by its definition (lab/definitions/programs.py)."""
 from collections.abc import Iterator
 
-from lab.definitions.nodes import Colouring, Program, synchronous_pulses
-from lab.definitions.own_program import OwnNode, check_repeats, what_is_wrong
+from lab.definitions.nodes import COLOURING
+from lab.definitions.own_program import check_repeats, what_is_wrong
+from lab.definitions.program import DrawnNode, Program, synchronous_pulses
 from lab.definitions.rounds import Pulse, Rounds, puts_of
 from lab.network import Network
 from lab.wrong import Wrong
@@ -30,10 +31,10 @@ class ProgramRounds:
         self.pulses, ports = [], network.neighbours
         for p, nodes, _, sent in synchronous_pulses(network, program):
             puts = puts_of(network, sent)
-            drawn: dict[int, tuple] = {
+            drawn: dict[int, tuple[int | None, int | None]] = {
                 v: (colour, None if port is None else ports[v][port])
                 for v, node in nodes.items()
-                if hasattr(node, "drawn")
+                if isinstance(node, DrawnNode)
                 for colour, port in [node.drawn()]
             }
             results = {v: node.result() for v, node in nodes.items()}
@@ -50,7 +51,7 @@ class ProgramRounds:
 
 def rounds_of(network: Network, program: Program) -> Rounds | ProgramRounds:
     """The rounds of any program."""
-    return Rounds(network) if program is Colouring else ProgramRounds(network, program)
+    return Rounds(network) if program == COLOURING else ProgramRounds(network, program)
 
 
 def least_wires(network: Network, program: Program) -> int:
@@ -61,4 +62,4 @@ def least_wires(network: Network, program: Program) -> int:
 
 def is_own(program: Program) -> bool:
     """Whether no proved program runs a program: it is from a file."""
-    return issubclass(program, OwnNode)
+    return program.file is not None

@@ -26,27 +26,30 @@ class Found(Vertex):
     def __init__(self, rounds: ProgramRounds, v: int) -> None:
         super().__init__(rounds.network, v)
         node = rounds.nodes[v]
-        self.result, (self.colour, self.other) = node.result(), rounds.pulses[-1].drawn.get(
-            v, (None, None)
-        )
+        self.result = node.result()
+        self.colour, self.other = rounds.pulses[-1].drawn.get(v, (None, None))
         self.has_channel, is_shown = isinstance(node, OF_CHANNELS), isinstance(node, SHOWN)
-        if self.has_channel:
+        self.before = node.first.merged if isinstance(node, Recolouring) else self.colour
+        if self.colour is not None and self.has_channel:
             self.channel = self.colour + 1
         elif self.colour is not None:
             self.fill = channel_hue(self.colour + 1)
-        self.before = node.first.merged if isinstance(node, Recolouring) else self.colour
-        is_new = self.has_channel and self.before != self.colour
-        self.title = f"node {v}: {self.result}" + (
-            f", was channel {self.before + 1}" if is_new else ""
-        )
+        was = self.channel_before()
+        self.title = f"node {v}: {self.result}" + (f", was channel {was}" if was else "")
         # Words of its result only as far as the marks don't show them.
         said = self.result
-        if is_new:
-            said = f"was {self.before + 1}"
+        if was:
+            said = f"was {was}"
         elif self.has_channel or is_shown and (self.colour, self.other) != (None, None):
             said = ""
         number = str(v) if self.has_channel else ""
         self.words = " ".join(filter(None, [number, short_name(rounds.network, v), said]))
+
+    def channel_before(self) -> int | None:
+        """Its channel before it chose another one, if it did."""
+        if not self.has_channel or self.before is None or self.before == self.colour:
+            return None
+        return self.before + 1
 
 
 def found_in(rounds: ProgramRounds) -> dict[int, Found]:

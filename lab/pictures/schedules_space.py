@@ -3,7 +3,8 @@ draw every schedule. What is too large for a picture is refused here, in a sente
 import re
 from collections.abc import Callable
 
-from lab.definitions.nodes import Colouring, Program
+from lab.definitions.nodes import COLOURING
+from lab.definitions.program import Program
 from lab.network import Network
 from lab.schedules.rules import ALL
 from lab.schedules.space import Space
@@ -15,7 +16,7 @@ MAX_STATES = 200_000
 def space_of(
     network: Network,
     without: tuple[str, ...] = (),
-    program: Program = Colouring,
+    program: Program = COLOURING,
     progress: Callable[[int, int], None] | None = None,
 ) -> Space:
     """The space of a network that was read, whose nodes run a program. `progress` is told now and then how many states

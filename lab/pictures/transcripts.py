@@ -5,7 +5,8 @@ from collections import deque
 from copy import copy
 from typing import NamedTuple
 
-from lab.definitions.nodes import Program, wire_words
+from lab.definitions.nodes import wire_words
+from lab.definitions.program import Program
 from lab.network import Edge, Network
 from lab.transcripts.check import Found, find_order
 from lab.transcripts.reading import Entry, Wrong as WrongEntry, read_to_fault

@@ -8,15 +8,16 @@ from collections.abc import Iterator
 from typing import NamedTuple
 
 from lab.definitions.nodes import (
+    COLOURING,
     AlphaNode,
     Colouring,
     NetState,
-    Program,
     Wire,
     lacks_of,
     make,
     wire_words,
 )
+from lab.definitions.program import Program
 from lab.definitions.rounds import FIRST_MERGE
 from lab.network import Edge, Network
 from lab.pictures.page_data import Look, Row, RunTable, WatchData, WireRow
@@ -67,17 +68,16 @@ def waits_of(state: NetState, v: int) -> list[tuple[str, int]]:
 
 def found(node: AlphaNode) -> int | str:
     """Its channel once it has chosen one, or 0; of another program than the colouring the words for what it found."""
-    program = node.program
-    if not isinstance(program, Colouring):
-        result: str = program.result()
-        return result
+    simulated = node.simulated
+    if not isinstance(simulated, Colouring):
+        return simulated.result()
     # Its turn in the first merge; if nothing is merged, it has a channel at the end.
     turn = (
-        FIRST_MERGE + program.colours[0] * (program.span + 1) + program.least_free(())
-        if program.forests
+        FIRST_MERGE + simulated.colours[0] * (simulated.span + 1) + simulated.least_free(())
+        if simulated.forests
         else node.last
     )
-    return program.merged + 1 if node.pulse_number >= turn else 0
+    return simulated.merged + 1 if node.pulse_number >= turn else 0
 
 
 class Flight(NamedTuple):
@@ -116,7 +116,7 @@ def steps_of_text(
     network: Network,
     text: str,
     pulses: tuple[int, int] | None = None,
-    program: Program = Colouring,
+    program: Program = COLOURING,
 ) -> Steps:
     """The steps of a transcript, as far as they are needed for these pulses; or its first fault in words."""
     order, _ = ordered(text, name, network, program)
@@ -249,7 +249,7 @@ def run_of_text(
     text: str,
     network: Network,
     pulses: tuple[int, int] | None = None,
-    program: Program = Colouring,
+    program: Program = COLOURING,
 ) -> Run:
     """The run of a transcript, as far as these pulses need it."""
     return Run(name, network, steps_of_text(name, network, text, pulses, program), pulses)

@@ -9,8 +9,8 @@ from collections.abc import Collection, Iterator
 from functools import partial
 from typing import NamedTuple
 
-from lab.definitions.nodes import Program
 from lab.definitions.own_program import AGAIN, OwnNode, check_repeats, has_verdict, wrong_end
+from lab.definitions.program import Program
 from lab.definitions.programs import add_program, program_asked
 from lab.network import Network
 from lab.networks.sources import network_at
@@ -238,7 +238,7 @@ def schedules_found(given: Namespace) -> Found:
         asks = " (of more the rounds are, if the file has a function `right`)"
         raise Wrong(
             f"{net.name} has {net.nodes} nodes, and every schedule is played of at most {MOST_NODES}"
-            + (asks if issubclass(program, OwnNode) else "")
+            + (asks if program.file is not None else "")
         )
     space = searched(given, net, program)
     events = space.with_puts(space.path_to_fault() if space.faults else space.path(space.ends[0]))
@@ -326,8 +326,8 @@ def whole_text(given: Namespace, name: str, space: Space) -> str:
 
 def has_drawn(space: Space) -> bool:
     """Whether a node of a file has asked for chance."""
-    programs = [own[at].program for own, at in zip(space.locals, space.states[space.ends[0]])]
-    return any("random" in vars(program.me) for program in programs if hasattr(program, "me"))
+    nodes = [own[at].simulated for own, at in zip(space.locals, space.states[space.ends[0]])]
+    return any("random" in vars(node.me) for node in nodes if isinstance(node, OwnNode))
 
 
 def results_words(nodes: dict[int, Node]) -> str:

@@ -7,8 +7,8 @@ from collections.abc import Iterator
 from itertools import combinations
 from random import Random
 
-from lab.definitions.nodes import Program, synchronous_pulses
 from lab.definitions.own_program import check_repeats, results_of, wrong_end
+from lab.definitions.program import Payload, Program, Slot, synchronous_pulses
 from lab.network import Network
 from lab.networks.reductions import smaller
 from lab.networks.texts import plain_text
@@ -45,9 +45,9 @@ def node_name(net: Network, v: int) -> str:
     return f"node {v}" if name == v else f"node {v} ({name})"
 
 
-def listed(verb: str, way: str, neighbours: list[int], slots: list) -> str:
+def listed(verb: str, way: str, neighbours: list[int], slots: list[Slot]) -> str:
     """`sends best 4 to 1 and 3`: the payloads of the ports that have one, equal ones together."""
-    ends: dict[tuple, list[int]] = {}
+    ends: dict[Payload, list[int]] = {}
     for w, slot in zip(neighbours, slots):
         if slot is not None:
             ends.setdefault(slot, []).append(w)

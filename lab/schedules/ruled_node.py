@@ -4,22 +4,18 @@ rules.OF_SCHEDULES has the rules; `fifo` is one of the links, so it is in space.
 What a pulse does with an inbox that no round has is the program's own matter. The colouring refuses a payload that
 isn't due, and a missing one that is (docs/claim/DEFINITIONS.md, refusals of the colouring), and goes on otherwise. A
 program of one's own goes on with any."""
-from collections.abc import Callable
+from collections.abc import Callable, Collection, Hashable
 import copy
-from typing import Any
+from typing import TypeVar
 
-from lab.definitions.nodes import (
-    AlphaNode,
-    Colouring,
-    Payload,
-    Refused,
-    Role,
-    Slot,
-    synchronous_pulses,
-)
+from lab.definitions.layers import Layers
+from lab.definitions.leader import Leader
+from lab.definitions.nodes import COLOURING, AlphaNode, Colouring, Port, Refused, Role, Wire
 from lab.definitions.own_program import OwnNode
+from lab.definitions.program import Payload, Program, RoundsNode, Slot, synchronous_pulses
 from lab.definitions.sequel import Sequel
 from lab.definitions.values import frozen
+from lab.network import Network
 from lab.wrong import Wrong
 
 
@@ -27,31 +23,34 @@ class RuledNode(AlphaNode):
     """`wrong` says that it has made a pulse with another inbox than the round's. A node of its program that it has come
     to is never changed: a pulse makes another one."""
 
-    def __init__(self, net, v, without, program=Colouring):
-        self.without, self.wrong = frozenset(without), False
+    def __init__(
+        self, net: Network, v: int, without: Collection[str], program: Program = COLOURING
+    ) -> None:
+        self.without = frozenset(without)
+        self.wrong = False
         super().__init__(net, v, program)
-        self.key_of_program = kept(frozen, self.program)
+        self.key_of_simulated = kept(frozen, self.simulated)
 
-    def settle(self):
+    def settle(self) -> None:
         if "acks" in self.without:
             for port in self.ports:
                 port.waits = False
         super().settle()
 
-    def can_pulse(self):
+    def may_act(self) -> bool:
         if "safes" in self.without:
             return self.pulse_number != self.last and self.said and self.can_take()
-        return super().can_pulse()
+        return super().may_act()
 
-    def lacks_safe(self, port):
+    def lacks_safe(self, port: Port) -> bool:
         return "safes" not in self.without and super().lacks_safe(port)
 
-    def pulse(self):
-        self.program = kept(copy.deepcopy, self.program)
-        super().pulse()
-        self.key_of_program = kept(frozen, self.program)
+    def act(self) -> None:
+        self.simulated = kept(copy_of, self.simulated)
+        super().act()
+        self.key_of_simulated = kept(frozen, self.simulated)
 
-    def on_wire(self, at, wire):
+    def on_wire(self, at: int, wire: Wire) -> None:
         kind, port = wire[0], self.ports[at]
         if kind == "Payload" and self.without & {"safes", "early"}:
             self.take_payload(port, wire)
@@ -62,16 +61,16 @@ class RuledNode(AlphaNode):
         else:
             super().on_wire(at, wire)
 
-    def fault_of_pulse(self, v, rounds):
+    def fault_of_pulse(self, v: int, rounds: "Rounds") -> tuple[str | None, bool]:
         """What is wrong with its next pulse, or None; and whether its program refuses that pulse."""
         pulse, inbox = self.pulse_number + 1, [port.present for port in self.ports]
         fault = rounds.fault(v, pulse, inbox)
-        if (fault or self.wrong) and program_refuses(self.program, pulse, inbox):
+        if (fault or self.wrong) and inbox_refused(self.simulated, pulse, inbox):
             return fault or f"the program of node {v} refuses the inbox of pulse {pulse}", True
         self.wrong = self.wrong or fault is not None
         return fault, False
 
-    def take_payload(self, port, wire):
+    def take_payload(self, port: Port, wire: Wire) -> None:
         """Without safes a payload may come a pulse too late, and is thrown away, or too early for its place."""
         ahead = wire[1] - self.pulse_number
         if ahead > 1 or ahead < 0 and "safes" not in self.without:
@@ -82,20 +81,20 @@ class RuledNode(AlphaNode):
             port.early = wire[2]
         port.out.append(("Ack", wire[1]))
 
-    def copied(self):
+    def copied(self) -> "RuledNode":
         node = copy.copy(self)
         node.ports = [copy.copy(port) for port in self.ports]
         for port in node.ports:
             port.out = list(port.out)
         return node
 
-    def key(self):
+    def key(self) -> Hashable:
         """Equal for equal nodes of one vertex."""
         return (
             self.pulse_number,
             self.said,
             self.wrong,
-            self.key_of_program,
+            self.key_of_simulated,
             tuple(
                 (
                     port.waits,
@@ -111,13 +110,22 @@ class RuledNode(AlphaNode):
         )
 
 
-def kept(function: Callable, program: Any) -> Any:
+def copy_of(node: RoundsNode) -> RoundsNode:
+    return copy.deepcopy(node)
+
+
+Made = TypeVar("Made")
+
+
+def kept(function: Callable[[RoundsNode], Made], node: RoundsNode) -> Made:
     """What copies or compares a node of a program, if all that it keeps can be copied and compared."""
     try:
-        return function(program)
+        return function(node)
     except Exception as why:
+        if not isinstance(node, OwnNode):
+            raise
         raise Wrong(
-            f"{program.file}: what `me` keeps can't be copied and compared, as each order of events needs it "
+            f"{node.of_file.path}: what `me` keeps can't be copied and compared, as each order of events needs it "
             f"({why}): keep plain values there"
         ) from None
 
@@ -125,18 +133,18 @@ def kept(function: Callable, program: Any) -> Any:
 class Rounds:
     """The synchronous run of a program: `inbox[v, p]` of each vertex and pulse from 1."""
 
-    def __init__(self, net, program=Colouring):
+    def __init__(self, net: Network, program: Program = COLOURING) -> None:
         self.ports = net.neighbours
         self.inbox: dict[tuple[int, int], list[Slot]] = {}
         for p, _, inboxes, _ in synchronous_pulses(net, program):
             self.inbox |= {(v, p): inbox for v, inbox in inboxes.items()}
 
-    def fault(self, v, p, inbox):
+    def fault(self, v: int, p: int, inbox: list[Slot]) -> str | None:
         """How an inbox differs from the round's, at the first port at which it does; None if it doesn't."""
         for w, got, due in zip(self.ports[v], inbox, self.inbox[v, p]):
             if got is None and due is not None:
                 return f"node {v} makes pulse {p} without `{payload_words(due)}` from {w}"
-            if got != due:
+            if got is not None and got != due:
                 instead = (
                     f", not with `{payload_words(due)}`" if due else ", which is of another round"
                 )
@@ -148,44 +156,47 @@ def payload_words(payload: Payload) -> str:
     return f"{payload[0].lower()} {payload[1]}"
 
 
-def program_refuses(program: Any, pulse: int, inbox: list[Slot]) -> bool:
-    """Whether a node's program refuses an inbox."""
-    if isinstance(program, Colouring):
-        return colouring_refuses(program, pulse, inbox)
-    if isinstance(program, Sequel):
-        return pulse <= program.cut and (
-            any(slot and slot[0] in program.kinds for slot in inbox)
-            or program_refuses(program.first, pulse, inbox)
-        )
-    return not isinstance(program, OwnNode) and program.refuses(pulse, inbox)
+def inbox_refused(node: RoundsNode, pulse: int, inbox: list[Slot]) -> bool:
+    """Whether a node refuses an inbox; one of a file refuses none."""
+    match node:
+        case Colouring():
+            return refused_by_colouring(node, pulse, inbox)
+        case Sequel():
+            return pulse <= node.cut and (
+                any(slot and slot[0] in node.kinds for slot in inbox)
+                or refused_by_colouring(node.first, pulse, inbox)
+            )
+        case Leader() | Layers():
+            return node.refuses(pulse, inbox)
+    return False
 
 
-def colouring_refuses(program: Colouring, pulse: int, inbox: list[Slot]) -> bool:
+def refused_by_colouring(node: Colouring, pulse: int, inbox: list[Slot]) -> bool:
     """Whether the colouring refuses an inbox: what is due and missing, or not due, or a value that can't be. (A role is
     None before pulse 2, or the way and the forest.)"""
     if pulse == 1:
-        return names_refused(program, inbox)
+        return names_refused(node, inbox)
     if pulse == 2:
-        return any(map(label_refused, [program.forests] * program.degree, program.roles, inbox))
+        return any(map(label_refused, [node.forests] * node.degree, node.roles, inbox))
     if pulse > 12:
-        return choices_refused(program, pulse, inbox)
+        return choices_refused(node, pulse, inbox)
     bound = BOUNDS[pulse]
-    if pulse >= 7 and max(program.colours, default=0) > bound:
+    if pulse >= 7 and max(node.colours, default=0) > bound:
         return True
-    return any(colour_refused(program, bound, *pair) for pair in zip(program.ends(), inbox))
+    return any(colour_refused(node, bound, *pair) for pair in zip(node.ends(), inbox))
 
 
 # The greatest colour of a parent, by the pulse in which a node hears it.
 BOUNDS = {3: 2**128, 4: 255, 5: 15, 6: 7, 7: 5, 8: 5, 9: 4, 10: 4, 11: 3, 12: 3}
 
 
-def names_refused(program: Colouring, inbox: list[Slot]) -> bool:
+def names_refused(node: Colouring, inbox: list[Slot]) -> bool:
     """Each neighbour sends an identifier; they and the node's own differ, and not too many are higher."""
     if any(slot is None or slot[0] != "Hello" for slot in inbox):
         return True
     numbers = [slot[1] for slot in inbox if slot]
-    higher = [number for number in numbers if number > program.id]
-    return len({*numbers, program.id}) <= len(numbers) or len(higher) > program.forests
+    higher = [number for number in numbers if number > node.id]
+    return len({*numbers, node.id}) <= len(numbers) or len(higher) > node.forests
 
 
 def label_refused(forests: int, role: Role | None, slot: Slot) -> bool:
@@ -195,28 +206,28 @@ def label_refused(forests: int, role: Role | None, slot: Slot) -> bool:
     return slot is None or slot[0] != "Label" or slot[1] >= forests
 
 
-def colour_refused(program: Colouring, bound: int, role: Role, slot: Slot) -> bool:
+def colour_refused(node: Colouring, bound: int, role: Role, slot: Slot) -> bool:
     """A parent sends a colour other than the node's own, and a child nothing."""
     way, forest = role
     if way == "Down":
         return slot is not None
     if slot is None or slot[0] != "Colour":
         return True
-    return slot[1] > bound or slot[1] == program.colours[forest]
+    return slot[1] > bound or slot[1] == node.colours[forest]
 
 
-def choices_refused(program: Colouring, pulse: int, inbox: list[Slot]) -> bool:
+def choices_refused(node: Colouring, pulse: int, inbox: list[Slot]) -> bool:
     """In a merge neighbours in the forests merged so far send what they choose, but not before its first step; and a
     node whose turn it is finds a colour that is free."""
-    width = program.span + 1
+    width = node.span + 1
     forest, step = divmod(pulse - 13, 3 * width)
-    heard = [(*role, *slot) for role, slot in zip(program.ends(), inbox) if slot]
+    heard = [(*role, *slot) for role, slot in zip(node.ends(), inbox) if slot]
     if heard and step == 0:
         return True
     for _, of_edge, kind, number in heard:
-        if kind != "Chosen" or number > program.span or of_edge > forest:
+        if kind != "Chosen" or number > node.span or of_edge > forest:
             return True
     chosen = {number for *_, number in heard}
-    old, taken = (program.merged, chosen) if step == 0 else (program.old, program.chosen | chosen)
-    has_turn = (program.colours[forest], old) == divmod(step, width)
-    return has_turn and set(range(width)) <= taken | program.barred
+    old, taken = (node.merged, chosen) if step == 0 else (node.old, node.chosen | chosen)
+    has_turn = (node.colours[forest], old) == divmod(step, width)
+    return has_turn and set(range(width)) <= taken | node.barred

@@ -8,50 +8,69 @@ forests merged so far have one merged colour after a merge. What a forest's colo
 ancestors there alone, whose identifiers ascend. So if any network of N nodes goes wrong in a forest, then some row of
 ascending identifiers of 1 to N does, and rows are enough to try; the merging may need any network."""
 import copy
-import functools
 import itertools
-from collections import namedtuple
 from collections.abc import Callable, Collection, Iterator
-from typing import Any, NamedTuple
+from dataclasses import replace
+from typing import NamedTuple
 
-from lab.definitions.colours import at_parent, bit, first_colours, merged, other_than, shift
+from lab.definitions.colours import (
+    Colours,
+    at_parent,
+    bit,
+    first_colours,
+    merged,
+    other_than,
+    shift,
+)
 from lab.definitions.independent_set import IndependentSet
 from lab.definitions.matching import Matching
-from lab.definitions.nodes import DROPPED, Colouring, Program, synchronous_run
+from lab.definitions.nodes import COLOURING, DROPPED
+from lab.definitions.program import Program, RoundsNode, Slot, synchronous_run
 from lab.definitions.recolouring import Recolouring
-from lab.definitions.sequel import Sequel
 from lab.network import Edge, Network
 from lab.schedules.rules import OF_FORESTS
 
 # Rows of so many nodes are tried, or networks.
 MOST_ROW, MOST_MERGED = 12, 5
-# Nodes v and w have one colour in a forest after a pulse, w being v's parent; or after the merge of it, if `pulse` is
-# None.
-Clash = namedtuple("Clash", "pulse forest v w colour")
+Nodes = dict[int, RoundsNode]
+
+
+class Clash(NamedTuple):
+    """Nodes v and w have one colour in a forest after a pulse, w being v's parent; or after the merge of it, if `pulse`
+    is None."""
+
+    pulse: int | None
+    forest: int
+    v: int
+    w: int
+    colour: int
 
 
 class RuledRounds:
     """`colours[f]` are the lists of a forest from pulse 2 on, up to the first clash; `merged` those after each merge,
     and `plan` the last of these, if the rounds get that far; `clash` is the first one, or None."""
 
-    def __init__(self, net, without):
-        self.net, self.without = net, frozenset(without)
-        self.colours = [[net.identifiers] for _ in range(net.forest_count)]
+    def __init__(self, net: Network, without: Collection[str]) -> None:
+        self.net = net
+        self.without = frozenset(without)
+        self.colours: list[list[Colours]] = [[net.identifiers] for _ in range(net.forest_count)]
         self.merged = [first_colours(net)]
-        self.plan: dict[int, int] | None = None
+        self.plan: Colours | None = None
         self.clash: Clash | None = None
         for pulse in range(3, 13):
             for f, lists in enumerate(self.colours):
                 lists.append(self.next_colours(pulse, f))
-            self.clash = self.clash or next(self.forest_clashes(pulse), None)
+            if self.clash is None:
+                self.clash = next(self.forest_clashes(pulse), None)
             if self.clash and pulse < 12:
                 return
         for f in range(net.forest_count):
             self.merged.append(self.next_merged(f))
-            self.clash = self.clash or next(self.merge_clashes(f), None)
+            if self.clash is None:
+                self.clash = next(self.merge_clashes(f), None)
         self.plan = self.merged[-1]
 
-    def next_colours(self, pulse, f):
+    def next_colours(self, pulse: int, f: int) -> Colours:
         """A bit step, twice the place and the digit there; a shift; or a drop of 5, 4 or 3."""
         net, without, c = self.net, self.without, self.colours[f][-1]
         if pulse <= 6:
@@ -61,19 +80,24 @@ class RuledRounds:
             }
         if pulse % 2 == 1:
 
-            def is_kept(v):
+            def is_kept(v: int) -> bool:
                 return "shift" in without or "root" in without and net.parent(f, v) is None
 
             return {v: c[v] if is_kept(v) else colour for v, colour in shift(net, f, c).items()}
-        before = self.colours[f][-2]
-        taken = {
-            v: [before[v]] * ("children" not in without)
-            + [at_parent(net, f, c, v)] * ("parent" not in without)
-            for v in c
-        }
-        return {v: other_than(*taken[v]) if c[v] == DROPPED[pulse] else c[v] for v in c}
+        return {v: self.dropped(f, v) if c[v] == DROPPED[pulse] else c[v] for v in c}
 
-    def next_merged(self, f):
+    def dropped(self, f: int, v: int) -> int:
+        """The colour of a node that drops its own: other than its children's, which is its own before the shift, and
+        than its parent's."""
+        before, c = self.colours[f][-2:]
+        taken: list[int | None] = []
+        if "children" not in self.without:
+            taken.append(before[v])
+        if "parent" not in self.without:
+            taken.append(at_parent(self.net, f, c, v))
+        return other_than(*taken)
+
+    def next_merged(self, f: int) -> Colours:
         net, old = self.net, self.merged[-1]
         if "pair" in self.without:
             old = dict.fromkeys(old, 0)
@@ -85,18 +109,19 @@ class RuledRounds:
             }
         return merged(net, f, old, self.colours[f][-1])
 
-    def forest_clashes(self, pulse):
+    def forest_clashes(self, pulse: int) -> Iterator[Clash]:
         for f, lists in enumerate(self.colours):
             for v, colour in lists[-1].items():
-                if colour == at_parent(self.net, f, lists[-1], v):
-                    yield Clash(pulse, f, v, self.net.parent(f, v), colour)
+                parent = self.net.parent(f, v)
+                if parent is not None and colour == lists[-1][parent]:
+                    yield Clash(pulse, f, v, parent, colour)
 
-    def merge_clashes(self, f):
+    def merge_clashes(self, f: int) -> Iterator[Clash]:
         for v, w in self.net.edges:
             if self.net.number[frozenset((v, w))] <= f and self.merged[-1][v] == self.merged[-1][w]:
                 yield Clash(None, f, v, w, self.merged[-1][v])
 
-    def words(self):
+    def words(self) -> str:
         """What goes wrong, in a sentence or two; nothing if nothing does."""
         clash = self.clash
         if clash is None:
@@ -129,23 +154,12 @@ class Fault(NamedTuple):
     words: str
 
 
-class Ruled:
-    """What the nodes of a program with rules left out have, too."""
+class RuledMatching(Matching):
+    def __init__(self, net: Network, v: int, without: frozenset[str]) -> None:
+        super().__init__(net, v)
+        self.without = without
 
-    without: frozenset[str] = frozenset()
-
-    @staticmethod
-    def faults(net: Network, nodes: dict) -> Iterator[Fault]:
-        """What isn't right at the end, the nodes being as they are after the last pulse."""
-        raise NotImplementedError
-
-
-class RuledMatching(Ruled, Matching):
-    @classmethod
-    def last_pulse(cls, net):
-        return Matching.last_pulse(net) - ("last" in cls.without)
-
-    def take(self, forest, colour, came):
+    def take(self, forest: int, colour: int, came: int | None) -> list[Slot]:
         partner = self.partner
         if "partner" in self.without:
             self.partner = None
@@ -153,24 +167,28 @@ class RuledMatching(Ruled, Matching):
         self.partner = self.partner if partner is None else partner
         return sent
 
-    @staticmethod
-    def faults(net, nodes):
-        partner = {
-            v: None if node.partner is None else net.neighbours[v][node.partner]
-            for v, node in nodes.items()
-        }
-        return (
-            Fault(
+
+def matching_faults(net: Network, nodes: Nodes) -> Iterator[Fault]:
+    """Each node whose partner has another one."""
+    partner = {
+        v: None if node.partner is None else net.neighbours[v][node.partner]
+        for v, node in nodes.items()
+        if isinstance(node, Matching)
+    }
+    for v, w in partner.items():
+        if w and partner[w] != v:
+            yield Fault(
                 (v, w),
                 f"the partner of node {v} is {w}, and that of node {w} is {partner[w] or 'none'}",
             )
-            for v, w in partner.items()
-            if w and partner[w] != v
-        )
 
 
-class RuledSet(Ruled, IndependentSet):
-    def go_on(self, pulse, inbox):
+class RuledSet(IndependentSet):
+    def __init__(self, net: Network, v: int, without: frozenset[str]) -> None:
+        super().__init__(net, v)
+        self.without = without
+
+    def go_on(self, pulse: int, inbox: list[Slot]) -> list[Slot]:
         self.is_beside = (self.is_beside or any(inbox)) and "beside" not in self.without
         joins = any if "class" in self.without else all
         if not joins((self.first.merged == pulse, not self.is_beside)):
@@ -178,73 +196,91 @@ class RuledSet(Ruled, IndependentSet):
         self.is_in = True
         return [("Joined", self.first.merged) if pulse < self.span else None] * self.degree
 
-    @staticmethod
-    def faults(net, nodes):
-        return (
-            Fault((v, w), f"the neighbours {v} and {w} are both in")
-            for v, w in net.edges
-            if nodes[v].is_in and nodes[w].is_in
-        )
+
+def set_faults(net: Network, nodes: Nodes) -> Iterator[Fault]:
+    """Each edge of which both ends are in."""
+    members = {v for v, node in nodes.items() if isinstance(node, IndependentSet) and node.is_in}
+    for v, w in net.edges:
+        if v in members and w in members:
+            yield Fault((v, w), f"the neighbours {v} and {w} are both in")
 
 
-class RuledRecolouring(Ruled, Recolouring):
-    def go_on(self, pulse, inbox):
+class RuledRecolouring(Recolouring):
+    def __init__(self, net: Network, v: int, without: frozenset[str]) -> None:
+        super().__init__(net, v)
+        self.without = without
+
+    def go_on(self, pulse: int, inbox: list[Slot]) -> list[Slot]:
         if "bars" in self.without:
             # The colouring has ended, so nothing else looks at them.
             self.first.barred = frozenset()
         sent = super().go_on(pulse, inbox)
-        return (
-            [slot and ("Anew", self.first.merged) for slot in sent]
-            if "anew" in self.without
-            else sent
-        )
-
-    @staticmethod
-    def faults(net, nodes):
-        colour = {v: node.present() for v, node in nodes.items()}
-        yield from (
-            Fault((v, w), f"the neighbours {v} and {w} both have channel {colour[v] + 1}")
-            for v, w in net.edges
-            if colour[v] == colour[w]
-        )
-        yield from (
-            Fault((v,), f"node {v} has channel {c + 1}, which is barred at it")
-            for v, c in colour.items()
-            if c in net.barred[v]
-        )
+        if "anew" not in self.without:
+            return sent
+        return [slot and ("Anew", self.first.merged) for slot in sent]
 
 
-RULED: dict[type[Sequel], type[Ruled]] = {
-    Matching: RuledMatching,
-    IndependentSet: RuledSet,
-    Recolouring: RuledRecolouring,
+def recolouring_faults(net: Network, nodes: Nodes) -> Iterator[Fault]:
+    """Each edge whose ends have one channel, and each node with a channel that is barred at it."""
+    colour = {v: node.present() for v, node in nodes.items() if isinstance(node, Recolouring)}
+    for v, w in net.edges:
+        if colour[v] == colour[w]:
+            yield Fault((v, w), f"the neighbours {v} and {w} both have channel {colour[v] + 1}")
+    for v, c in colour.items():
+        if c in net.barred[v]:
+            yield Fault((v,), f"node {v} has channel {c + 1}, which is barred at it")
+
+
+class Ruled(NamedTuple):
+    """Of a program that goes on where the colouring ends: its node with rules left out, and what isn't right at the
+    end, the nodes being as they are after the last pulse."""
+
+    node: Callable[[Network, int, frozenset[str]], RoundsNode]
+    faults: Callable[[Network, Nodes], Iterator[Fault]]
+
+
+RULED = {
+    "matching": Ruled(RuledMatching, matching_faults),
+    "independent-set": Ruled(RuledSet, set_faults),
+    "recolouring": Ruled(RuledRecolouring, recolouring_faults),
 }
+
+
+def without_rules(program: Program, without: Collection[str]) -> Program:
+    """A program that goes on where the colouring ends, with rules of its rounds left out."""
+    rules, node = frozenset(without), RULED[program.name].node
+    # Without the rule `last`, the pulse after the last turn isn't made.
+    missing = 1 if "last" in rules else 0
+    return replace(
+        program,
+        node=lambda net, v: node(net, v, rules),
+        last_pulse=lambda net: program.last_pulse(net) - missing,
+        without=rules,
+    )
 
 
 class RuledSequel:
     """`faults` are what isn't right at the end, and `clash` is the first of them, or None."""
 
-    def __init__(self, net, without, program):
-        base = next(ruled for base, ruled in RULED.items() if issubclass(program, base))
-        rules = {"without": frozenset(without)}
+    def __init__(self, net: Network, without: Collection[str], program: Program) -> None:
         self.net = net
-        self.program: Program = type(program.__name__, (base, program), rules)
+        self.program = without_rules(program, without)
         self.nodes = synchronous_run(net, self.program)
-        self.faults = list(base.faults(net, self.nodes))
+        self.faults = list(RULED[program.name].faults(net, self.nodes))
         self.clash = self.faults[0] if self.faults else None
 
-    def words(self):
+    def words(self) -> str:
         """What goes wrong, in a sentence; nothing if nothing does."""
         if self.clash is None:
             return ""
         return f"after pulse {self.program.last_pulse(self.net)} {self.clash.words}"
 
 
-def ruled(program: Program) -> Callable[..., Any]:
-    """What makes the rounds of a program on a network without rules."""
-    if program is Colouring:
-        return RuledRounds
-    return functools.partial(RuledSequel, program=program)
+def ruled(program: Program, net: Network, without: Collection[str]) -> RuledRounds | RuledSequel:
+    """The rounds of a program on a network without rules."""
+    if program == COLOURING:
+        return RuledRounds(net, without)
+    return RuledSequel(net, without, program)
 
 
 def networks(nodes: int, without: Collection[str]) -> Iterator[list[Edge]]:
@@ -261,8 +297,8 @@ def networks(nodes: int, without: Collection[str]) -> Iterator[list[Edge]]:
 
 
 def smallest_wrong(
-    without: Collection[str], program: Program = Colouring
-) -> tuple[Any, int, str, int]:
+    without: Collection[str], program: Program = COLOURING
+) -> tuple[RuledRounds | RuledSequel | None, int, str, int]:
     """(rounds, how many networks were tried, what these are called, of how many nodes at most) of a smallest network
     on which the rounds of a program go wrong; the rounds are None if there is none. Channel 1 is barred at node 1 if
     the bars are left out."""
@@ -273,28 +309,26 @@ def smallest_wrong(
     for nodes in range(2, most + 1):
         for edges in networks(nodes, without):
             tried += 1
-            rounds = ruled(program)(Network(nodes, edges, bars=bars, name="found"), without)
+            rounds = ruled(program, Network(nodes, edges, bars=bars, name="found"), without)
             if rounds.clash:
                 return rounds, tried, what, most
     return None, tried, what, most
 
 
 def looked_at(
-    network: Network | None, without: Collection[str], program: Program = Colouring
-) -> tuple[Any, str]:
+    network: Network | None, without: Collection[str], program: Program = COLOURING
+) -> tuple[RuledRounds | RuledSequel | None, str]:
     """The rounds of a program on a network, or on a smallest one, if they go wrong without these rules, or None; and in
     words whether they do, and where."""
     if network is not None:
-        rounds = ruled(program)(network, without)
-        return (
-            (rounds, f"broken on {network.name}")
-            if rounds.clash
-            else (None, f"not broken: the rounds of {network.name} go right")
-        )
-    rounds, tried, what, most = smallest_wrong(without, program)
-    if rounds is None:
+        rounds = ruled(program, network, without)
+        if rounds.clash:
+            return rounds, f"broken on {network.name}"
+        return None, f"not broken: the rounds of {network.name} go right"
+    smallest, tried, what, most = smallest_wrong(without, program)
+    if smallest is None:
         return None, f"not broken: {tried:,} {what} of up to {most} nodes go right"
-    edges = ", ".join(f"{v}-{w}" for v, w in rounds.net.edges)
-    bar = ", channel 1 barred at node 1" if rounds.net.greatest_bars else ""
+    edges = ", ".join(f"{v}-{w}" for v, w in smallest.net.edges)
+    bar = ", channel 1 barred at node 1" if smallest.net.greatest_bars else ""
     smaller = f"; {tried - 1} smaller {what} go right" if tried > 1 else ""
-    return rounds, f"broken on {rounds.net.nodes} nodes with the edges {edges}{bar}{smaller}"
+    return smallest, f"broken on {smallest.net.nodes} nodes with the edges {edges}{bar}{smaller}"

@@ -8,8 +8,9 @@ import sys
 from collections import deque
 from collections.abc import Collection, Iterable, Iterator
 
-from lab.definitions.nodes import Colouring, NetState, Program, Refused, Wire, missing_words
+from lab.definitions.nodes import COLOURING, NetState, Refused, Wire, missing_words
 from lab.definitions.own_program import check_repeats, wrong_end
+from lab.definitions.program import Program
 from lab.definitions.programs import add_program, program_asked
 from lab.network import Edge, Network
 from lab.networks.fields import shown
@@ -71,7 +72,7 @@ class Player:
     possible at v; `since[kind, v, w]` has for each wire that can be put or taken, and for a pulse, how many entries
     were made when it came there."""
 
-    def __init__(self, net, program=Colouring, without=()):
+    def __init__(self, net, program=COLOURING, without=()):
         check_repeats(net, program)
         self.state, self.clock, self.made = NetState(net, program), Clock(net.neighbours), []
         self.since, self.steps = {}, {}
@@ -83,7 +84,7 @@ class Player:
     def look_at(self, v):
         """What is possible at v now."""
         node, self.steps[v] = self.state.nodes[v], []
-        waiting: list[tuple[str, int, list[Wire]]] = [("pulse", 0, [("",)] * node.can_pulse())]
+        waiting: list[tuple[str, int, list[Wire]]] = [("pulse", 0, [("",)] * node.may_act())]
         for port, w in enumerate(self.state.neighbours[v]):
             waiting += [("put", w, node.ports[port].out), ("take", w, self.state.link_to(v, port))]
         for kind, w, wires in waiting:
@@ -137,7 +138,7 @@ def played(
     slow: Collection[Edge] = (),
     lazy: Collection[int] = (),
     player: Player | None = None,
-    program: Program = Colouring,
+    program: Program = COLOURING,
 ) -> list[Entry]:
     """The entries of a run of a program on a network, in the order in which they were made; `player` may be on its
     way."""
@@ -181,7 +182,7 @@ def events_of(
         )
 
 
-def text_of_run(nodes: int, entries: Iterable[Entry], program: Program = Colouring) -> str:
+def text_of_run(nodes: int, entries: Iterable[Entry], program: Program = COLOURING) -> str:
     """The transcript with stamps of a program: its lines by stamp, and lines of one stamp by node."""
     lines = [
         f"{entry.stamp} {line_of(entry)}"

@@ -43,8 +43,8 @@ from array import array
 from collections import Counter, namedtuple
 from functools import cache
 
-from lab.definitions.nodes import Colouring, Refused, Wire, wire_words
-from lab.definitions.own_program import OwnNode, asks_for_messages, what_is_wrong
+from lab.definitions.nodes import COLOURING, Colouring, Refused, Wire, wire_words
+from lab.definitions.own_program import asks_for_messages, what_is_wrong
 from lab.network import Edge
 from lab.schedules.ruled_node import Rounds, RuledNode
 
@@ -78,11 +78,11 @@ class Numbered(list):
 
 class Space:
     def __init__(
-        self, net, without=(), limit=1_000_000, progress=None, reduce=False, program=Colouring
+        self, net, without=(), limit=1_000_000, progress=None, reduce=False, program=COLOURING
     ):
         self.net, self.without, self.limit = net, tuple(without), limit
         self.reduce, self.program = reduce, program
-        self.asks_for_messages = issubclass(program, OwnNode) and asks_for_messages(program)
+        self.asks_for_messages = asks_for_messages(program)
         self.rounds = Rounds(net, program)
         self.vertices, self.ports, self.last = net.vertices, net.neighbours, program.last_pulse(net)
         self.links = [(v, w) for v in self.vertices for w in self.ports[v]]
@@ -119,7 +119,7 @@ class Space:
         fault, is_refused = node.fault_of_pulse(self.vertices[a], self.rounds)
         if is_refused:
             return None, (), fault
-        node.pulse()
+        node.act()
         return *self.after(a, node), fault
 
     def find_take(self, a, i, port, wire):
@@ -134,7 +134,7 @@ class Space:
     def find_moves(self, a, i, *arriving):
         """The moves of a node with this value and these contents of the links to it, and which is made `alone`."""
         v, node, moves = self.vertices[a], self.locals[a][i], []
-        if node.can_pulse():
+        if node.may_act():
             j, gone, fault = self.pulse(a, i)
             moves.append(
                 Move(
@@ -243,13 +243,15 @@ class Space:
             self.ends.append(s)
             if not self.is_whole(state):
                 self.faults[s, None] = self.stuck_words(s)
-        if issubclass(self.program, OwnNode) and (words := self.wrong_words(state, not possible)):
+        if self.program.file is not None and (words := self.wrong_words(state, not possible)):
             self.faults[s, None] = words
             self.broken.add(s)
 
     def wrong_words(self, state, is_end):
         """What the file of a program says of what its nodes have found in a state."""
-        found = tuple(self.locals[a][state[a]].program.result() for a in range(len(self.vertices)))
+        found = tuple(
+            self.locals[a][state[a]].simulated.result() for a in range(len(self.vertices))
+        )
         messages = tuple(self.messages(state)) if self.asks_for_messages else ()
         key = found, messages, is_end
         if key not in self.said:
@@ -320,9 +322,10 @@ class Space:
         }
 
     def node_words(self, v, node):
-        colour = node.program.merged if self.program is Colouring else None
+        simulated = node.simulated
+        colour = simulated.merged if isinstance(simulated, Colouring) else None
         stage, waits = self.stage_of(v, node)
-        return Node(node.pulse_number, stage, waits, node.wrong, colour, node.program.result())
+        return Node(node.pulse_number, stage, waits, node.wrong, colour, simulated.result())
 
     def stage_of(self, v, node):
         """How far a node is in its pulse, and the wires for which it waits there."""

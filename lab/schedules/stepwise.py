@@ -7,7 +7,7 @@ import random
 import re
 from collections.abc import Iterable
 
-from lab.definitions.nodes import Colouring, Refused, wire_words
+from lab.definitions.nodes import COLOURING, Refused, wire_words
 from lab.schedules.policies import Step
 from lab.schedules.ruled_node import Rounds, RuledNode
 from lab.schedules.simulate import Player, events_of
@@ -18,7 +18,7 @@ class Stepwise(Player):
     """`chosen` are the steps so far, `lines` the events as `forestplay events` reads them. `fault` says what went wrong
     first; after `is_over` nothing goes on, since a program has refused what came."""
 
-    def __init__(self, net, program=Colouring, without=()):
+    def __init__(self, net, program=COLOURING, without=()):
         super().__init__(net, program, without)
         self.without, self.chosen, self.lines = without, [], []
         self.said, self.fault, self.is_over = "", None, False

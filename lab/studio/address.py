@@ -8,10 +8,8 @@ from collections.abc import Callable, Collection
 from dataclasses import dataclass, field
 from typing import get_args
 
-from lab.definitions.layers import Layers
-from lab.definitions.nodes import Colouring
-from lab.definitions.programs import MAX_PASSES, PROGRAMS
-from lab.definitions.recolouring import Recolouring
+from lab.definitions.nodes import COLOURING
+from lab.definitions.programs import MAX_PASSES, OPTIONS, PROGRAMS
 from lab.networks.fields import shown
 from lab.schedules.policies import POLICIES
 from lab.schedules.rules import OF_PROGRAMS, OF_SCHEDULES
@@ -33,7 +31,7 @@ class Here:
 
     nodes: int = 0
     edges: Collection[tuple[int, int]] = ()
-    program: str = Colouring.name
+    program: str = COLOURING.name
 
     def node(self, said: str) -> int:
         v = whole(said)
@@ -217,16 +215,16 @@ def read_values(pairs: dict[str, str], unread: dict[str, str], here: Here) -> Ad
         except Wrong as why:
             unread[shown(f"{name}={said}")] = str(why)
         if name == "program":
-            here = Here(here.nodes, here.edges, str(values.get("program", Colouring.name)))
+            here = Here(here.nodes, here.edges, str(values.get("program", COLOURING.name)))
     make: Callable[..., Values] = Values
     return Address(make(**values), unread)
 
 
 def program_named(values: Values) -> str:
     """The program of an address with its option, as a call names it; `programNamed` of base.js is the page's."""
-    program = values.program or Colouring.name
-    if program == Recolouring.name and (values.passes or 1) > 1:
+    program = values.program or COLOURING.name
+    if program == OPTIONS["passes"][0] and (values.passes or 1) > 1:
         return f"{program} passes {values.passes}"
-    if program == Layers.name and values.root:
+    if program == OPTIONS["root"][0] and values.root:
         return f"{program} root {values.root}"
     return program

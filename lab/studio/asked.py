@@ -4,7 +4,8 @@ from collections.abc import Collection
 from dataclasses import dataclass, field
 from typing import Protocol
 
-from lab.definitions.nodes import Colouring, Program
+from lab.definitions.nodes import COLOURING
+from lab.definitions.program import Program
 from lab.definitions.programs import MAX_PASSES, PROGRAMS, program_at
 from lab.network import Network
 from lab.networks.network_text import read_network
@@ -79,7 +80,7 @@ def network_asked(asked: OfNetwork, most: int = MOST_DRAWN) -> Network:
 
 def program_asked(asked: OfProgram, network: Network) -> Program:
     """A program by its name, which its option may follow: `recolouring passes 2`, `layers root 3`."""
-    said = re.fullmatch("([^ ]+)(?: (passes|root) ([0-9]{1,5}))?", asked.program or Colouring.name)
+    said = re.fullmatch("([^ ]+)(?: (passes|root) ([0-9]{1,5}))?", asked.program or COLOURING.name)
     name, option, value = said.groups() if said else ("?", None, None)
     options: dict[str, int] = {str(option): int(value)} if value else {}
     if not 1 <= options.get("passes", 1) <= MAX_PASSES:

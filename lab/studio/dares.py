@@ -1,7 +1,7 @@
 """The dares of the tab Adversary: a goal for any network, won by steps that the definitions play."""
 from collections.abc import Collection, Iterable
 
-from lab.definitions.nodes import Program
+from lab.definitions.program import Program
 from lab.definitions.rounds import Rounds
 from lab.network import Edge, Network
 from lab.pictures.layout import distances

@@ -5,7 +5,8 @@ always judged by the definitions."""
 import re
 
 from lab.definitions.colours import plan_text
-from lab.definitions.nodes import NetState, Program, Refused, entry_words, make
+from lab.definitions.nodes import NetState, Refused, entry_words, make
+from lab.definitions.program import Program
 from lab.definitions.programs import program_words
 from lab.definitions.rounds import Rounds
 from lab.network import Network

@@ -6,7 +6,7 @@ lab/studio/page/calls.d.ts has the same for the page's JavaScript. `python3 buil
 from dataclasses import dataclass
 from typing import Annotated
 
-from lab.definitions.nodes import Colouring
+from lab.definitions.nodes import COLOURING
 from lab.network import Edge
 from lab.networks.kinds import KINDS
 from lab.schedules.policies import POLICIES
@@ -30,7 +30,7 @@ class OfNetwork:
 class OfProgram(OfNetwork):
     """What is asked of a network whose nodes run a program; an option may follow its name, as `layers root 3`."""
 
-    program: str = Colouring.name
+    program: str = COLOURING.name
 
 
 @dataclass(frozen=True, kw_only=True)

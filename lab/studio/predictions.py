@@ -1,6 +1,6 @@
 """Predict, then look: what a node has after a pulse, or what it waits for, as a student says it, beside what the
 definitions find and why."""
-from lab.definitions.nodes import Colouring
+from lab.definitions.nodes import COLOURING
 from lab.definitions.rounds import Rounds, SEED
 from lab.pictures.player_page import SAY
 from lab.pictures.program_rounds import ProgramRounds
@@ -36,7 +36,7 @@ def predict(call: PredictCall, _tell: Tell) -> Predicted:
     v, pulse, last = vertex_asked(call, network), call.pulse, program.last_pulse(network)
     if not 1 <= pulse <= last:
         raise Wrong(f"the field pulse: there is no pulse {pulse}, only 1 to {last}")
-    if program is Colouring:
+    if program == COLOURING:
         found, why = of_colouring(Rounds(network), v, pulse, call.forest)
     else:
         found, why = of_program(ProgramRounds(network, program), v, pulse)

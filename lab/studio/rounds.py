@@ -2,7 +2,7 @@
 goes wrong without a rule, and pictures."""
 import re
 
-from lab.definitions.nodes import Colouring, last_pulse
+from lab.definitions.nodes import COLOURING, last_pulse
 from lab.definitions.rounds import Rounds
 from lab.networks.codes import code_of
 from lab.networks.plan_text import read_plan
@@ -74,7 +74,7 @@ def of_nodes(words: str) -> str:
 def rounds_asked(call: OfProgram) -> ProgramRounds | Rounds:
     network = network_asked(call, MOST_ROUNDS)
     program = program_asked(call, network)
-    if program is not Colouring:
+    if program != COLOURING:
         return ProgramRounds(network, program)
     return rounds_of(network, call.network)
 
@@ -108,7 +108,7 @@ def broken(call: BrokenCall, _tell: Tell) -> Broken:
     without = rules_asked(call, OF_PROGRAMS.get(program.name, {}))
     if not without:
         raise Wrong("which rule is left out?")
-    here = ruled(program)(network, without)
+    here = ruled(program, network, without)
     if here.clash is not None:
         picture_here = broken_picture.draw(network, without, program)
         return Broken(True, here.words().split("\n"), None, picture_here)

@@ -5,7 +5,8 @@ from collections.abc import Iterator
 from dataclasses import replace
 
 from lab import processors
-from lab.definitions.nodes import Colouring, Program
+from lab.definitions.nodes import COLOURING
+from lab.definitions.program import Program
 from lab.definitions.programs import program_words
 from lab.network import Network
 from lab.pictures.program_rounds import is_own, least_wires, rounds_of
@@ -103,9 +104,9 @@ def run_part(found: Run) -> RunPart:
 def by_threads(call: RunCall, program: Program) -> str:
     if not OPENED.is_proved:
         raise Wrong("threads run the proved programs, which aren't built yet: take a run by a seed")
-    name = "forestplan" if program is Colouring else "forestplay"
+    name = "forestplan" if program == COLOURING else "forestplay"
     words = (
-        ["transcript"] if program is Colouring else ["run", "--transcript", *program_words(program)]
+        ["transcript"] if program == COLOURING else ["run", "--transcript", *program_words(program)]
     )
     workers = processors.workers(call.workers)
     return text_from(

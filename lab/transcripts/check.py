@@ -5,7 +5,8 @@ between nodes. This program looks for an order of all entries that is a run, and
 of edition 2 or 3 has an order, and stamps."""
 from collections import deque
 
-from lab.definitions.nodes import Colouring, NetState, Program, Refused, make
+from lab.definitions.nodes import COLOURING, NetState, Refused, make
+from lab.definitions.program import Program
 from lab.network import Network
 from lab.transcripts.fields import fields_of
 from lab.transcripts.reading import Entry, Wrong, read_to_fault
@@ -74,7 +75,7 @@ class Found:
         return not self.refusals and not any(unfinished(self.state))
 
 
-def find_order(net: Network, entries: list[Entry], program: Program = Colouring) -> Found:
+def find_order(net: Network, entries: list[Entry], program: Program = COLOURING) -> Found:
     """Makes the entries in their order, if they have stamps, and else the next one of any node as long as one is
     possible.
 
@@ -109,7 +110,7 @@ def find_order(net: Network, entries: list[Entry], program: Program = Colouring)
     return found
 
 
-def whole_run(net: Network, text: bytes, program: Program = Colouring) -> tuple[list[int], str]:
+def whole_run(net: Network, text: bytes, program: Program = COLOURING) -> tuple[list[int], str]:
     """The lines of the entries in an order that is a run, and the verdict on a transcript of a program on a network; or
     `Wrong`."""
     head, entries, fault = read_to_fault(text, program.name)

@@ -46,8 +46,8 @@ def standing(state: NetState, v: int) -> Standing:
         w: wire_words(port.out[0]) for w, port in zip(state.neighbours[v], node.ports) if port.out
     }
     is_at_the_end = node.pulse_number == node.last
-    lacks = ([], []) if is_at_the_end or node.can_pulse() else lacks_of(state, v)
-    return Standing(node.pulse_number, node.last, node.can_pulse(), *lacks, puts, "for {}")
+    lacks = ([], []) if is_at_the_end or node.may_act() else lacks_of(state, v)
+    return Standing(node.pulse_number, node.last, node.may_act(), *lacks, puts, "for {}")
 
 
 # What an entry lacks, of the refusals that say no more of it.

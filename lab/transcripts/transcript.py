@@ -5,8 +5,8 @@ import json
 import sys
 
 from lab import programs
-from lab.definitions.nodes import Program
-from lab.definitions.own_program import OwnNode, wrong_end
+from lab.definitions.own_program import wrong_end
+from lab.definitions.program import Program
 from lab.definitions.programs import add_program, program_asked, program_words
 from lab.network import Network
 from lab.networks.sources import network_bytes
@@ -168,7 +168,7 @@ def checked(given: Namespace) -> str:
 def replayed(given: Namespace) -> str:
     """What the proved machine prints of a transcript in the order found."""
     net, network, text, program = texts_of(given)
-    if issubclass(program, OwnNode):
+    if program.file is not None:
         raise Wrong(f"no proved program runs {program.name}")
     made, _ = whole_run(net, text, program)
     # The network may not end in a line feed.

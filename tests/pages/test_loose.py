@@ -10,13 +10,7 @@ from tests.cases import FilesCase
 FOLDERS = ("lab", "build", "tests")
 # By the file: how many places it has, and the reason.
 LOOSE = {
-    "lab/definitions/nodes.py": (
-        4,
-        "a program is a class of nodes; an entry comes from a package above",
-    ),
-    "lab/definitions/own_program.py": (2, "what a file's functions return, before it is looked at"),
-    "lab/definitions/sequel.py": (1, "the node of the colouring, which rules may change"),
-    "lab/definitions/values.py": (5, "keys of values of any kind"),
+    "lab/definitions/nodes.py": (3, "an entry comes from a package above"),
     "lab/networks/networkx_graph.py": (1, "what networkx keeps of a node, which has no hints"),
     "lab/pictures/page/marks.js": (
         1,
@@ -29,8 +23,6 @@ LOOSE = {
     ),
     "lab/python/forestplan/_graphs.py": (3, "the same"),
     "lab/python/forestplan/_sites.py": (2, "places have names of any kind"),
-    "lab/schedules/ruled_node.py": (3, "the node of a program is of any class"),
-    "lab/schedules/ruled_rounds.py": (3, "rounds with rules left out are of two classes"),
     "lab/studio/connections.py": (2, "an address and a place for bytes, as sockets have them"),
     "lab/studio/page/address.js": (1, "the values of an address, each of its own type"),
     "lab/studio/serving.py": (2, "a request and an address, as socketserver has them"),

@@ -4,8 +4,8 @@ import functools
 from collections import Counter
 from itertools import pairwise
 
-from lab.definitions.leader import Leader
-from lab.definitions.nodes import Colouring
+from lab.definitions.leader import LEADER
+from lab.definitions.nodes import COLOURING
 from lab.networks.network_text import network_of
 from lab.schedules.space import Space
 from tests.cases import example
@@ -18,7 +18,7 @@ NETWORKS = {name: example(name) for name in ("two", "path", "triangle")}
 
 
 @functools.cache
-def space_of(name, without=(), program=Colouring):
+def space_of(name, without=(), program=COLOURING):
     return Space(network_of(NETWORKS[name]), without, program=program)
 
 
@@ -78,9 +78,9 @@ class Schedules(PictureCase):
         ):
             self.lattice_rows(name, without, window)
         # The colouring refuses each wrong inbox, and a leader goes on.
-        self.lattice_rows("path", ("early",), None, Leader)
+        self.lattice_rows("path", ("early",), None, LEADER)
 
-    def lattice_rows(self, name, without, window, program=Colouring):
+    def lattice_rows(self, name, without, window, program=COLOURING):
         """The states, by columns; the steps between them; a bold run from column to column; and in red what goes wrong:
         up to the first such events, where the bold run ends."""
         space = space_of(name, without, program)

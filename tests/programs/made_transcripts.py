@@ -3,7 +3,7 @@
 A run is held as its entries (lab/transcripts/reading.py), in the order in which they were made."""
 from collections import deque
 
-from lab.definitions.nodes import Colouring
+from lab.definitions.nodes import COLOURING
 from lab.schedules.simulate import Player, text_of_run
 from lab.transcripts.reading import line_of
 
@@ -21,7 +21,7 @@ def turn(state, v, capacity):
             if taken and has_all or not can_take(state, v, port):
                 break
             yield "take", v, port
-    if node.can_pulse():
+    if node.may_act():
         yield "pulse", v
     for port, other in enumerate(node.ports):
         while other.out and len(state.link[v, port]) < capacity:
@@ -52,7 +52,7 @@ class Run:
     """The run of one worker thread, by the definition of looks and turns: it is the same each time, and the number of
     looks that it needs shows whether capacity and turns reached the run."""
 
-    def __init__(self, net, capacity, program=Colouring):
+    def __init__(self, net, capacity, program=COLOURING):
         self.player, self.nodes, self.looks = Player(net, program), net.nodes, 0
         self.program = program
         state, pool = self.player.state, deque(net.vertices)

@@ -6,7 +6,7 @@ import json
 import os
 from unittest import mock
 
-from lab.definitions.nodes import Colouring
+from lab.definitions.nodes import COLOURING
 from lab.studio import limits, runs
 from lab.studio.asked import OPENED
 from lab.studio.calls import CALLS
@@ -240,7 +240,7 @@ class Calls(FilesCase):
                 mock.patch("os.sched_getaffinity", return_value=range(usable)),
                 mock.patch.object(runs, "text_from") as called,
             ):
-                runs.by_threads(call, Colouring)
+                runs.by_threads(call, COLOURING)
             words = called.call_args.args[1]
             self.same(
                 f"{usable} processors", words, ["transcript", f"--workers={wanted}", "--capacity=2"]

@@ -5,7 +5,7 @@ import subprocess
 import textwrap
 import time
 
-from lab.definitions.nodes import synchronous_run
+from lab.definitions.program import synchronous_run
 from lab.definitions.programs import program_at
 from lab.network import Network
 from tests import FORESTLAB

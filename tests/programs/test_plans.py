@@ -72,7 +72,7 @@ class Plans(Case):
             program, net = program_of(asked), network_of(TRIANGLE)
             whole = Run(net, capacity, program)
             states = text_of(
-                f"node {v} pulse {program.last_pulse(net)} {ended(net, v, node.program.result())}"
+                f"node {v} pulse {program.last_pulse(net)} {ended(net, v, node.simulated.result())}"
                 for v, node in whole.player.state.nodes.items()
             )
             for shown, answer in (((), states), (("--transcript",), whole.merged())):

@@ -2,9 +2,10 @@
 docs/claim/DEFINITIONS.md ("The 96 cells" and "Refusals of the colouring"), which stand here as they stand there."""
 import copy
 
-from lab.definitions.nodes import Colouring, Slot, synchronous_pulses
+from lab.definitions.nodes import COLOURING, Colouring
+from lab.definitions.program import Slot, synchronous_pulses
 from lab.networks.network_text import network_of
-from lab.schedules.ruled_node import program_refuses
+from lab.schedules.ruled_node import inbox_refused
 from tests.cases import Case, text
 
 # Node 2 has node 1 as a child, node 3 as its parent, and nothing else: U is 1, and Δ + B is 2.
@@ -39,7 +40,7 @@ def role_of(pulse: int, port: int) -> str:
 def before_each() -> dict[int, tuple[Colouring, list[Slot]]]:
     """Node 2 before each pulse of the synchronous run, with what it reads in it."""
     node, found = Colouring(ROW, 2), {}
-    for pulse, _, inboxes, _ in synchronous_pulses(ROW):
+    for pulse, _, inboxes, _ in synchronous_pulses(ROW, COLOURING):
         if pulse > 0:
             found[pulse] = copy.deepcopy(node), inboxes[2]
             node.next(pulse, inboxes[2])
@@ -54,14 +55,14 @@ class RefusedInboxes(Case):
     def refuses(self, pulse: int, port: int, slot: Slot) -> bool:
         """Whether node 2 refuses that it reads this by a port, and the rest as it is."""
         node, inbox = self.before[pulse]
-        return program_refuses(node, pulse, [*inbox[:port], slot, *inbox[port + 1 :]])
+        return inbox_refused(node, pulse, [*inbox[:port], slot, *inbox[port + 1 :]])
 
     def test_rounds(self):
         self.assertEqual([*self.before], [*range(1, LAST + 1)])
         found = [
             pulse
             for pulse, (node, slots) in self.before.items()
-            if program_refuses(node, pulse, slots)
+            if inbox_refused(node, pulse, slots)
         ]
         self.assertEqual(found, [])
 
@@ -91,7 +92,7 @@ class RefusedInboxes(Case):
             found = self.refuses(1, PARENT, ("Hello", number))
             self.same(f"{number} comes to node 2 beside 1", found, is_refused)
         node, _ = self.before[1]
-        higher = program_refuses(node, 1, [("Hello", 3), ("Hello", 4)])
+        higher = inbox_refused(node, 1, [("Hello", 3), ("Hello", 4)])
         self.assertTrue(higher, "two identifiers are higher than its own, and there is one forest")
 
     def test_labels(self):
@@ -119,7 +120,7 @@ class RefusedInboxes(Case):
             # Its parent's colour is another one, and there can be such a one.
             slots = [None, ("Colour", 0)]
             node.colours = [GREATEST.get(pulse, 255) + 1]
-            found = program_refuses(node, pulse, slots)
+            found = inbox_refused(node, pulse, slots)
             self.same(f"pulse {pulse}: a colour of its own that is too great", found, pulse >= 7)
 
     def test_choices(self):
@@ -133,8 +134,8 @@ class RefusedInboxes(Case):
             has_turn = (node.colours[0], node.old) == divmod(step, 3)
             node.chosen = {0}
             slots: list[Slot] = [("Chosen", 1), ("Chosen", 2)]
-            self.same(f"pulse {pulse}: none is free", program_refuses(node, pulse, slots), has_turn)
+            self.same(f"pulse {pulse}: none is free", inbox_refused(node, pulse, slots), has_turn)
             node.chosen = set()
-            self.same(f"pulse {pulse}: 0 is free", program_refuses(node, pulse, slots), False)
+            self.same(f"pulse {pulse}: 0 is free", inbox_refused(node, pulse, slots), False)
             node.barred = frozenset({0})
-            self.same(f"pulse {pulse}: 0 is barred", program_refuses(node, pulse, slots), has_turn)
+            self.same(f"pulse {pulse}: 0 is barred", inbox_refused(node, pulse, slots), has_turn)

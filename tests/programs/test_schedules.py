@@ -91,7 +91,7 @@ def shown(state, v):
         return p, "asks", [(f"ack {p}", w) for w, port in ports if port.waits]
     return (
         p,
-        "ready" if node.can_pulse() else "safe",
+        "ready" if node.may_act() else "safe",
         [(f"safe {p}", w) for w, port in ports if not port.safe],
     )
 
@@ -298,8 +298,10 @@ class Schedules(Case):
             if word in rules.OF_ROUNDS:
                 said = found_in(r"br(?:eaks|oken on)\s(.*?)(?:[.:;]|\n *after)", part, re.S)[1]
                 edges = [(int(v), int(w)) for v, w in re.findall(r"(\d)-(\d)", said)]
-                found = ruled_rounds.smallest_wrong([word])[0].net.edges
-                self.same(f"the smallest network without {word}", found, edges)
+                rounds = ruled_rounds.smallest_wrong([word])[0]
+                self.same(
+                    f"the smallest network without {word}", rounds and rounds.net.edges, edges
+                )
             paths = [
                 os.path.join(TOP, "crates", rule.crate, folder)
                 for folder in ("must-fail", "wrong-bodies")

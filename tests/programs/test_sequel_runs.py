@@ -9,7 +9,7 @@ import itertools
 import re
 
 from lab.definitions.colours import colours, text_of
-from lab.definitions.nodes import synchronous_run
+from lab.definitions.program import synchronous_run
 from lab.networks.network_text import network_of
 from lab.pictures.program_rounds import rounds_of
 from tests.cases import Case

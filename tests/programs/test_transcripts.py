@@ -11,7 +11,7 @@ import signal
 import subprocess
 import time
 
-from lab.definitions.nodes import Colouring
+from lab.definitions.nodes import COLOURING
 from lab.networks.network_text import network_of
 from lab.schedules.simulate import played, text_of_run
 from lab.transcripts.check import find_order, whole_run
@@ -78,7 +78,7 @@ WORKED = (
 )
 
 
-def said_of(net, data, program=Colouring):
+def said_of(net, data, program=COLOURING):
     """The verdict, or the refusal's line and code, and what it says in words."""
     try:
         return whole_run(net, data, program)[1], ""
