@@ -3,7 +3,7 @@ Distributed Algorithms, 1996, section 4.2), at one node, by its definition (docs
 Payloads, ports and pulses are as in lab/definitions/program.py."""
 from functools import partial
 
-from lab.definitions.program import Program, Slot
+from lab.definitions.program import Payload, Program, Slot
 from lab.network import Network
 
 # The identifier of the node in layer 0.
@@ -35,20 +35,20 @@ class Layers:
 
     def greet(self) -> list[Slot]:
         """What it sends at pulse 0, by port: its layer, if it is the root."""
-        return [("Hops", 0) if self.is_root else None] * self.degree
+        return [Payload("hops", 0) if self.is_root else None] * self.degree
 
     def next(self, pulse: int, inbox: list[Slot]) -> list[Slot]:
         """What it sends at a pulse, by port: its layer at the pulse at which it learns it, and otherwise nothing."""
         if self.layer is not None or not any(inbox):
             return [None] * self.degree
-        hops, self.by = min((slot[1], port) for port, slot in enumerate(inbox) if slot)
+        hops, self.by = min((slot.number, port) for port, slot in enumerate(inbox) if slot)
         self.layer = hops + 1
-        return [("Hops", self.layer) if pulse < self.last else None] * self.degree
+        return [Payload("hops", self.layer) if pulse < self.last else None] * self.degree
 
     def refuses(self, pulse: int, inbox: list[Slot]) -> bool:
         """Whether no round has this inbox: what comes at pulse p was sent at distance p - 1, and after the last pulse
         nothing comes."""
-        return any(slot and (pulse > self.last or slot[1] != pulse - 1) for slot in inbox)
+        return any(slot and (pulse > self.last or slot.number != pulse - 1) for slot in inbox)
 
     def result(self) -> str:
         if self.layer is None:

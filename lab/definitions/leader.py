@@ -1,7 +1,7 @@
 """Electing a leader by flooding (OptFloodMax: Lynch, Distributed Algorithms, 1996, section 4.1), at one node, by its
 definition (docs/claim/DEFINITIONS.md), slow and plain. Payloads, ports and pulses are as in
 lab/definitions/program.py."""
-from lab.definitions.program import Program, Slot
+from lab.definitions.program import Payload, Program, Slot
 from lab.network import Network
 
 
@@ -24,15 +24,15 @@ class Leader:
 
     def greet(self) -> list[Slot]:
         """What it sends at pulse 0, by port: its own identifier."""
-        return [("Leader", self.best)] * self.degree
+        return [Payload("leader", self.best)] * self.degree
 
     def next(self, pulse: int, inbox: list[Slot]) -> list[Slot]:
         """What it sends at a pulse, by port: a greater identifier if one came, and otherwise nothing."""
-        heard = max((slot[1] for slot in inbox if slot), default=0)
+        heard = max((slot.number for slot in inbox if slot), default=0)
         if heard <= self.best:
             return [None] * self.degree
         self.best = heard
-        return [("Leader", heard) if pulse < self.last else None] * self.degree
+        return [Payload("leader", heard) if pulse < self.last else None] * self.degree
 
     def refuses(self, pulse: int, inbox: list[Slot]) -> bool:
         """Whether no round has this inbox: nothing is sent for a pulse after the last."""

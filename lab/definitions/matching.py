@@ -1,6 +1,6 @@
 """A maximal matching (A. Panconesi and R. Rizzi, Some simple distributed algorithms for sparse networks, 2001), at one
 node, by its definition (docs/claim/DEFINITIONS.md), slow and plain."""
-from lab.definitions.program import Program, Slot
+from lab.definitions.program import Payload, Program, Slot
 from lab.definitions.sequel import Sequel
 from lab.network import Network
 
@@ -11,7 +11,7 @@ COLOURED = 12
 class Matching(Sequel):
     """A node that finds a partner: `partner` is the port that leads to it, or None."""
 
-    kinds = ("Free", "Take")
+    words = ("free", "take")
 
     partner: int | None
 
@@ -41,7 +41,7 @@ class Matching(Sequel):
             self.partner = came
         is_free = self.partner is None
         return [
-            ("Free", forest) if is_free and role == ("Up", forest) else None
+            Payload("free", forest) if is_free and role == ("Up", forest) else None
             for role in self.first.roles
         ]
 
@@ -54,7 +54,7 @@ class Matching(Sequel):
         ):
             return [None] * self.degree
         self.partner = came
-        return [("Take", forest) if port == came else None for port in range(self.degree)]
+        return [Payload("take", forest) if port == came else None for port in range(self.degree)]
 
     def result(self) -> str:
         return "partner none" if self.partner is None else f"partner {self.partner}"

@@ -3,23 +3,20 @@ by their definitions (docs/claim/DEFINITIONS.md), slow and plain. What a caller 
 refused, an event that isn't possible) raises `Refused`.
 
 The node under alpha and the network are of any program (lab/definitions/program.py, which says what vertices, ports,
-pulses and payloads are; lab/definitions/programs.py has all programs).
-
-A wire is a tuple: ("Payload", pulse, (kind, number)), ("Ack", pulse), ("Safe", pulse) or ("Close",). An event is
-("Pulse", vertex, None), ("Put", vertex, port) or ("Take", vertex, port)."""
+pulses and payloads are; lab/definitions/programs.py has all programs). Wires and events are as in
+lab/definitions/events.py."""
 from collections.abc import Iterable, Iterator
 from dataclasses import dataclass, field
-from typing import Any
+from typing import Protocol
 
 from lab.definitions.colours import other_than
-from lab.definitions.program import Program, RoundsNode, Slot
+from lab.definitions.events import CLOSE, PULSE, PUT, TAKE, Entry, Event, Kind, Message, ack, safe
+from lab.definitions.program import Payload, Program, RoundsNode, Slot
 from lab.network import Network
 from lab.words import in_words
 
 # Up to the parent or down to a child, and the forest.
 Role = tuple[str, int]
-Wire = tuple
-Event = tuple[str, int, int | None]
 
 
 # The colour that is dropped, by the pulse.
@@ -75,7 +72,7 @@ class Colouring:
 
     def greet(self) -> list[Slot]:
         """What it sends at pulse 0, by port."""
-        return [("Hello", self.id)] * self.degree
+        return [Payload("hello", self.id)] * self.degree
 
     def next(self, pulse: int, inbox: list[Slot]) -> list[Slot]:
         """What it sends at a pulse of 1 to R, by port, on what came by each port in the pulse before."""
@@ -97,17 +94,17 @@ class Colouring:
 
     def orient(self, inbox: list[Slot]) -> list[Slot]:
         """Pulse 1: the higher neighbours, by ascending identifier, are the parents in forests 0, 1, 2 and so on."""
-        names = [slot[1] for slot in inbox if slot]
+        names = [slot.number for slot in inbox if slot]
         higher = sorted(number for number in names if number > self.id)
         self.roles = [
             ("Up", higher.index(number)) if number in higher else None for number in names
         ]
-        return [("Label", role[1]) if role else None for role in self.roles]
+        return [Payload("label", role[1]) if role else None for role in self.roles]
 
     def seed(self, inbox: list[Slot]) -> list[Slot]:
         """Pulse 2: the forests of the other edges are known, and each colour is the identifier."""
         self.roles = [
-            ("Down", slot[1]) if slot and not role else role
+            ("Down", slot.number) if slot and not role else role
             for role, slot in zip(self.roles, inbox)
         ]
         self.colours = [self.id] * self.forests
@@ -115,7 +112,9 @@ class Colouring:
 
     def colours_sent(self) -> list[Slot]:
         """Its colour in the edge's forest to each child."""
-        return [("Colour", self.colours[f]) if way == "Down" else None for way, f in self.ends()]
+        return [
+            Payload("colour", self.colours[f]) if way == "Down" else None for way, f in self.ends()
+        ]
 
     def ends(self) -> list[Role]:
         """Its roles by port, which are all known from pulse 2 on."""
@@ -123,7 +122,9 @@ class Colouring:
 
     def work(self, pulse: int, inbox: list[Slot]) -> list[Slot]:
         """Pulses 3 to 12: four bit steps, and then a shift and a drop for each of 5, 4 and 3."""
-        parents = {f: slot[1] for (way, f), slot in zip(self.ends(), inbox) if way == "Up" and slot}
+        parents = {
+            f: slot.number for (way, f), slot in zip(self.ends(), inbox) if way == "Up" and slot
+        }
         for f, own in enumerate(self.colours):
             parent = parents.get(f)
             if pulse <= 6:
@@ -142,13 +143,14 @@ class Colouring:
         forest, step = divmod(t, 3 * width)
         if step == 0:
             self.old, self.chosen = self.merged, set()
-        self.chosen |= {slot[1] for slot in inbox if slot}
+        self.chosen |= {slot.number for slot in inbox if slot}
         if not self.has_turn((forest, *divmod(step, width))):
             return [None] * self.degree
         self.merged = self.least_free(self.chosen)
         is_last = step == 3 * width - 1
         return [
-            ("Chosen", self.merged) if f <= forest and not is_last else None for _, f in self.ends()
+            Payload("chosen", self.merged) if f <= forest and not is_last else None
+            for _, f in self.ends()
         ]
 
     def has_turn(self, step: tuple[int, int, int]) -> bool:
@@ -181,7 +183,7 @@ class Port:
     closed: bool = False
     present: Slot = None
     early: Slot = None
-    out: list[Wire] = field(default_factory=list)
+    out: list[Message] = field(default_factory=list)
 
     def safes(self) -> int:
         """How many safes came, of this pulse and of the next: 0 to 2."""
@@ -192,7 +194,23 @@ class Port:
         return self.safes() < 2 and (self.present, self.early)[self.safes()] is not None
 
 
-class AlphaNode:
+class Node(Protocol):
+    """A node of the event machine: what it puts on its links, it has in lists by port, and takes what comes by them."""
+
+    def may_act(self) -> bool:
+        """Whether it may make a step of its own."""
+
+    def act(self) -> None:
+        """It makes a step of its own."""
+
+    def on_wire(self, at: int, wire: Message) -> None:
+        """It takes a wire by a port."""
+
+    def result(self) -> str:
+        """What it has found so far, in words."""
+
+
+class AlphaNode(Node):
     """A node under synchroniser alpha. It simulates the rounds of a node of a program, `simulated`: `pulse_number` is 0
     to `last`, and `said` means that it has said safe for this pulse."""
 
@@ -214,9 +232,10 @@ class AlphaNode:
         """It begins a pulse: its payloads, or at the last pulse the closing marks, are to be put."""
         for port, payload in zip(self.ports, sent):
             if self.pulse_number == self.last:
-                port.out.append(("Close",))
+                port.out.append(CLOSE)
             elif payload is not None:
-                port.out.append(("Payload", self.pulse_number, payload))
+                fields = (self.pulse_number, payload.word, payload.number)
+                port.out.append(Message("payload", fields))
                 port.waits = True
         self.settle()
 
@@ -225,7 +244,7 @@ class AlphaNode:
         if self.pulse_number < self.last and not any(port.waits for port in self.ports):
             self.said = True
             for port in self.ports:
-                port.out.append(("Safe", self.pulse_number))
+                port.out.append(safe(self.pulse_number))
 
     def can_take(self) -> bool:
         """Whether there is room for an answer to whatever comes."""
@@ -261,49 +280,60 @@ class AlphaNode:
             port.safe, port.early_safe = port.early_safe, False
         self.enter(sent)
 
-    def is_due(self, port: Port, kind: str, q: int) -> bool:
-        """Whether a wire of a kind may come by a port that isn't closed: the 36 cells, as one condition for each kind.
-        Which refusal it is isn't said."""
+    def is_due(self, port: Port, wire: Message) -> bool:
+        """Whether a wire may come by a port that isn't closed: the 36 cells, as one condition for each word. Which
+        refusal it is isn't said."""
         p, expected = self.pulse_number, self.pulse_number + port.safes()
         # The pulse to which a neighbour may have come.
         horizon = min(p + 1, self.last) if self.said else p
-        if kind == "Payload":
-            return q == expected <= horizon and q < self.last and not port.paid()
-        if kind == "Ack":
-            return q == p and port.waits
-        if kind == "Safe":
-            return q == expected <= horizon and q < self.last
-        return expected == self.last == horizon
+        match wire.word, wire.fields:
+            case "safe", (q,):
+                return q == expected <= horizon and expected < self.last
+            case "ack", (q,):
+                return q == p and port.waits
+            case "payload", (q, _, _):
+                return q == expected <= horizon and expected < self.last and not port.paid()
+            case "close", ():
+                return expected == self.last == horizon
+        return False
 
-    def on_wire(self, at: int, wire: Wire) -> None:
+    def on_wire(self, at: int, wire: Message) -> None:
         """It takes a wire by a port."""
-        port, kind, q = self.ports[at], wire[0], wire[1] if len(wire) > 1 else self.last
-        if port.closed or not self.is_due(port, kind, q):
+        port = self.ports[at]
+        if port.closed or not self.is_due(port, wire):
             raise Refused(f"{wire} at port {at}")
-        if kind == "Payload":
-            if q == self.pulse_number:
-                port.present = wire[2]
-            else:
-                port.early = wire[2]
-            port.out.append(("Ack", q))
-        elif kind == "Ack":
-            port.waits = False
-            self.settle()
-        elif kind == "Safe":
-            port.safe, port.early_safe = (
-                (True, port.early_safe) if q == self.pulse_number else (port.safe, True)
-            )
-        else:
-            port.closed = True
+        match wire.word, wire.fields:
+            case "safe", (q,):
+                if q == self.pulse_number:
+                    port.safe = True
+                else:
+                    port.early_safe = True
+            case "ack", _:
+                port.waits = False
+                self.settle()
+            case "payload", (int(q), str(word), int(number)):
+                if q == self.pulse_number:
+                    port.present = Payload(word, number)
+                else:
+                    port.early = Payload(word, number)
+                port.out.append(ack(q))
+            case _:
+                port.closed = True
+
+    def result(self) -> str:
+        return self.simulated.result()
 
 
 class NetState:
-    """Every node at its start; `link[v, port]` holds what was put on the link out of v by that port and not taken."""
+    """Every node at its start; `link[v, port]` holds what was put on the link out of v by that port and not taken.
+    `events[kind, v, w]` are all events that there are, by the node and its neighbour, which a pulse has not.
+    """
 
     neighbours: dict[int, list[int]]
     port_to: dict[tuple[int, int], int]
     nodes: dict[int, AlphaNode]
-    link: dict[tuple[int, int], list[Wire]]
+    link: dict[tuple[int, int], list[Message]]
+    events: dict[tuple[Kind, int, int | None], Event]
 
     def __init__(self, net: Network, program: Program = COLOURING) -> None:
         self.neighbours = net.neighbours
@@ -312,37 +342,40 @@ class NetState:
         }
         self.nodes = {v: AlphaNode(net, v, program) for v in net.neighbours}
         self.link = {(v, port): [] for (v, _), port in self.port_to.items()}
+        self.events = {(PULSE, v, None): Event(PULSE, v) for v in net.neighbours}
+        for (v, w), port in self.port_to.items():
+            for kind in (PUT, TAKE):
+                self.events[kind, v, w] = Event(kind, v, port)
 
-    def link_to(self, v: int, port: int) -> list[Wire]:
+    def link_to(self, v: int, port: int) -> list[Message]:
         """What the link holds that comes to v by that port."""
         w = self.neighbours[v][port]
         return self.link[w, self.port_to[w, v]]
 
-    def carried(self, kind: str, v: int, port: int | None = None) -> int | Wire:
+    def carried(self, event: Event) -> int | Message:
         """What an event carries that is possible now: the number of the pulse, or the wire that is put or taken."""
+        v, port = event.node, event.port
         if v not in self.nodes or port is not None and port >= len(self.nodes[v].ports):
             raise Refused("NoSuch")
         node = self.nodes[v]
-        if kind == "Pulse":
+        if port is None:
             if not node.may_act():
                 raise Refused("NotReady")
             return node.pulse_number + 1
-        assert port is not None
-        wires = node.ports[port].out if kind == "Put" else self.link_to(v, port)
+        wires = node.ports[port].out if event.kind is PUT else self.link_to(v, port)
         if not wires:
-            raise Refused("NothingToPut" if kind == "Put" else "LinkEmpty")
+            raise Refused("NothingToPut" if event.kind is PUT else "LinkEmpty")
         return wires[0]
 
-    def step(
-        self, kind: str, v: int, port: int | None = None, what: int | Wire | None = None
-    ) -> int | Wire:
+    def step(self, event: Event, what: int | Message | None = None) -> int | Message:
         """Makes an event that is possible, and carries this if that is given; returns what it carries."""
-        carried = self.carried(kind, v, port)
-        if what not in (None, carried):
+        carried = self.carried(event)
+        if what is not None and what is not carried and what != carried:
             raise Refused("WrongWire")
+        v, port = event.node, event.port
         if port is None or isinstance(carried, int):
             self.nodes[v].act()
-        elif kind == "Put":
+        elif event.kind is PUT:
             self.link[v, port].append(self.nodes[v].ports[port].out.pop(0))
         else:
             self.nodes[v].on_wire(port, carried)
@@ -353,23 +386,24 @@ class NetState:
         """All events that are possible now."""
         for v, node in self.nodes.items():
             if node.may_act():
-                yield "Pulse", v, None
-            for port, other in enumerate(node.ports):
-                if other.out:
-                    yield "Put", v, port
+                yield self.events[PULSE, v, None]
+            for port, w in enumerate(self.neighbours[v]):
+                if node.ports[port].out:
+                    yield self.events[PUT, v, w]
                 if self.link_to(v, port):
-                    yield "Take", v, port
+                    yield self.events[TAKE, v, w]
 
 
-def missing_words(state: NetState, kind: str, v: int, port: int | None = None) -> str:
+def missing_words(state: NetState, event: Event) -> str:
     """What comes after the line of an event that isn't possible: the wires of the pulse that are still to come, or
     the out-list or the link that is empty."""
+    v, port = event.node, event.port
     if v not in state.nodes or port is not None and port >= len(state.nodes[v].ports):
         return ""
     node = state.nodes[v]
     if port is not None:
         w = state.neighbours[v][port]
-        return f": list of {v} for {w}" if kind == "Put" else f": link from {w} to {v}"
+        return f": list of {v} for {w}" if event.kind is PUT else f": link from {w} to {v}"
     if node.pulse_number == node.last:
         return f": pulse {node.last} is the last"
     return f": {lacks_words(node.pulse_number, *lacks_of(state, v))}"
@@ -388,42 +422,37 @@ def lacks_words(pulse: int, acks: list[int], safes: list[int]) -> str:
     return "; ".join(f"{word} {pulse} of {in_words(names)}" for word, names in lacks if names)
 
 
-def event_of(state: NetState, entry: Any) -> Event:
-    """The event of an entry of a transcript (an `Entry` of lab/transcripts/reading.py)."""
-    if entry.kind == "Pulse":
-        return entry.kind, entry.vertex, None
-    if (entry.vertex, entry.neighbour) not in state.port_to:
+def event_of(state: NetState, entry: Entry) -> Event:
+    """The event of an entry of a transcript."""
+    event = state.events.get((entry.kind, entry.node, entry.neighbour))
+    if event is None:
         raise Refused("NoSuch")
-    return entry.kind, entry.vertex, state.port_to[entry.vertex, entry.neighbour]
+    return event
 
 
-def entry_words(state: NetState, entry: Any, refused: Refused) -> str:
+def entry_words(state: NetState, entry: Entry, refused: Refused) -> str:
     """What comes after the line of a refused entry: what its event lacks, or the pulse or wire to which its event
     comes."""
     if str(refused) == "NoSuch":
         return ""
     event = event_of(state, entry)
     if str(refused) != "WrongWire":
-        return missing_words(state, *event)
-    due = state.carried(*event)
-    return f": expected pulse {due}" if isinstance(due, int) else f": expected {wire_words(due)}"
+        return missing_words(state, event)
+    due = state.carried(event)
+    return f": expected pulse {due}" if isinstance(due, int) else f": expected {due}"
 
 
-def make(state: NetState, entry: Any) -> None:
+def make(state: NetState, entry: Entry) -> None:
     """The event of an entry of a transcript, if it is possible with what the entry says; otherwise nothing is
     changed."""
-    state.step(*event_of(state, entry), entry.what)
+    state.step(event_of(state, entry), entry.what)
 
 
-def wire_words(wire: Wire) -> str:
-    """A wire as the texts of states and transcripts have it."""
-    if wire[0] == "Payload":
-        return f"payload {wire[1]} {wire[2][0].lower()} {wire[2][1]}"
-    return " ".join(map(str, wire)).lower()
-
-
-def text_of_wire(wire: Wire) -> str:
+def text_of_wire(wire: Message) -> str:
     """A wire as DEFINITIONS writes it."""
-    if wire[0] == "Payload":
-        return f"Payload({wire[1]}, {wire[2][0]}({wire[2][1]}))"
-    return f"{wire[0]}({wire[1]})" if len(wire) > 1 else wire[0]
+    match wire:
+        case Message("payload", (pulse, str(word), number)):
+            return f"Payload({pulse}, {word.title()}({number}))"
+        case Message(word, (pulse,)):
+            return f"{word.title()}({pulse})"
+    return wire.word.title()

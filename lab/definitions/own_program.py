@@ -253,7 +253,7 @@ class OwnNode:
 
     def next(self, pulse: int, inbox: list[Slot]) -> list[Slot]:
         file = self.of_file
-        came = [slot and (slot[0].lower(), slot[1]) for slot in inbox]
+        came = [slot and (slot.word, slot.number) for slot in inbox]
         where = self.where(file.stepping_name, pulse)
         with_inbox = f"{where}, whose inbox is {cut(repr(came))}"
         sent = call(file.path, with_inbox, file.stepping, self.me, pulse, came)
@@ -327,7 +327,7 @@ def payload_of(slot: object) -> Payload:
         case tuple((word, number)) if is_word(word) and is_number(number):
             if number >= 2**128:
                 raise NoPayload("its number has to be below 2^128")
-            return word.title(), number
+            return Payload(word, number)
     raise NoPayload(WHAT_A_PAYLOAD_IS)
 
 
@@ -400,7 +400,7 @@ def what_is_wrong(
     program: Program,
     found: dict[int, str],
     function: str = "right",
-    messages: Iterable[tuple[int, int, Payload]] = (),
+    messages: Iterable[tuple[int, int, tuple[str, int]]] = (),
 ) -> str:
     """What the file's `right` or `always` says of what nodes have found, in words; nothing if that is right, or if the
     file has no such function."""

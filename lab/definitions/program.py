@@ -2,9 +2,7 @@
 
 A vertex is a number from 1. Its ports are numbers from 0: port 0 goes to its neighbour with the least number, as entry
 0 of `neighbours`. A pulse is a number from 0, a forest and a colour too. All nodes make pulse 0, then pulse 1, and so
-on, up to the last pulse of the program.
-
-A payload is (kind, number), the kind being "Hello", "Label", "Colour" or "Chosen"; None is no payload."""
+on, up to the last pulse of the program."""
 from collections.abc import Callable, Iterable, Iterator, Mapping
 from dataclasses import dataclass, field
 from types import CodeType
@@ -12,7 +10,19 @@ from typing import Protocol, TypeVar, runtime_checkable
 
 from lab.network import Network
 
-Payload = tuple[str, int]
+
+@dataclass(frozen=True, slots=True)
+class Payload:
+    """What a node sends by a port in a pulse: a word of small letters, and a number from 0."""
+
+    word: str
+    number: int
+
+    def __str__(self) -> str:
+        """The payload as texts have it."""
+        return f"{self.word} {self.number}"
+
+
 # What is sent by a port, or has come by it, in one pulse.
 Slot = Payload | None
 

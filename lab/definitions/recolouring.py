@@ -3,7 +3,7 @@
 from functools import partial
 
 from lab.definitions.nodes import last_pulse
-from lab.definitions.program import Program, Slot
+from lab.definitions.program import Payload, Program, Slot
 from lab.definitions.sequel import Sequel
 from lab.network import Network, order
 
@@ -14,7 +14,7 @@ class Recolouring(Sequel):
     have chosen in this sweep. A pass is a sweep, or two if a node of the network has bars (`barring`): in the first the
     classes rise."""
 
-    kinds = ("Anew",)
+    words = ("anew",)
     cut_of = staticmethod(last_pulse)
 
     span: int
@@ -42,12 +42,12 @@ class Recolouring(Sequel):
         sweep, later = divmod(pulse, 1 + self.span)
         if not later:
             self.old, self.held = self.present(), set()
-        self.held |= {slot[1] for slot in inbox if slot}
+        self.held |= {slot.number for slot in inbox if slot}
         if self.old != order(self.span, self.barring, sweep)[later]:
             return [None] * self.degree
         rises = self.barring and sweep % 2 == 0
         self.colour = self.risen() if rises else self.first.least_free(self.held)
-        return [("Anew", self.colour) if later < self.span else None] * self.degree
+        return [Payload("anew", self.colour) if later < self.span else None] * self.degree
 
     def risen(self) -> int:
         """The greatest colour that is neither barred at it nor a chosen neighbour's, and below one of these; or its

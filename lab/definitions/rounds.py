@@ -50,7 +50,7 @@ def merge_step(net: Network, p: int) -> tuple[int, int, int]:
 def puts_of(net: Network, sent: dict[int, list[Slot]]) -> list[Put]:
     """What the nodes send in a pulse."""
     return [
-        (v, w, slot[0].lower(), slot[1])
+        (v, w, slot.word, slot.number)
         for v, slots in sent.items()
         for w, slot in zip(net.neighbours[v], slots)
         if slot

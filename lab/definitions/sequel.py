@@ -9,8 +9,8 @@ class Sequel:
     """A node that runs the colouring up to a pulse, the cut; from then on its node of the colouring, `first`, stays,
     and it makes pulses of its own, counted from 0."""
 
-    # The kinds of its own payloads: up to the cut it refuses them.
-    kinds: tuple[str, ...]
+    # The words of its own payloads: up to the cut it refuses them.
+    words: tuple[str, ...]
 
     first: Colouring
     degree: int

@@ -1,7 +1,7 @@
 """The command line of `forestlab network`: its commands, and what each says of itself."""
 from argparse import ArgumentParser
 
-from lab.networks.kinds import KINDS, Kind
+from lab.networks.kinds import KINDS, NetworkKind
 from lab.networks.options import add_form, add_stated
 from lab.words import add_command, add_commands, add_output, add_seed, parser_of
 
@@ -186,7 +186,7 @@ def command_line() -> ArgumentParser:
     return words
 
 
-def add_sizes(command: ArgumentParser, kind: Kind) -> None:
+def add_sizes(command: ArgumentParser, kind: NetworkKind) -> None:
     """The words of a kind."""
     for size in kind.sizes:
         command.add_argument(size, type=int, metavar=size.upper(), help=f"how many {size}")

@@ -123,7 +123,7 @@ def any_edges(
     return made(nodes, chosen)
 
 
-class Kind(NamedTuple):
+class NetworkKind(NamedTuple):
     """What makes networks of a kind, what they are, more of it, and how many nodes, rows or columns are the least."""
 
     function: Callable[..., Network]
@@ -160,25 +160,25 @@ class Kind(NamedTuple):
 
 
 KINDS = {
-    "path": Kind(path, "a row"),
-    "ring": Kind(ring, "a row whose ends are joined", least=3),
-    "star": Kind(
+    "path": NetworkKind(path, "a row"),
+    "ring": NetworkKind(ring, "a row whose ends are joined", least=3),
+    "star": NetworkKind(
         star,
         "one centre, which is the last node; the others are its leaves",
         "So there is one forest.",
     ),
-    "complete": Kind(complete, "each node is joined to each other"),
-    "grid": Kind(grid, "squares of a board that share a side, numbered row by row"),
-    "queen": Kind(
+    "complete": NetworkKind(complete, "each node is joined to each other"),
+    "grid": NetworkKind(grid, "squares of a board that share a side, numbered row by row"),
+    "queen": NetworkKind(
         queen, "squares of a board that a queen joins in one move", "They are numbered row by row."
     ),
-    "tree": Kind(tree, "each node but the first is joined to a random one before it"),
-    "disk": Kind(
+    "tree": NetworkKind(tree, "each node but the first is joined to a random one before it"),
+    "disk": NetworkKind(
         disk,
         "random places in a square, joined if they are near",
         "So transmitters interfere that are near each other (a unit-disk graph).",
     ),
-    "random": Kind(
+    "random": NetworkKind(
         any_edges,
         "that many random edges",
         "Each choice of edges is as likely as any other. With wishes, as --connected --neighbours 3\n"

@@ -158,7 +158,7 @@ def draw_schedules(of: Source, without: tuple[str, ...], columns: tuple[int, int
     return schedules_picture.draw(of.network, space, columns)
 
 
-class Kind(NamedTuple):
+class PictureKind(NamedTuple):
     """A kind of picture: a line of help, more of it, and examples; how it is drawn; its most nodes and the kind to use
     above; and whether it draws any program."""
 
@@ -171,21 +171,21 @@ class Kind(NamedTuple):
 
 
 KINDS = {
-    "map": Kind(
+    "map": PictureKind(
         "The network alone, without a plan: for a question sheet.",
         "Identifiers that differ from the numbers are written beside them.",
         "forestlab picture map examples/petersen.col > petersen-map.svg",
         lambda of: map_picture.draw(of.network),
         (400, "a smaller network"),
     ),
-    "plan": Kind(
+    "plan": PictureKind(
         "The plan on the map: who has which channel.",
         "A plan that is not proper is refused; `forestplan check` says where.",
         "forestlab picture plan examples/petersen.col > petersen-plan.svg",
         lambda of: plan_picture.draw(of.network, of.plan()),
         (400, "a smaller network"),
     ),
-    "results": Kind(
+    "results": PictureKind(
         "What the nodes of any program have found at their last pulse, on the map.",
         "A thick line is an edge that a node has chosen, with an arrow if the other end hasn't;\n"
         "a filled circle is a node with a colour; of channels the number is in the circle, and beside it what it\n"
@@ -195,7 +195,7 @@ KINDS = {
         (400, "simulate, whose transcript ends in the same"),
         of_programs=True,
     ),
-    "rounds": Kind(
+    "rounds": PictureKind(
         "The colours of each node in each forest, and when it chooses which channel.",
         "A row for each node of each forest: without --forest the first forests, as many as have 40 rows\n"
         "together, and with it at most 400 rows.",
@@ -204,14 +204,14 @@ KINDS = {
         (100, "player"),
         of_programs=True,
     ),
-    "bits": Kind(
+    "bits": PictureKind(
         "One node above its parent, digit by digit, over the four bit steps.",
         "Without --vertex, the least one that has a parent. A vertex without a line `i V NUMBER` has its own\n"
         "number as its name, of few digits.",
         "forestlab picture bits examples/petersen.col --vertex 6 > petersen-bits.svg",
         lambda of, forest, vertex: bits_picture.draw(of.rounds(), forest or 0, vertex),
     ),
-    "why": Kind(
+    "why": PictureKind(
         "Which messages decided the channel of --vertex, on the rounds or in words.",
         "At most 400 rows, a row for each node of each forest that mattered; what didn't decide it is\n"
         "faded. With --text the same in words, of any network: each choice, who had taken the lower\n"
@@ -221,7 +221,7 @@ KINDS = {
         "  forestlab picture why examples/petersen.col --vertex 6 --text",
         draw_why,
     ),
-    "run": Kind(
+    "run": PictureKind(
         "Space and time of a run without a clock: what each node put, took and did, above its rounds.",
         "Above 6 nodes, payloads alone unless --only says more. Without a stored text two calls differ, as the\n"
         "runs do. With --wrong, a text that is refused, up to what is wrong.",
@@ -231,7 +231,7 @@ KINDS = {
         (12, "watch"),
         of_programs=True,
     ),
-    "film": Kind(
+    "film": PictureKind(
         "The rounds of the colouring as a picture that plays by itself: messages move.",
         "It has no script, so a page can show it as an image. A film has at most 1,000 messages. A reader\n"
         "whose browser asks for less motion sees the end.",
@@ -239,7 +239,7 @@ KINDS = {
         lambda of: film_picture.draw(of.rounds()),
         (40, "player"),
     ),
-    "player": Kind(
+    "player": PictureKind(
         "A page with a slider and a play button: the network at each pulse (HTML).",
         "Add #pulse-P to the page's address for a link to pulse P, and #pulse-P-forest-F for one of its forests.",
         "forestlab picture player examples/petersen.col > petersen.html",
@@ -247,7 +247,7 @@ KINDS = {
         (40, "rounds"),
         of_programs=True,
     ),
-    "watch": Kind(
+    "watch": PictureKind(
         "A page that plays a run without a clock, or two side by side: messages move (HTML).",
         "At most 20,000 entries: of a longer run the first pulses, or others with --pulses. TRANSCRIPT is a\n"
         "stored text, or - for standard input; without it the program writes one. With a second one both are\n"
@@ -259,7 +259,7 @@ KINDS = {
         (40, "a smaller network"),
         of_programs=True,
     ),
-    "schedules": Kind(
+    "schedules": PictureKind(
         "Every order of events of a tiny network: its states as a lattice, one column an event.",
         "At most 200,000 states. Of long ones the first columns, or others with --columns.\n"
         "With a rule left out, up to the first event that goes wrong, which is red.",
@@ -269,7 +269,7 @@ KINDS = {
         (4, "run, which draws one schedule"),
         of_programs=True,
     ),
-    "broken": Kind(
+    "broken": PictureKind(
         "What goes wrong without a rule of the rounds, and the same rounds with all rules.",
         "At most 40 nodes if they go wrong in a merge or at the end of another program. Without NETWORK, a\n"
         "smallest network that goes wrong, which is looked for. Rounds that go right are refused.",

@@ -5,13 +5,14 @@ from bisect import bisect_right
 from itertools import accumulate
 from statistics import mean
 
+from lab.definitions.events import Event, Kind
 from lab.network import Network
 from lab.pictures.palette import BAND, BORDER, INK, PAPER, PULSE, WIRES, WRONG
 from lab.pictures.schedules_space import fault_words, left_out_words
 from lab.pictures.svg import Svg, text_width, wrapped
 from lab.pictures.transcripts import window_of
 from lab.schedules.explore import events_words, rounded
-from lab.schedules.space import Event, Node, Space
+from lab.schedules.space import Space, Status
 from lab.wrong import at_most
 
 # Where a step ends: at a state, or at (state, number of the step) if it is refused there.
@@ -72,7 +73,10 @@ def to_fault(space: Space) -> list[tuple[int, int]]:
         steps = space.steps(s)
         e = next(e for e, (other, _) in enumerate(steps) if other == event)
         found.append((s, e))
-        s = steps[e][1]
+        target = steps[e][1]
+        if target is None:
+            break
+        s = target
     return found
 
 
@@ -83,10 +87,13 @@ def in_step(space: Space) -> list[tuple[int, int]]:
         pulses = space.nodes(s)
         e = min(
             range(len(steps)),
-            key=lambda k: steps[k][0].kind == "pulse" and 1 + pulses[steps[k][0].v].pulse,
+            key=lambda k: steps[k][0].kind is Kind.PULSE and 1 + pulses[steps[k][0].node].pulse,
         )
         found.append((s, e))
-        s = steps[e][1]
+        target = steps[e][1]
+        if target is None:
+            break
+        s = target
     return found
 
 
@@ -94,7 +101,7 @@ def in_step(space: Space) -> list[tuple[int, int]]:
 NUMBERED = ((12, 1), (60, 5), (math.inf, 10))
 
 
-def node_words(v: int, node: Node) -> str:
+def node_words(v: int, node: Status) -> str:
     stage = "has halted" if node.stage == "whole" else node.stage
     return f"node {v} at pulse {node.pulse} {stage}"
 
@@ -232,16 +239,21 @@ class Lattice:
         for s, e, event, end in sorted(self.steps, key=lambda step: step[:2] in self.bold):
             x1, y1, x2, y2 = self.x(s), self.y(s), self.x(end), self.y(end)
             is_bold, is_wrong = (s, e) in self.bold, (s, e) in self.space.faults
-            kind = "pulse" if event.kind == "pulse" else event.wire.split()[0]
-            title = f"{event}" + ("" if event.wire is None else f": {event.wire} from {event.w}")
+            title = self.title_of(event)
             with svg.group("bold" if is_bold else "step", title):
                 if is_bold:
                     svg.line(x1, y1, x2, y2, INK, round(max(3.2, self.radius * 0.6), 1))
-                hue = PULSE if kind == "pulse" else WIRES[kind]
+                hue = PULSE if event.message is None else WIRES[event.message.word]
                 width = 0.8 if self.radius < 4 else 1.4
                 if is_bold:
                     width = round(max(1.2, self.radius * 0.3), 1)
                 svg.line(x1, y1, x2, y2, WRONG if is_wrong else hue, width)
+
+    def title_of(self, event: Event) -> str:
+        """An event in words, with the wire that it takes."""
+        if event.port is None:
+            return str(event)
+        return f"{event}: {event.message} from {self.network.neighbours[event.node][event.port]}"
 
     def apart(self, s: int) -> int:
         """The most pulses that two neighbours are apart, three for all above."""

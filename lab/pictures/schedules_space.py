@@ -1,13 +1,12 @@
 """All states of a tiny network and the steps between them, as lab/schedules/space.py finds them, for the kinds that
 draw every schedule. What is too large for a picture is refused here, in a sentence."""
 import re
-from collections.abc import Callable
 
 from lab.definitions.nodes import COLOURING
 from lab.definitions.program import Program
 from lab.network import Network
 from lab.schedules.rules import ALL
-from lab.schedules.space import Space
+from lab.schedules.space import Place, Progress, Space
 from lab.wrong import Wrong
 
 MAX_STATES = 200_000
@@ -17,11 +16,11 @@ def space_of(
     network: Network,
     without: tuple[str, ...] = (),
     program: Program = COLOURING,
-    progress: Callable[[int, int], None] | None = None,
+    progress: Progress | None = None,
 ) -> Space:
     """The space of a network that was read, whose nodes run a program. `progress` is told now and then how many states
     and events there are so far."""
-    space = Space(network, without, MAX_STATES, progress=progress, program=program)
+    space = Space(network, without, MAX_STATES, program=program).search(progress)
     if space.is_cut:
         raise Wrong(
             f"schedules draws at most {MAX_STATES:,} states, and {network.name} has more: leave out an edge or a node"
@@ -29,7 +28,7 @@ def space_of(
     return space
 
 
-def fault_words(space: Space, key: tuple[int, int] | None = None) -> str:
+def fault_words(space: Space, key: Place | None = None) -> str:
     """What goes wrong, by default that to which the fewest events lead."""
     return quoted(space.faults[key or space.first_fault()])
 

@@ -9,6 +9,7 @@ from random import Random
 from typing import TypeVar
 
 from lab.definitions.colours import at_parent, colours, drop, shift
+from lab.definitions.events import Event
 from lab.definitions.nodes import NetState, last_pulse
 from lab.definitions.rounds import LAST_COLOUR, Rounds
 from lab.network import Network
@@ -217,11 +218,12 @@ def farthest(net: Network, edge: tuple[int, int]) -> dict[int, int]:
     can do stays possible until it does it.)"""
     state = NetState(net)
 
-    def is_free(kind: str, v: int, port: int | None) -> bool:
+    def is_free(event: Event) -> bool:
+        v, port = event.node, event.port
         return port is None or {v, state.neighbours[v][port]} != set(edge)
 
-    while event := next((event for event in state.possible() if is_free(*event)), None):
-        state.step(*event)
+    while event := next(filter(is_free, state.possible()), None):
+        state.step(event)
     return {v: state.nodes[v].pulse_number for v in sorted(state.nodes)}
 
 

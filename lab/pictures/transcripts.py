@@ -5,11 +5,11 @@ from collections import deque
 from copy import copy
 from typing import NamedTuple
 
-from lab.definitions.nodes import wire_words
+from lab.definitions.events import Entry, Kind, Message
 from lab.definitions.program import Program
 from lab.network import Edge, Network
 from lab.transcripts.check import Found, find_order
-from lab.transcripts.reading import Entry, Wrong as WrongEntry, read_to_fault
+from lab.transcripts.reading import Wrong as WrongEntry, read_to_fault
 from lab.wrong import Wrong, wrong_line
 
 # How many steps of time a pulse of the rounds takes.
@@ -17,23 +17,25 @@ OF_ROUND = 100
 
 
 class Wire(NamedTuple):
-    """A wire from `v` to `w`, as lab/definitions/nodes.py has it, and the stamps of its put and of its take; the latter
-    is None if nobody took it."""
+    """A wire from `v` to `w`, and the stamps of its put and of its take; the latter is None if nobody took it."""
 
     v: int
     w: int
-    what: tuple
+    message: Message
     put: int
     take: int | None
 
     @property
     def kind(self) -> str:
-        return self.what[0].lower()
+        return self.message.word
 
     @property
     def pulse(self) -> int | None:
         """The pulse that it speaks of; None of a close."""
-        return self.what[1] if len(self.what) > 1 else None
+        match self.message.fields:
+            case [int(pulse), *_]:
+                return pulse
+        return None
 
     def taken(self) -> int:
         """The stamp of its take, of a wire that was taken."""
@@ -48,7 +50,7 @@ class Wire(NamedTuple):
         return self.pulse
 
     def title(self) -> str:
-        return f"{self.v} to {self.w}: {wire_words(self.what)}"
+        return f"{self.v} to {self.w}: {self.message}"
 
 
 def stamp_of(entry: Entry) -> int:
@@ -82,9 +84,9 @@ class Run:
             network.vertices, 0
         )
         for entry in self.made:
-            self.reached[entry.vertex] = stamp_of(entry)
+            self.reached[entry.node] = stamp_of(entry)
             if isinstance(entry.what, int):
-                self.ticks[entry.vertex][entry.what] = stamp_of(entry)
+                self.ticks[entry.node][entry.what] = stamp_of(entry)
 
     def in_rounds(self, first: int, last: int) -> "Run":
         """The payloads of these pulses in a run whose nodes make all pulses at once: the synchronous rounds."""
@@ -92,11 +94,12 @@ class Run:
         run.ticks = dict.fromkeys(
             self.ticks, {pulse: OF_ROUND * pulse for pulse in range(first, last + 2)}
         )
-        run.wires = sorted(
+        payloads = [
             wire._replace(put=OF_ROUND * wire.of_pulse(), take=OF_ROUND * (wire.of_pulse() + 1))
             for wire in self.wires
             if wire.kind == "payload" and first <= wire.of_pulse() <= last
-        )
+        ]
+        run.wires = sorted(payloads, key=lambda wire: (wire.v, wire.w, wire.of_pulse()))
         return run
 
 
@@ -115,14 +118,16 @@ def wires_of(made: list[Entry]) -> list[Wire]:
     """The wires of entries by stamp. A link hands them over in the order in which they were put."""
     taken: dict[Edge, deque[int | None]] = {}
     for entry in made:
-        if entry.kind == "Take" and entry.neighbour is not None:
-            taken.setdefault((entry.neighbour, entry.vertex), deque()).append(entry.stamp)
+        if entry.kind is Kind.TAKE and entry.neighbour is not None:
+            taken.setdefault((entry.neighbour, entry.node), deque()).append(entry.stamp)
     found = []
     for entry in made:
-        v, w, wire, put = entry.vertex, entry.neighbour, entry.what, entry.stamp
-        if w is not None and put is not None and isinstance(wire, tuple) and entry.kind == "Put":
+        v, w, put = entry.node, entry.neighbour, entry.stamp
+        if w is None or put is None or entry.kind is not Kind.PUT:
+            continue
+        if isinstance(entry.what, Message):
             takes = taken.get((v, w))
-            found.append(Wire(v, w, wire, put, takes.popleft() if takes else None))
+            found.append(Wire(v, w, entry.what, put, takes.popleft() if takes else None))
     return found
 
 
@@ -144,6 +149,6 @@ def ordered(
     is_drawn = is_wrong_drawn and order.first_refused() is not None
     if wrong and not (is_drawn and wrong.code not in ("X1", "NoSuch")):
         raise Wrong(f"{name} {wrong}")
-    order.made.sort(key=lambda entry: (entry.stamp, entry.vertex))
+    order.made.sort(key=lambda entry: (entry.stamp, entry.node))
     first = order.first_refused()
     return order, (first, wrong) if wrong and first else None

@@ -7,24 +7,15 @@ from collections import deque
 from collections.abc import Iterator
 from typing import NamedTuple
 
-from lab.definitions.nodes import (
-    COLOURING,
-    AlphaNode,
-    Colouring,
-    NetState,
-    Wire,
-    lacks_of,
-    make,
-    wire_words,
-)
+from lab.definitions.events import Entry, Kind, Message
+from lab.definitions.nodes import COLOURING, AlphaNode, Colouring, NetState, lacks_of, make
 from lab.definitions.program import Program
 from lab.definitions.rounds import FIRST_MERGE
 from lab.network import Edge, Network
 from lab.pictures.page_data import Look, Row, RunTable, WatchData, WireRow
 from lab.pictures.pages import net_of, page
 from lab.pictures.transcripts import ordered, stamp_of, window_of
-from lab.schedules.ruled_node import payload_words
-from lab.transcripts.reading import Entry, words
+from lab.transcripts.reading import words
 from lab.wrong import Wrong
 
 MOST_ENTRIES = 20_000
@@ -43,14 +34,14 @@ def look_of(state: NetState, v: int) -> Look:
     came a pulse early; and its channel, once it has chosen one."""
     node = state.nodes[v]
     ports = list(zip(state.neighbours[v], node.ports))
-    early = [(payload_words(port.early), w) for w, port in ports if port.early]
+    early = [(str(port.early), w) for w, port in ports if port.early]
     early += [("safe", w) for w, port in ports if port.early_safe]
     return Look(
         pulse=node.pulse_number,
         safe=node.said,
         done=node.drained(),
         waits=tuple(waits_of(state, v)),
-        has=tuple((payload_words(port.present), w) for w, port in ports if port.present),
+        has=tuple((str(port.present), w) for w, port in ports if port.present),
         keeps=tuple(early),
         found=found(node),
     )
@@ -85,7 +76,7 @@ class Flight(NamedTuple):
 
     v: int
     w: int
-    wire: Wire
+    wire: Message
     put: int
     put_stamp: int
     take: int | None = None
@@ -102,12 +93,12 @@ class Steps:
 
     def add(self, entry: Entry) -> None:
         """The entry with its stamp that the state has just made."""
-        during = self.state.nodes[entry.vertex].pulse_number
-        self.every.append((entry, during, look_of(self.state, entry.vertex)))
+        during = self.state.nodes[entry.node].pulse_number
+        self.every.append((entry, during, look_of(self.state, entry.node)))
 
     def by_stamp(self) -> "Steps":
         """The same in the order in which a transcript has the entries of a player."""
-        self.every.sort(key=lambda row: (row[0].stamp, row[0].vertex))
+        self.every.sort(key=lambda row: (row[0].stamp, row[0].node))
         return self
 
 
@@ -126,7 +117,7 @@ def steps_of_text(
         make(state, entry)
         steps.add(entry)
         if isinstance(entry.what, int):
-            made[entry.vertex] = entry.what
+            made[entry.node] = entry.what
         if (
             not pulses
             and len(steps.every) > MOST_ENTRIES
@@ -150,15 +141,16 @@ class Run:
         self.at_pulse = {v: {0: 0} for v in network.vertices}
         for entry, *_ in every:
             if isinstance(entry.what, int):
-                self.at_pulse[entry.vertex][entry.what] = stamp_of(entry)
+                self.at_pulse[entry.node][entry.what] = stamp_of(entry)
         first, end = self.window(every, pulses)
         self.moments = every[first:end]
-        self.start = steps.start | {entry.vertex: look for entry, _, look in every[:first]}
+        self.start = steps.start | {entry.node: look for entry, _, look in every[:first]}
         self.wires = wires_of(every[:end], first)
         self.sent: dict[int, list[tuple[int, int, str]]] = {}
         for v, w, wire, *_ in self.wires:
-            if wire[0] == "Payload":
-                self.sent.setdefault(wire[1], []).append((v, w, payload_words(wire[2])))
+            match wire:
+                case Message("payload", (int(pulse), word, number)):
+                    self.sent.setdefault(pulse, []).append((v, w, f"{word} {number}"))
         self.stamps = (0, 0)
         if self.moments:
             self.stamps = stamp_of(self.moments[0][0]) - 1, stamp_of(self.moments[-1][0])
@@ -201,20 +193,12 @@ class Run:
 
         def row(entry: Entry, look: Look) -> Row:
             said = words(entry).split(" ", 2)[2]
-            return Row(
-                stamp_of(entry), entry.vertex, looks.setdefault(look, len(looks)), text(said)
-            )
+            return Row(stamp_of(entry), entry.node, looks.setdefault(look, len(looks)), text(said))
 
         rows = [row(entry, look) for entry, _, look in self.moments]
         wires = [
             WireRow(
-                one.v,
-                one.w,
-                text(wire_words(one.wire)),
-                one.put,
-                one.put_stamp,
-                one.take,
-                one.take_stamp,
+                one.v, one.w, text(str(one.wire)), one.put, one.put_stamp, one.take, one.take_stamp
             )
             for one in self.wires
         ]
@@ -234,7 +218,7 @@ class Run:
         made = {
             entry.what: at
             for at, (entry, *_) in enumerate(self.moments, 1)
-            if entry.kind == "Pulse"
+            if entry.kind is Kind.PULSE
         }
         for pulse in range(self.pulses[0], self.pulses[1] + 1):
             stamps = [reached[pulse] for reached in self.at_pulse.values() if pulse in reached]
@@ -261,10 +245,10 @@ def wires_of(every: list[Step], first: int) -> list[Flight]:
     flying: dict[Edge, deque[int]] = {}
     found: list[Flight] = []
     for at, (entry, *_) in enumerate(every, -first):
-        v, w, wire = entry.vertex, entry.neighbour, entry.what
-        if w is None or not isinstance(wire, tuple):
+        v, w, wire = entry.node, entry.neighbour, entry.what
+        if w is None or not isinstance(wire, Message):
             continue
-        if entry.kind == "Put":
+        if entry.kind is Kind.PUT:
             flying.setdefault((v, w), deque()).append(len(found))
             found.append(Flight(v, w, wire, at, stamp_of(entry)))
         else:

@@ -3,10 +3,10 @@ it."""
 from collections.abc import Collection
 from typing import TYPE_CHECKING
 
+from lab.definitions.events import Entry, Kind
 from lab.pictures.palette import WIRES, WRONG
 from lab.pictures.svg import Svg
 from lab.pictures.transcripts import Run
-from lab.transcripts.reading import Entry
 from lab.wrong import Wrong
 
 # How long the arrow of a wire that nobody took is: a part of the way to the neighbour's row, and steps of time.
@@ -34,7 +34,7 @@ def said_of(run: Run, stopped: int | None) -> str:
 
 def usual_pulses(run: Run, wrong: Entry) -> tuple[int, int]:
     """The pulse of the wrong entry's node, and the one before."""
-    pulse = max(run.ticks[wrong.vertex])
+    pulse = max(run.ticks[wrong.node])
     return max(0, pulse - 1), pulse
 
 
@@ -49,7 +49,7 @@ def draw_wrong(svg: Svg, window: "Window", kinds: Collection[str], stopped: int 
     if run.wrong:
         # Its stamp may be what is wrong with it: so it is after all that its node did before.
         entry, why = run.wrong
-        v, time = entry.vertex, run.reached[entry.vertex] + 1
+        v, time = entry.node, run.reached[entry.node] + 1
         with svg.group("wrong", f"line {why.line}, not possible"):
             if entry.neighbour is None:
                 svg.line(
@@ -57,7 +57,7 @@ def draw_wrong(svg: Svg, window: "Window", kinds: Collection[str], stopped: int 
                 )
             else:
                 draw_stub(
-                    svg, window, v, entry.neighbour, time, WRONG, 2.4, is_put=entry.kind == "Put"
+                    svg, window, v, entry.neighbour, time, WRONG, 2.4, is_put=entry.kind is Kind.PUT
                 )
             svg.circle(window.x(time), window.y(v), 4, WRONG)
     elif stopped and not run.whole:

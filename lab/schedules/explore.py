@@ -9,6 +9,7 @@ from collections.abc import Collection, Iterator
 from functools import partial
 from typing import NamedTuple
 
+from lab.definitions.events import Event, Kind
 from lab.definitions.own_program import AGAIN, OwnNode, check_repeats, has_verdict, wrong_end
 from lab.definitions.program import Program
 from lab.definitions.programs import add_program, program_asked
@@ -17,7 +18,7 @@ from lab.networks.sources import network_at
 from lab.schedules.own_rounds import verdict_of, verdict_on_many
 from lab.schedules.ruled_rounds import looked_at
 from lab.schedules.rules import ALL, OF_SCHEDULES, program_of, table, unknown_to
-from lab.schedules.space import Event, Node, Space
+from lab.schedules.space import Space, Status
 from lab.words import add_output, add_seed, as_text, count, counted, parser_of, write
 from lab.wrong import Wrong
 
@@ -271,16 +272,15 @@ def searched(given: Namespace, net: Network, program: Program) -> Space:
             f"explore: at most {given.limit:,} states, {given.limit * BYTES_A_STATE // 10 ** 6:,} MB"
         )
 
-    def progress(states, depth):
+    def progress(states: int, depth: int) -> None:
         sys.stderr.write(
             f"\r\033[Kexplore: {states:,} states of at most {given.limit:,}, {depth} events far"
         )
         sys.stderr.flush()
 
     try:
-        space = Space(
-            net, given.without, given.limit, progress if show else None, given.reduce, program
-        )
+        space = Space(net, given.without, given.limit, given.reduce, program)
+        space.search(progress if show else None)
     finally:
         if show:
             sys.stderr.write("\r\033[K")
@@ -330,10 +330,11 @@ def has_drawn(space: Space) -> bool:
     return any("random" in vars(node.me) for node in nodes if isinstance(node, OwnNode))
 
 
-def results_words(nodes: dict[int, Node]) -> str:
+def results_words(nodes: dict[int, Status]) -> str:
     """What nodes have found: `channels 2 3 1` of the colouring, and of another program each node's words."""
-    if all(node.colour is not None for node in nodes.values()):
-        return f"channels {' '.join(str(node.colour + 1) for node in nodes.values())}"
+    colours = [node.colour for node in nodes.values() if node.colour is not None]
+    if len(colours) == len(nodes):
+        return f"channels {' '.join(str(colour + 1) for colour in colours)}"
     return ", ".join(f"{v} {node.result}" for v, node in nodes.items())
 
 
@@ -357,24 +358,24 @@ def broken_text(given: Namespace, space: Space, listed: list[Event]) -> str:
         )
     fewest = ", maybe not the fewest" if space.reduce else ""
     first = f"broken after {events_words(listed)}{fewest}: {what}\n"
-    return "".join([first, *event_lines(listed), refused_words(given.without)])
+    return "".join([first, *event_lines(listed, space.ports), refused_words(given.without)])
 
 
 def events_words(listed: list[Event]) -> str:
     """How many events a list has, puts among them: `8 events (5 takes and pulses)`."""
-    rest = sum(event.kind != "put" for event in listed)
+    rest = sum(event.kind is not Kind.PUT for event in listed)
     return f"{counted(len(listed), 'event')} ({counted(rest, 'take or pulse', 'takes and pulses')})"
 
 
-def event_lines(listed: list[Event]) -> Iterator[str]:
+def event_lines(listed: list[Event], neighbours: dict[int, list[int]]) -> Iterator[str]:
     """The events with the wires that they put or take, or the pulse that is made."""
     made: Counter[int] = Counter()
     for event in listed:
-        if event.kind == "pulse":
-            made[event.v] += 1
-            yield f"{event}: node {event.v} makes pulse {made[event.v]}\n"
-        elif event.kind == "put":
-            yield f"{event}: {event.wire} for {event.w}\n"
+        v, turn = event.node, ", out of turn" if event.place else ""
+        if event.port is None:
+            made[v] += 1
+            yield f"{event}: node {v} makes pulse {made[v]}\n"
+        elif event.kind is Kind.PUT:
+            yield f"{event}: {event.message} for {neighbours[v][event.port]}\n"
         else:
-            turn = ", out of turn" if event.place else ""
-            yield f"{event}: {event.wire} from {event.w}{turn}\n"
+            yield f"{event}: {event.message} from {neighbours[v][event.port]}{turn}\n"

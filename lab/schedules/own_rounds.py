@@ -51,7 +51,7 @@ def listed(verb: str, way: str, neighbours: list[int], slots: list[Slot]) -> str
     for w, slot in zip(neighbours, slots):
         if slot is not None:
             ends.setdefault(slot, []).append(w)
-    said = [f"{word.lower()} {number} {way} {in_words(ws)}" for (word, number), ws in ends.items()]
+    said = [f"{payload} {way} {in_words(ws)}" for payload, ws in ends.items()]
     return f"{verb} {', '.join(said)}" if said else ""
 
 

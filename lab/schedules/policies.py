@@ -10,20 +10,24 @@ All chance comes from the seed. So a run depends on the network, the policy, the
 on how fast they are. A policy decides nothing about what is right: any order of possible steps is a run. So the slow
 definitions (simulate.py) and students' nodes (the workshop's driver) are played under the same policies."""
 import random
+from collections.abc import Callable, Collection, Sequence
 from dataclasses import dataclass
-from typing import Collection, Sequence
+from typing import TypeVar
+
+from lab.definitions.events import TAKE, Kind
+from lab.network import Edge
 
 
 @dataclass
 class Step:
     """One step that is possible now.
 
-    `kind` is take, put or pulse. `node` makes it, from 1; `neighbour` is the other end of a take's or put's link, and
+    `node` makes it, from 1; `neighbour` is the other end of a take's or put's link, and
     0 of a pulse. `wire` is the kind of the wire: payload, ack, safe or close, and empty of a pulse. `since` says when
     the step became possible, so of a take when its wire was put: a number that grows over the run. `latest` says of a
     take when the newest wire of its link was put; of other steps it is `since`."""
 
-    kind: str
+    kind: Kind
     node: int
     neighbour: int = 0
     wire: str = ""
@@ -31,11 +35,16 @@ class Step:
     latest: int = 0
 
     @property
-    def link(self) -> tuple[int, int]:
+    def link(self) -> Edge:
         """(from, to); of a pulse the node, twice."""
-        if self.kind == "take":
+        if self.kind is TAKE:
             return self.neighbour, self.node
         return self.node, self.neighbour or self.node
+
+    @property
+    def turn(self) -> tuple[Edge, str]:
+        """When it comes, among others, if each link has its turn."""
+        return self.link, self.kind.value
 
 
 # What each policy does, in words; and what waits under it until no other step is possible: of a step, and of the edge
@@ -54,13 +63,16 @@ POLICIES = {
 }
 # What the seed chooses, of policies by which something waits or comes first.
 CHOSEN = {"slow-link": "edge", "slow-node": "node", "fast-node": "node"}
-WAITS = {
+WAITS: dict[str, Callable[[Step, int | Edge | None], bool]] = {
     "slow-link": lambda step, edge: tuple(sorted(step.link)) == edge,
     "slow-node": lambda step, v: step.node == v,
     "fast-node": lambda step, v: step.node != v,
     "late-acks": lambda step, _: step.wire == "ack",
     "late-safes": lambda step, _: step.wire == "safe",
 }
+
+
+Thing = TypeVar("Thing")
 
 
 class Policy:
@@ -74,16 +86,20 @@ class Policy:
         vertices: Collection[int],
         edges: Collection[tuple[int, int]],
         seed: str,
-        slow=(),
-        lazy=(),
-    ):
+        slow: Collection[Edge] = (),
+        lazy: Collection[int] = (),
+    ) -> None:
+        self.name = name
         # Of a seed's generator only random() gives the same numbers in all versions of Python.
-        self.name, self.source, self.last = name, random.Random(f"{seed} {name}"), ((0, 0), "")
-        among = {"edge": edges, "node": vertices}.get(CHOSEN.get(name, ""), ())
-        self.chosen = self.any_of(list(among)) if among else None
-        self.slow, self.lazy = {tuple(sorted(edge)) for edge in slow}, set(lazy)
+        self.source = random.Random(f"{seed} {name}")
+        self.last: Step | None = None
+        among: dict[str, list[int | Edge]] = {"edge": [*edges], "node": [*vertices]}
+        choices = among.get(CHOSEN.get(name, ""), [])
+        self.chosen = self.any_of(choices) if choices else None
+        self.slow = {tuple(sorted(edge)) for edge in slow}
+        self.lazy = set(lazy)
 
-    def any_of(self, things: Sequence):
+    def any_of(self, things: Sequence[Thing]) -> Thing:
         return things[int(self.source.random() * len(things))]
 
     def choose(self, steps: Sequence[Step]) -> Step:
@@ -95,7 +111,7 @@ class Policy:
                 if step.node not in self.lazy and tuple(sorted(step.link)) not in self.slow
             ] or steps
         step = self.chosen_of(steps)
-        self.last = step.link, step.kind
+        self.last = step
         return step
 
     def chosen_of(self, steps: Sequence[Step]) -> Step:
@@ -108,7 +124,8 @@ class Policy:
         if self.name == "in-turn":
             return self.next_in_turn(steps)
         if self.name == "bursts":
-            same = [step for step in steps if step.link == self.last[0]]
+            link = self.last and self.last.link
+            same = [step for step in steps if step.link == link]
             return same[0] if same else self.any_of(steps)
         if self.name in WAITS:
             waits = WAITS[self.name]
@@ -116,5 +133,6 @@ class Policy:
         return self.any_of(steps)
 
     def next_in_turn(self, steps: Sequence[Step]) -> Step:
-        after = [step for step in steps if (step.link, step.kind) > self.last]
-        return min(after or steps, key=lambda step: (step.link, step.kind))
+        last = self.last.turn if self.last else ((0, 0), "")
+        after = [step for step in steps if step.turn > last]
+        return min(after or steps, key=lambda step: step.turn)

@@ -8,9 +8,10 @@ from collections.abc import Callable, Collection, Hashable
 import copy
 from typing import TypeVar
 
+from lab.definitions.events import Message, ack
 from lab.definitions.layers import Layers
 from lab.definitions.leader import Leader
-from lab.definitions.nodes import COLOURING, AlphaNode, Colouring, Port, Refused, Role, Wire
+from lab.definitions.nodes import COLOURING, AlphaNode, Colouring, Port, Refused, Role
 from lab.definitions.own_program import OwnNode
 from lab.definitions.program import Payload, Program, RoundsNode, Slot, synchronous_pulses
 from lab.definitions.sequel import Sequel
@@ -50,16 +51,19 @@ class RuledNode(AlphaNode):
         super().act()
         self.key_of_simulated = kept(frozen, self.simulated)
 
-    def on_wire(self, at: int, wire: Wire) -> None:
-        kind, port = wire[0], self.ports[at]
-        if kind == "Payload" and self.without & {"safes", "early"}:
-            self.take_payload(port, wire)
-        elif {"Ack": "acks", "Safe": "safes"}.get(kind) in self.without:
-            return
-        elif "safes" in self.without and kind == "Close":
-            port.closed = True
-        else:
-            super().on_wire(at, wire)
+    def on_wire(self, at: int, wire: Message) -> None:
+        without, port = self.without, self.ports[at]
+        match wire:
+            case Message("payload") if without & {"safes", "early"}:
+                self.take_payload(port, wire)
+            case Message("ack") if "acks" in without:
+                return
+            case Message("safe") if "safes" in without:
+                return
+            case Message("close") if "safes" in without:
+                port.closed = True
+            case _:
+                super().on_wire(at, wire)
 
     def fault_of_pulse(self, v: int, rounds: "Rounds") -> tuple[str | None, bool]:
         """What is wrong with its next pulse, or None; and whether its program refuses that pulse."""
@@ -70,16 +74,18 @@ class RuledNode(AlphaNode):
         self.wrong = self.wrong or fault is not None
         return fault, False
 
-    def take_payload(self, port: Port, wire: Wire) -> None:
+    def take_payload(self, port: Port, wire: Message) -> None:
         """Without safes a payload may come a pulse too late, and is thrown away, or too early for its place."""
-        ahead = wire[1] - self.pulse_number
-        if ahead > 1 or ahead < 0 and "safes" not in self.without:
-            raise Refused(f"{wire}: no place for it")
-        if ahead == 0 or ahead == 1 and "early" in self.without:
-            port.present = wire[2]
-        elif ahead == 1:
-            port.early = wire[2]
-        port.out.append(("Ack", wire[1]))
+        match wire:
+            case Message("payload", (int(pulse), str(word), int(number))):
+                ahead = pulse - self.pulse_number
+                if ahead > 1 or ahead < 0 and "safes" not in self.without:
+                    raise Refused(f"{wire}: no place for it")
+                if ahead == 0 or ahead == 1 and "early" in self.without:
+                    port.present = Payload(word, number)
+                elif ahead == 1:
+                    port.early = Payload(word, number)
+                port.out.append(ack(pulse))
 
     def copied(self) -> "RuledNode":
         node = copy.copy(self)
@@ -143,17 +149,11 @@ class Rounds:
         """How an inbox differs from the round's, at the first port at which it does; None if it doesn't."""
         for w, got, due in zip(self.ports[v], inbox, self.inbox[v, p]):
             if got is None and due is not None:
-                return f"node {v} makes pulse {p} without `{payload_words(due)}` from {w}"
+                return f"node {v} makes pulse {p} without `{due}` from {w}"
             if got is not None and got != due:
-                instead = (
-                    f", not with `{payload_words(due)}`" if due else ", which is of another round"
-                )
-                return f"node {v} makes pulse {p} with `{payload_words(got)}` from {w}{instead}"
+                instead = f", not with `{due}`" if due else ", which is of another round"
+                return f"node {v} makes pulse {p} with `{got}` from {w}{instead}"
         return None
-
-
-def payload_words(payload: Payload) -> str:
-    return f"{payload[0].lower()} {payload[1]}"
 
 
 def inbox_refused(node: RoundsNode, pulse: int, inbox: list[Slot]) -> bool:
@@ -163,7 +163,7 @@ def inbox_refused(node: RoundsNode, pulse: int, inbox: list[Slot]) -> bool:
             return refused_by_colouring(node, pulse, inbox)
         case Sequel():
             return pulse <= node.cut and (
-                any(slot and slot[0] in node.kinds for slot in inbox)
+                any(slot and slot.word in node.words for slot in inbox)
                 or refused_by_colouring(node.first, pulse, inbox)
             )
         case Leader() | Layers():
@@ -192,9 +192,9 @@ BOUNDS = {3: 2**128, 4: 255, 5: 15, 6: 7, 7: 5, 8: 5, 9: 4, 10: 4, 11: 3, 12: 3}
 
 def names_refused(node: Colouring, inbox: list[Slot]) -> bool:
     """Each neighbour sends an identifier; they and the node's own differ, and not too many are higher."""
-    if any(slot is None or slot[0] != "Hello" for slot in inbox):
+    if any(slot is None or slot.word != "hello" for slot in inbox):
         return True
-    numbers = [slot[1] for slot in inbox if slot]
+    numbers = [slot.number for slot in inbox if slot]
     higher = [number for number in numbers if number > node.id]
     return len({*numbers, node.id}) <= len(numbers) or len(higher) > node.forests
 
@@ -203,7 +203,7 @@ def label_refused(forests: int, role: Role | None, slot: Slot) -> bool:
     """A child sends the label of a forest, and a parent nothing."""
     if role:
         return slot is not None
-    return slot is None or slot[0] != "Label" or slot[1] >= forests
+    return slot is None or slot.word != "label" or slot.number >= forests
 
 
 def colour_refused(node: Colouring, bound: int, role: Role, slot: Slot) -> bool:
@@ -211,9 +211,9 @@ def colour_refused(node: Colouring, bound: int, role: Role, slot: Slot) -> bool:
     way, forest = role
     if way == "Down":
         return slot is not None
-    if slot is None or slot[0] != "Colour":
+    if slot is None or slot.word != "colour":
         return True
-    return slot[1] > bound or slot[1] == node.colours[forest]
+    return slot.number > bound or slot.number == node.colours[forest]
 
 
 def choices_refused(node: Colouring, pulse: int, inbox: list[Slot]) -> bool:
@@ -221,13 +221,13 @@ def choices_refused(node: Colouring, pulse: int, inbox: list[Slot]) -> bool:
     node whose turn it is finds a colour that is free."""
     width = node.span + 1
     forest, step = divmod(pulse - 13, 3 * width)
-    heard = [(*role, *slot) for role, slot in zip(node.ends(), inbox) if slot]
+    heard = [(of_edge, slot) for (_, of_edge), slot in zip(node.ends(), inbox) if slot]
     if heard and step == 0:
         return True
-    for _, of_edge, kind, number in heard:
-        if kind != "Chosen" or number > node.span or of_edge > forest:
+    for of_edge, slot in heard:
+        if slot.word != "chosen" or slot.number > node.span or of_edge > forest:
             return True
-    chosen = {number for *_, number in heard}
+    chosen = {slot.number for _, slot in heard}
     old, taken = (node.merged, chosen) if step == 0 else (node.old, node.chosen | chosen)
     has_turn = (node.colours[forest], old) == divmod(step, width)
     return has_turn and set(range(width)) <= taken | node.barred

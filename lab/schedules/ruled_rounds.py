@@ -25,7 +25,7 @@ from lab.definitions.colours import (
 from lab.definitions.independent_set import IndependentSet
 from lab.definitions.matching import Matching
 from lab.definitions.nodes import COLOURING, DROPPED
-from lab.definitions.program import Program, RoundsNode, Slot, synchronous_run
+from lab.definitions.program import Payload, Program, RoundsNode, Slot, synchronous_run
 from lab.definitions.recolouring import Recolouring
 from lab.network import Edge, Network
 from lab.schedules.rules import OF_FORESTS
@@ -194,7 +194,7 @@ class RuledSet(IndependentSet):
         if not joins((self.first.merged == pulse, not self.is_beside)):
             return [None] * self.degree
         self.is_in = True
-        return [("Joined", self.first.merged) if pulse < self.span else None] * self.degree
+        return [Payload("joined", self.first.merged) if pulse < self.span else None] * self.degree
 
 
 def set_faults(net: Network, nodes: Nodes) -> Iterator[Fault]:
@@ -217,7 +217,7 @@ class RuledRecolouring(Recolouring):
         sent = super().go_on(pulse, inbox)
         if "anew" not in self.without:
             return sent
-        return [slot and ("Anew", self.first.merged) for slot in sent]
+        return [slot and Payload("anew", self.first.merged) for slot in sent]
 
 
 def recolouring_faults(net: Network, nodes: Nodes) -> Iterator[Fault]:

@@ -5,10 +5,11 @@ from argparse import ArgumentParser, Namespace
 import argparse
 import re
 import sys
-from collections import deque
+from collections import defaultdict, deque
 from collections.abc import Collection, Iterable, Iterator
 
-from lab.definitions.nodes import COLOURING, NetState, Refused, Wire, missing_words
+from lab.definitions.events import PULSE, PUT, TAKE, Entry, Event, Kind, Message
+from lab.definitions.nodes import COLOURING, NetState, Refused, missing_words
 from lab.definitions.own_program import check_repeats, wrong_end
 from lab.definitions.program import Program
 from lab.definitions.programs import add_program, program_asked
@@ -18,7 +19,7 @@ from lab.networks.sources import network_at
 from lab.schedules.policies import POLICIES, Policy, Step
 from lab.schedules.ruled_node import RuledNode
 from lab.transcripts.fields import first_line
-from lab.transcripts.reading import Entry, line_of
+from lab.transcripts.reading import line_of
 from lab.transcripts.stamps import Clock, unfinished
 from lab.words import add_output, add_seed, as_text, parser_of, text_at, text_name, write
 from lab.wrong import Wrong, wrong_line
@@ -67,68 +68,85 @@ EVENT = re.compile(
 )
 
 
+# Of the put or the take of a wire by a link, or of a pulse, for which the neighbour is 0.
+Waiting = tuple[Kind, int, int]
+
+
 class Player:
     """A run on its way, whose entries are `made`; the nodes may be `without` rules. `steps[v]` are the steps that are
     possible at v; `since[kind, v, w]` has for each wire that can be put or taken, and for a pulse, how many entries
     were made when it came there."""
 
-    def __init__(self, net, program=COLOURING, without=()):
+    def __init__(
+        self, net: Network, program: Program = COLOURING, without: Collection[str] = ()
+    ) -> None:
         check_repeats(net, program)
-        self.state, self.clock, self.made = NetState(net, program), Clock(net.neighbours), []
-        self.since, self.steps = {}, {}
+        self.state = NetState(net, program)
+        self.clock = Clock(net.neighbours)
+        self.made: list[Entry] = []
+        self.since: defaultdict[Waiting, deque[int]] = defaultdict(deque)
+        self.steps: dict[int, list[Step]] = {}
         if without:
             self.state.nodes = {v: RuledNode(net, v, without, program) for v in net.neighbours}
         for v in sorted(self.state.nodes):
             self.look_at(v)
 
-    def look_at(self, v):
+    def look_at(self, v: int) -> None:
         """What is possible at v now."""
-        node, self.steps[v] = self.state.nodes[v], []
-        waiting: list[tuple[str, int, list[Wire]]] = [("pulse", 0, [("",)] * node.may_act())]
+        node = self.state.nodes[v]
+        self.steps[v] = []
+        self.note_waiting(PULSE, v, 0, [NO_WIRE] if node.may_act() else [])
         for port, w in enumerate(self.state.neighbours[v]):
-            waiting += [("put", w, node.ports[port].out), ("take", w, self.state.link_to(v, port))]
-        for kind, w, wires in waiting:
-            times = self.since.setdefault((kind, v, w), deque())
-            if len(times) > len(wires):
-                times.popleft()
-            times.extend([len(self.made)] * (len(wires) - len(times)))
-            if wires:
-                latest = times[-1] if kind == "take" else times[0]
-                self.steps[v].append(Step(kind, v, w, wires[0][0].lower(), times[0], latest))
+            self.note_waiting(PUT, v, w, node.ports[port].out)
+            self.note_waiting(TAKE, v, w, self.state.link_to(v, port))
 
-    def make(self, kind, v, port=None):
+    def note_waiting(self, kind: Kind, v: int, w: int, wires: list[Message]) -> None:
+        """Notes since when these wires can be put or taken, and that the first one can be."""
+        times = self.since[kind, v, w]
+        if len(times) > len(wires):
+            times.popleft()
+        if len(times) < len(wires):
+            times.extend([len(self.made)] * (len(wires) - len(times)))
+        if wires:
+            latest = times[-1] if kind is TAKE else times[0]
+            self.steps[v].append(Step(kind, v, w, wires[0].word, times[0], latest))
+
+    def make(self, event: Event) -> Entry:
         """Makes an event, and returns its entry; raises `Refused` if it isn't possible."""
-        what, w = (
-            self.state.step(kind.title(), v, port),
-            None if port is None else self.state.neighbours[v][port],
-        )
-        entry = Entry(0, v, kind.title(), w, what, self.clock.next(kind.title(), v, w))
+        kind, v = event.kind, event.node
+        what = self.state.step(event)
+        w = None if event.port is None else self.state.neighbours[v][event.port]
+        entry = Entry(0, v, kind, w, what, self.clock.next(kind, v, w))
         self.made.append(entry)
         self.look_at(v)
-        if kind == "put":
+        if kind is PUT and w is not None:
             self.look_at(w)
         return entry
 
-    def play_events(self, events, name):
+    def event_of(self, step: Step) -> Event:
+        """The event that a step makes."""
+        return self.state.events[step.kind, step.node, step.neighbour or None]
+
+    def play_events(self, events: Iterable[tuple[int, Event]], name: str) -> None:
         """The events of a list, as `events_of` has them."""
-        for line, kind, v, port, _ in events:
+        for line, event in events:
             try:
-                self.make(kind, v, port)
+                self.make(event)
             except Refused as refused:
-                words = f"{kind} {v}" + ("" if port is None else f" {port}")
-                missing = missing_words(self.state, kind.title(), v, port)
+                missing = missing_words(self.state, event)
                 raise wrong_line(
-                    name, line, f"`{words}` isn't possible there{missing} ({refused})"
+                    name, line, f"`{event}` isn't possible there{missing} ({refused})"
                 ) from None
 
-    def entries(self, policy):
+    def entries(self, policy: Policy) -> Iterator[Entry]:
         """The entries from here until nothing is possible, each as soon as it is made: so a caller can look at the
         state between them, report how far the run is, or stop."""
         while steps := [step for own in self.steps.values() for step in own]:
-            step = policy.choose(steps)
-            yield self.make(
-                step.kind, step.node, self.state.port_to.get((step.node, step.neighbour))
-            )
+            yield self.make(self.event_of(policy.choose(steps)))
+
+
+# What a pulse has in place of a wire.
+NO_WIRE = Message("")
 
 
 def played(
@@ -148,10 +166,8 @@ def played(
     return player.made
 
 
-def events_of(
-    text: str, name: str, overtakes: bool = False
-) -> Iterator[tuple[int, str, int, int | None, int]]:
-    """(line, kind, vertex, port, place) of each event of a list; a note after a colon, as `forestlab explore` writes
+def events_of(text: str, name: str, overtakes: bool = False) -> Iterator[tuple[int, Event]]:
+    """(line, event) of each event of a list; a note after a colon, as `forestlab explore` writes
     it, is passed over. If links don't keep their order, a take may overtake `place` wires; else that is refused.
     """
     for line, raw in enumerate(text.split("\n"), 1):
@@ -173,20 +189,17 @@ def events_of(
         if found is None:
             raise wrong_line(name, line, f"`{shown(raw.strip())}` is no event (NoEvent)")
         pulse, node, kind, v, port, place = found.groups()
-        yield (line, pulse, int(node), None, 0) if pulse else (
-            line,
-            kind,
-            int(v),
-            int(port),
-            int(place or 0),
-        )
+        if pulse:
+            yield line, Event(PULSE, int(node))
+        else:
+            yield line, Event(Kind(kind), int(v), int(port), place=int(place or 0))
 
 
 def text_of_run(nodes: int, entries: Iterable[Entry], program: Program = COLOURING) -> str:
     """The transcript with stamps of a program: its lines by stamp, and lines of one stamp by node."""
     lines = [
         f"{entry.stamp} {line_of(entry)}"
-        for entry in sorted(entries, key=lambda one: (one.stamp, one.vertex))
+        for entry in sorted(entries, key=lambda one: (one.stamp, one.node))
     ]
     return as_text([first_line(nodes, program.name), *lines])
 

@@ -1,6 +1,6 @@
 """Every schedule of a tiny network: all states that lists of events lead to, and the steps between them.
 
-    space = Space(net, without=("safes",), limit=200_000)
+    space = Space(net, without=("safes",), limit=200_000).search()
 
 `net` is a network of the definitions, and `program` what its nodes run. A put is made as soon as it can be, so that a
 state has no wires that wait to be put, and no event is a put. `without` has rules of rules.OF_SCHEDULES. With a rule
@@ -17,12 +17,11 @@ far neighbours are apart and how much a link holds don't.
     space.count           how many states there are; they are numbered from 0, the start, by width
     space.depth[s]        the least number of events that lead to state s
     space.steps(s)        [(event, target)], the events possible in state s; target is None if the event is refused
-    space.events[e]       an Event: kind (take, pulse; put in a list of `with_puts`), v, port, w (the neighbour there),
-                          wire (in words), place (how many wires of the link it overtakes); str(event) is its line for
-                          `forestplay events`
-    space.nodes(s)        {v: Node}: pulse, stage (asks, safe, ready, last, whole), waits (what it waits for, as (wire,
-                          w)), wrong (it has made a pulse with another inbox than the round's), colour (merged so far,
-                          of the colouring alone) and result (what it has found so far, in words)
+    space.events[e]       an Event, a take with its wire or a pulse; str(event) is its line for `forestplay
+                          events`
+    space.nodes(s)        {v: Status}: pulse, stage (asks, safe, ready, last, whole), waits (what it waits for, as
+                          (wire, w)), wrong (it has made a pulse with another inbox than the round's), colour (merged
+                          so far, of the colouring alone) and result (what it has found so far, in words)
     space.ends            the states in which nothing is possible
     space.faults          {(s, e): what goes wrong in words}, e being the event's number in steps(s); and {(s, None):
                           words} for a state in which nothing is possible though some node waits, or of which the file
@@ -32,7 +31,7 @@ far neighbours are apart and how much a link holds don't.
     space.path(s)         a shortest list of events from the start to state s; space.path_to_fault() one that ends with
                           the event of the first fault
     space.with_puts(events)
-                          the events of a list, and between them the puts that they need
+                          the events of a list, and between them the puts that they need, each with its wire
     space.schedules       how many lists of events lead from the start to an end; None if events are possible in
                           different numbers, which they are not if no rule is left out
     space.farthest        the most pulses that two neighbours are apart in any state
@@ -40,35 +39,70 @@ far neighbours are apart and how much a link holds don't.
 """
 import time
 from array import array
-from collections import Counter, namedtuple
+from collections import Counter
+from collections.abc import Callable, Collection, Hashable, Iterable
 from functools import cache
+from typing import NamedTuple, TypeVar
 
-from lab.definitions.nodes import COLOURING, Colouring, Refused, Wire, wire_words
+from lab.definitions.events import Event, Kind, Message
+from lab.definitions.nodes import COLOURING, Colouring, Refused
 from lab.definitions.own_program import asks_for_messages, what_is_wrong
-from lab.network import Edge
+from lab.definitions.program import Program
+from lab.network import Edge, Network
 from lab.schedules.ruled_node import Rounds, RuledNode
 
 REFUSED = 2**32 - 1
 
-Node = namedtuple("Node", "pulse stage waits wrong colour result")
-# An event that is possible: its number, the node's value after it or None, the link that it takes from or None, what
-# that holds then, the wires that go on links by slot, and what goes wrong.
-Move = namedtuple("Move", "event value link rest gone fault")
+# By node and then by link, the number of what it is.
+State = tuple[int, ...]
+# The wires that go on links, by the number of the link in a state and the number of their list.
+Gone = tuple[tuple[int, int], ...]
+# The number of the node's value after an event, or None if its program refuses it; the wires that go on links; and what
+# goes wrong.
+After = tuple[int | None, Gone, str | None]
+Progress = Callable[[int, int], None]
+# The key of a fault: a state, and the number of the event in it, if it is one event's fault.
+Place = tuple[int, int | None]
+# Of the messages under way: sender, receiver, and what the file of a program knows of it.
+UnderWay = tuple[int, int, tuple[str, int]]
 
 
-class Event(namedtuple("Event", "kind v port w wire place")):
-    def __str__(self):
-        return f"pulse {self.v}" if self.kind == "pulse" else f"{self.kind} {self.v} {self.port}"
+class Status(NamedTuple):
+    """What is told of a node in a state."""
+
+    pulse: int
+    stage: str
+    waits: list[tuple[str, int]]
+    wrong: bool
+    colour: int | None
+    result: str
 
 
-class Numbered(list):
+class Move(NamedTuple):
+    """An event that is possible: its number, the number of the node's value after it or None, the link that it takes
+    from or None, the number of what that holds then, the wires that go on links, and what goes wrong.
+    """
+
+    event: int
+    value: int | None
+    link: int | None
+    rest: int
+    gone: Gone
+    fault: str | None
+
+
+Moves = tuple[list[Move], Move | None]
+Thing = TypeVar("Thing")
+
+
+class Numbered(list[Thing]):
     """Things, each once: the number of a thing is its place."""
 
-    def __init__(self):
+    def __init__(self) -> None:
         super().__init__()
-        self.places = {}
+        self.places: dict[Hashable, int] = {}
 
-    def number(self, thing, key=None):
+    def number(self, thing: Thing, key: Hashable = None) -> int:
         """The number of a thing, which is new if no equal one, or none of its key, is there."""
         found = self.places.setdefault(thing if key is None else key, len(self))
         if found == len(self):
@@ -77,44 +111,69 @@ class Numbered(list):
 
 
 class Space:
+    """The states of a network, which are there once `search` has found them."""
+
     def __init__(
-        self, net, without=(), limit=1_000_000, progress=None, reduce=False, program=COLOURING
-    ):
-        self.net, self.without, self.limit = net, tuple(without), limit
-        self.reduce, self.program = reduce, program
+        self,
+        net: Network,
+        without: Collection[str] = (),
+        limit: int = 1_000_000,
+        reduce: bool = False,
+        program: Program = COLOURING,
+    ) -> None:
+        self.net = net
+        self.without = tuple(without)
+        self.limit = limit
+        self.reduce = reduce
+        self.program = program
         self.asks_for_messages = asks_for_messages(program)
-        self.rounds = Rounds(net, program)
-        self.vertices, self.ports, self.last = net.vertices, net.neighbours, program.last_pulse(net)
+        self.vertices = net.vertices
+        self.ports = net.neighbours
+        self.last = program.last_pulse(net)
         self.links = [(v, w) for v in self.vertices for w in self.ports[v]]
         self.slot = {link: k for k, link in enumerate(self.links, len(self.vertices))}
         self.arriving = [[self.slot[w, v] for w in self.ports[v]] for v in self.vertices]
-        # The parts of a state, each kept once and known by its number.
-        self.locals, self.contents, self.events = (
-            [Numbered() for _ in self.vertices],
-            Numbered(),
-            Numbered(),
-        )
+        # The parts of a state, each kept once and known by its number; a link's content are the numbers of its wires,
+        # and content 0 is empty.
+        self.locals: list[Numbered[RuledNode]] = [Numbered() for _ in self.vertices]
+        self.wires: Numbered[Message] = Numbered()
+        self.contents: Numbered[tuple[int, ...]] = Numbered()
         self.contents.number(())
+        self.events: Numbered[Event] = Numbered()
         # Each is worked out once for the same parts of a state.
-        self.moves_of, self.pulse = cache(self.find_moves), cache(self.find_pulse)
-        self.take, self.with_wires = cache(self.find_take), cache(self.find_with_wires)
-        self.faults, self.ends, self.broken, self.said = {}, [], set(), {}
-        self.first, self.event_of, self.target = array("I", [0]), array("I"), array("I")
-        self.search(progress)
+        self.moves_of = cache(self.find_moves)
+        self.pulse = cache(self.find_pulse)
+        self.take = cache(self.find_take)
+        self.with_wires = cache(self.find_with_wires)
+        self.event = cache(self.find_event)
+        self.faults: dict[Place, str] = {}
+        self.ends: list[int] = []
+        self.broken: set[int] = set()
+        self.verdicts: dict[tuple[Hashable, ...], str] = {}
+        self.states: Numbered[State] = Numbered()
+        self.expanded = 0
+        self.first_puts: list[tuple[int, int]] = []
+        self.first = array("I", [0])
+        self.event_of = array("I")
+        self.target = array("I")
+        self.depth = array("I", [0])
+        self.from_state = array("I", [0])
+        self.from_event = array("I", [0])
 
     # What a node can do.
 
-    def after(self, a, node):
-        """(number of the node's value, wires that go on its links by slot), its out-lists being put."""
+    def after(self, a: int, node: RuledNode) -> tuple[int, Gone]:
+        """(number of the node's value, wires that go on its links), its out-lists being put."""
         gone = []
         for w, port in zip(self.ports[self.vertices[a]], node.ports):
             if port.out:
-                gone.append((self.slot[self.vertices[a], w], tuple(port.out)))
+                content = self.contents.number(tuple(map(self.wires.number, port.out)))
+                gone.append((self.slot[self.vertices[a], w], content))
                 port.out = []
         return self.locals[a].number(node, node.key()), tuple(gone)
 
-    def find_pulse(self, a, i):
-        """(value after or None, wires, fault) of a pulse of the node with this value."""
+    def find_pulse(self, a: int, i: int) -> After:
+        """What a pulse of the node with this value comes to."""
         node = self.locals[a][i].copied()
         fault, is_refused = node.fault_of_pulse(self.vertices[a], self.rounds)
         if is_refused:
@@ -122,40 +181,38 @@ class Space:
         node.act()
         return *self.after(a, node), fault
 
-    def find_take(self, a, i, port, wire):
-        node = self.locals[a][i].copied()
+    def find_take(self, a: int, i: int, port: int, number: int) -> After:
+        """What the take of the wire of a number comes to."""
+        node, wire = self.locals[a][i].copied(), self.wires[number]
         try:
             node.on_wire(port, wire)
         except Refused:
             v = self.vertices[a]
-            return None, (), f"node {v} refuses `{wire_words(wire)}` from {self.ports[v][port]}"
+            return None, (), f"node {v} refuses `{wire}` from {self.ports[v][port]}"
         return *self.after(a, node), None
 
-    def find_moves(self, a, i, *arriving):
+    def find_event(self, v: int, port: int | None, wire: int = 0, place: int = 0) -> int:
+        """The number of a pulse, which has no port, or of the take of the wire of a number."""
+        if port is None:
+            return self.events.number(Event(Kind.PULSE, v))
+        return self.events.number(Event(Kind.TAKE, v, port, self.wires[wire], place))
+
+    def find_moves(self, a: int, i: int, *arriving: int) -> Moves:
         """The moves of a node with this value and these contents of the links to it, and which is made `alone`."""
         v, node, moves = self.vertices[a], self.locals[a][i], []
         if node.may_act():
             j, gone, fault = self.pulse(a, i)
-            moves.append(
-                Move(
-                    self.events.number(Event("pulse", v, None, None, None, 0)),
-                    j,
-                    None,
-                    0,
-                    gone,
-                    fault,
-                )
-            )
+            moves.append(Move(self.event(v, None), j, None, 0, gone, fault))
         for p, (w, c) in enumerate(zip(self.ports[v], arriving)):
             wires = self.contents[c]
             for place in range(len(wires) if "fifo" in self.without else min(1, len(wires))):
                 j, gone, fault = self.take(a, i, p, wires[place])
-                e = self.events.number(Event("take", v, p, w, wire_words(wires[place]), place))
+                e = self.event(v, p, wires[place], place)
                 rest = self.contents.number(wires[:place] + wires[place + 1 :])
                 moves.append(Move(e, j, self.slot[w, v], rest, gone, fault))
         return moves, self.alone(moves)
 
-    def alone(self, moves):
+    def alone(self, moves: list[Move]) -> Move | None:
         """With `reduce`, the take of a safe or a close that comes next on its link, if a node has one among its moves.
 
         Such a take sends nothing. It stays possible, with the same effect, whatever else happens first: others only add
@@ -165,39 +222,36 @@ class Space:
         is refused stays as it is. Without `safes` or `fifo` that isn't so. (A take that is refused isn't meant.)
         """
         for move in moves if self.reduce else ():
-            if move.value is not None and move.link is not None:
-                if self.events[move.event].wire.startswith(("safe", "close")):
-                    return move
+            wire = self.events[move.event].message
+            if move.value is not None and wire and wire.word in ("safe", "close"):
+                return move
         return None
 
     # The search.
 
-    def start(self):
+    def start(self) -> State:
         """The first state; `first_puts` are the wires that are put by then."""
-        state, self.first_puts = [0] * (len(self.vertices) + len(self.links)), []
+        state = [0] * (len(self.vertices) + len(self.links))
         for a, v in enumerate(self.vertices):
             state[a], gone = self.after(a, RuledNode(self.net, v, self.without, self.program))
             self.first_puts += gone
         return self.with_all(state, self.first_puts)
 
-    def with_all(self, state, gone):
+    def with_all(self, state: list[int], gone: Iterable[tuple[int, int]]) -> State:
         """The state with these wires on its links."""
         for slot, wires in gone:
             state[slot] = self.with_wires(state[slot], wires)
         return tuple(state)
 
-    def find_with_wires(self, c, wires):
+    def find_with_wires(self, c: int, wires: int) -> int:
         """The number of what a link holds once these wires are put on it, too."""
-        return self.contents.number(self.contents[c] + wires)
+        return self.contents.number(self.contents[c] + self.contents[wires])
 
-    def search(self, progress):
-        self.states = Numbered()
+    def search(self, progress: Progress | None = None) -> "Space":
+        """Finds the states and the steps between them; `progress` is told now and then how many states there are, and
+        how many events lead to the last one."""
+        self.rounds = Rounds(self.net, self.program)
         self.states.number(self.start())
-        self.depth, self.from_state, self.from_event = (
-            array("I", [0]),
-            array("I", [0]),
-            array("I", [0]),
-        )
         said, s = time.monotonic(), 0
         while s < len(self.states) and not self.is_cut:
             if self.faults and self.depth[s] > self.depth[next(iter(self.faults))[0]]:
@@ -208,22 +262,24 @@ class Space:
                 said = time.monotonic()
                 progress(len(self.states), self.depth[s - 1])
         self.expanded = s
+        return self
 
-    def moves_in(self, state, a):
+    def moves_in(self, state: State, a: int) -> Moves:
         """The moves of a node in a state, and which is made alone."""
         return self.moves_of(a, state[a], *[state[k] for k in self.arriving[a]])
 
-    def moved(self, state, a, move):
-        """The state after a move of a node."""
+    def moved(self, state: State, a: int, value: int, move: Move) -> State:
+        """The state after a move of a node, which then has a value."""
         after = list(state)
-        after[a] = move.value
+        after[a] = value
         if move.link is not None:
             after[move.link] = move.rest
         return self.with_all(after, move.gone)
 
-    def expand(self, s):
+    def expand(self, s: int) -> None:
         """Notes the steps of a state, and the new states that they lead to."""
-        state, possible = self.states[s], []
+        state = self.states[s]
+        possible: list[tuple[int, Move]] = []
         for a in range(len(self.vertices)):
             moves, alone = self.moves_in(state, a)
             if alone:
@@ -234,10 +290,11 @@ class Space:
             if move.fault:
                 self.faults[s, len(self.target) - self.first[s]] = move.fault
             self.event_of.append(move.event)
-            is_refused = move.value is None
-            self.target.append(
-                REFUSED if is_refused else self.reached(self.moved(state, a, move), s, move.event)
-            )
+            if move.value is None:
+                self.target.append(REFUSED)
+            else:
+                after = self.moved(state, a, move.value, move)
+                self.target.append(self.reached(after, s, move.event))
         self.first.append(len(self.target))
         if not possible:
             self.ends.append(s)
@@ -247,35 +304,38 @@ class Space:
             self.faults[s, None] = words
             self.broken.add(s)
 
-    def wrong_words(self, state, is_end):
+    def wrong_words(self, state: State, is_end: bool) -> str:
         """What the file of a program says of what its nodes have found in a state."""
         found = tuple(
             self.locals[a][state[a]].simulated.result() for a in range(len(self.vertices))
         )
-        messages = tuple(self.messages(state)) if self.asks_for_messages else ()
+        messages = tuple(self.under_way(state)) if self.asks_for_messages else ()
         key = found, messages, is_end
-        if key not in self.said:
+        if key not in self.verdicts:
             results = dict(zip(self.vertices, found))
             words = what_is_wrong(self.net, self.program, results, "always", messages)
             if is_end and not words:
                 words = what_is_wrong(self.net, self.program, results)
-            self.said[key] = words
-        return self.said[key]
+            self.verdicts[key] = words
+        return self.verdicts[key]
 
-    def messages(self, state):
+    def under_way(self, state: State) -> list[UnderWay]:
         """(sender, receiver, payload) by identifier, ascending, of what is sent and not yet read: on its link, or taken
         for this pulse's inbox or the next."""
-        name, found = self.net.identifiers, []
+        name = self.net.identifiers
+        found: list[UnderWay] = []
         for a, v in enumerate(self.vertices):
             for w, port in zip(self.ports[v], self.locals[a][state[a]].ports):
-                on_link = self.contents[state[self.slot[v, w]]]
-                sent = [wire[2] for wire in on_link if wire[0] == "Payload"]
-                came = [slot for slot in (port.present, port.early) if slot is not None]
-                found += [(name[v], name[w], payload) for payload in sent]
-                found += [(name[w], name[v], payload) for payload in came]
-        return sorted((v, w, (word.lower(), number)) for v, w, (word, number) in found)
+                for number in self.contents[state[self.slot[v, w]]]:
+                    match self.wires[number]:
+                        case Message("payload", (_, str(word), int(value))):
+                            found.append((name[v], name[w], (word, value)))
+                for slot in (port.present, port.early):
+                    if slot is not None:
+                        found.append((name[w], name[v], (slot.word, slot.number)))
+        return sorted(found)
 
-    def reached(self, state, s, e):
+    def reached(self, state: State, s: int, e: int) -> int:
         t = self.states.number(state)
         if t == len(self.depth):
             self.depth.append(self.depth[s] + 1)
@@ -286,14 +346,14 @@ class Space:
     # What is read off.
 
     @property
-    def count(self):
+    def count(self) -> int:
         return len(self.states)
 
     @property
-    def is_cut(self):
+    def is_cut(self) -> bool:
         return self.count > self.limit
 
-    def steps(self, s):
+    def steps(self, s: int) -> list[tuple[Event, int | None]]:
         if s >= self.expanded:
             return []
         return [
@@ -301,12 +361,12 @@ class Space:
             for k in range(self.first[s], self.first[s + 1])
         ]
 
-    def is_whole(self, state):
+    def is_whole(self, state: State) -> bool:
         return all(
             self.locals[a][state[a]].drained() for a in range(len(self.vertices))
         ) and not any(state[len(self.vertices) :])
 
-    def stuck_words(self, s):
+    def stuck_words(self, s: int) -> str:
         waiting = [
             f"node {v} waits for {' and '.join(f'{wire} from {w}' for wire, w in node.waits)}"
             for v, node in self.nodes(s).items()
@@ -315,19 +375,19 @@ class Space:
         said = "nothing is possible before the end"
         return f"{said}, and {', '.join(waiting)}" if waiting else said
 
-    def nodes(self, s):
+    def nodes(self, s: int) -> dict[int, Status]:
         return {
-            v: self.node_words(v, self.locals[a][self.states[s][a]])
+            v: self.status_of(v, self.locals[a][self.states[s][a]])
             for a, v in enumerate(self.vertices)
         }
 
-    def node_words(self, v, node):
+    def status_of(self, v: int, node: RuledNode) -> Status:
         simulated = node.simulated
         colour = simulated.merged if isinstance(simulated, Colouring) else None
         stage, waits = self.stage_of(v, node)
-        return Node(node.pulse_number, stage, waits, node.wrong, colour, simulated.result())
+        return Status(node.pulse_number, stage, waits, node.wrong, colour, simulated.result())
 
-    def stage_of(self, v, node):
+    def stage_of(self, v: int, node: RuledNode) -> tuple[str, list[tuple[str, int]]]:
         """How far a node is in its pulse, and the wires for which it waits there."""
         p, ports = node.pulse_number, list(zip(self.ports[v], node.ports))
         if p == self.last:
@@ -341,7 +401,7 @@ class Space:
         return ("safe" if waits else "ready"), waits
 
     @property
-    def farthest(self):
+    def farthest(self) -> int:
         places = [(self.vertices.index(v), self.vertices.index(w)) for v, w in self.links if v < w]
         pulses = [[node.pulse_number for node in nodes] for nodes in self.locals]
         return max(
@@ -354,11 +414,11 @@ class Space:
         )
 
     @property
-    def most_wires(self):
+    def most_wires(self) -> int:
         return max(map(len, self.contents))
 
     @property
-    def schedules(self):
+    def schedules(self) -> int | None:
         if self.expanded < self.count:
             return None
         ways, found = [0] * self.count, 0
@@ -375,44 +435,49 @@ class Space:
 
     # Lists of events.
 
-    def path(self, s):
+    def path(self, s: int) -> list[Event]:
         events = []
         while s:
             events.append(self.events[self.from_event[s]])
             s = self.from_state[s]
         return events[::-1]
 
-    def first_fault(self):
+    def first_fault(self) -> Place:
         """The key of a fault that the fewest events lead to."""
         return min(self.faults, key=lambda fault: self.depth[fault[0]] + (fault[1] is not None))
 
-    def path_to_fault(self):
+    def path_to_fault(self) -> list[Event]:
         s, e = self.first_fault()
         return self.path(s) + ([] if e is None else [self.events[self.event_of[self.first[s] + e]]])
 
-    def with_puts(self, events):
+    def with_puts(self, events: list[Event]) -> list[Event]:
         """The events with the puts between them, each only as a take needs its wire."""
-        sent: dict[Edge, list[Wire]] = {link: [] for link in self.links}
+        sent: dict[Edge, list[Message]] = {link: [] for link in self.links}
         held: dict[Edge, list[int]] = {link: [] for link in self.links}
         put: Counter[Edge] = Counter()
-        state, gone, listed = self.states[0], self.first_puts, []
+        listed: list[Event] = []
+        state, gone = self.states[0], tuple(self.first_puts)
         for event in events:
-            for slot, wires in gone:
+            for slot, number in gone:
                 link = self.links[slot - len(self.vertices)]
+                wires = [self.wires[wire] for wire in self.contents[number]]
                 held[link] += range(len(sent[link]), len(sent[link]) + len(wires))
                 sent[link] += wires
-            if event.kind == "take":
-                v, w = link = event.w, event.v
+            if event.port is not None:
+                w = self.ports[event.node][event.port]
+                link = w, event.node
                 number = held[link].pop(event.place)
+                port = self.ports[w].index(event.node)
                 listed += [
-                    Event("put", v, self.ports[v].index(w), w, wire_words(wire), 0)
-                    for wire in sent[link][put[link] : number + 1]
+                    Event(Kind.PUT, w, port, wire) for wire in sent[link][put[link] : number + 1]
                 ]
                 put[link] = max(put[link], number + 1)
             listed.append(event)
-            a = self.vertices.index(event.v)
-            move = next(
-                move for move in self.moves_in(state, a)[0] if self.events[move.event] == event
-            )
-            state, gone = self.moved(state, a, move), move.gone
+            state, gone = self.after_event(state, event)
         return listed
+
+    def after_event(self, state: State, event: Event) -> tuple[State, Gone]:
+        """The state after an event, which stays as it is if a program refuses that; and the wires that go on links."""
+        a = self.vertices.index(event.node)
+        move = next(move for move in self.moves_in(state, a)[0] if self.events[move.event] == event)
+        return state if move.value is None else self.moved(state, a, move.value, move), move.gone

@@ -5,6 +5,7 @@ from collections.abc import Iterator
 from dataclasses import replace
 
 from lab import processors
+from lab.definitions.events import Event
 from lab.definitions.nodes import COLOURING
 from lab.definitions.program import Program
 from lab.definitions.programs import program_words
@@ -69,7 +70,7 @@ def played(call: RunCall, network: Network, program: Program, tell: Tell) -> tup
     player = Player(network, program)
     made = Steps(player.state)
     for step in first_steps(call.steps, network, program):
-        made.add(player.make(*step))
+        made.add(player.make(step))
     # About: twice a wire for each of its puts and takes, and as many again for the payloads and their acknowledgements.
     of, next_part = 2 * most + network.nodes * program.last_pulse(network), PART
     for entry in player.entries(policy):
@@ -84,16 +85,14 @@ def played(call: RunCall, network: Network, program: Program, tell: Tell) -> tup
     )
 
 
-def first_steps(
-    steps: str, net: Network, program: Program
-) -> Iterator[tuple[str, int, int | None]]:
-    """(kind, vertex, port) of the events that steps of somebody's come to."""
+def first_steps(steps: str, net: Network, program: Program) -> Iterator[Event]:
+    """The events that steps of somebody's come to."""
     if not steps:
         return  # even the greetings are the policy's, as `forestlab simulate` plays them
     stepwise = Stepwise(net, program)
     stepwise.follow(steps.split("_"))
-    for _, kind, v, port, _ in events_of("\n".join(stepwise.lines), "the steps"):
-        yield kind, v, port
+    for _, event in events_of("\n".join(stepwise.lines), "the steps"):
+        yield event
 
 
 def run_part(found: Run) -> RunPart:
@@ -159,7 +158,9 @@ def singled_out(call: RunCall, network: Network) -> str | None:
     if call.transcript or call.how == "threads" or call.policy is None:
         return None
     of = Policy(call.policy, network.vertices, network.edges, call.seed).chosen
-    return of and (f"node {of}" if isinstance(of, int) else "the link {}–{}".format(*of))
+    if of is None:
+        return None
+    return f"node {of}" if isinstance(of, int) else "the link {}–{}".format(*of)
 
 
 def compared(

@@ -4,12 +4,14 @@ A transcript of edition 1 has the entries of each node in that node's own order,
 between nodes. This program looks for an order of all entries that is a run, and demands that the run is whole. One
 of edition 2 or 3 has an order, and stamps."""
 from collections import deque
+from dataclasses import replace
 
+from lab.definitions.events import PUT, Entry, Message
 from lab.definitions.nodes import COLOURING, NetState, Refused, make
 from lab.definitions.program import Program
 from lab.network import Network
 from lab.transcripts.fields import fields_of
-from lab.transcripts.reading import Entry, Wrong, read_to_fault
+from lab.transcripts.reading import Wrong, read_to_fault
 from lab.transcripts.stamps import Clock, check_whole, refusal, unfinished
 
 
@@ -25,7 +27,7 @@ class Found:
         self.left: dict[int, deque[Entry]] = {}
         self.refusals: dict[int, str] = {}
         for entry in entries:
-            self.left.setdefault(entry.vertex, deque()).append(entry)
+            self.left.setdefault(entry.node, deque()).append(entry)
 
     def make_next(self, v: int) -> None:
         """Makes the next entry of a node of which none was refused, if that is possible with what it says."""
@@ -35,13 +37,11 @@ class Found:
         except Refused as refused:
             self.refusals[v] = str(refused)
             return
-        stamp, last = (
-            self.clock.next(entry.kind, v, entry.neighbour),
-            self.made[-1] if self.made else entry,
-        )
+        stamp = self.clock.next(entry.kind, v, entry.neighbour)
+        last = self.made[-1] if self.made else entry
         if not self.is_stamped:
-            entry.stamp = stamp
-        elif entry.stamp != stamp or (last.stamp or 0, last.vertex) > (stamp, v):
+            entry = replace(entry, stamp=stamp)
+        elif entry.stamp != stamp or (last.stamp or 0, last.node) > (stamp, v):
             self.refusals[v] = "WrongStamp"
             return
         self.left[v].popleft()
@@ -61,7 +61,7 @@ class Found:
 
     def waits(self, entry: Entry) -> bool:
         """Whether others could still make it possible."""
-        return self.refusals[entry.vertex] == "LinkEmpty" and not self.is_stamped
+        return self.refusals[entry.node] == "LinkEmpty" and not self.is_stamped
 
     def wrong(self, fault: Wrong | None = None) -> Wrong | None:
         """What is wrong first, if something is: `fault` is that of a line after the entries, which comes before an
@@ -69,7 +69,7 @@ class Found:
         entry = self.first_refused()
         if entry is None or fault and self.waits(entry):
             return fault
-        return refusal(self.state, entry, self.refusals[entry.vertex], self.entries, self.clock)
+        return refusal(self.state, entry, self.refusals[entry.node], self.entries, self.clock)
 
     def is_whole(self) -> bool:
         return not self.refusals and not any(unfinished(self.state))
@@ -92,8 +92,8 @@ def find_order(net: Network, entries: list[Entry], program: Program = COLOURING)
     found = Found(net, entries, program)
     if found.is_stamped:
         for entry in entries:
-            if entry.vertex not in found.refusals:
-                found.make_next(entry.vertex)
+            if entry.node not in found.refusals:
+                found.make_next(entry.node)
         return found
     left, refusals, work = found.left, found.refusals, sorted(found.left, reverse=True)
     while work:
@@ -103,7 +103,7 @@ def find_order(net: Network, entries: list[Entry], program: Program = COLOURING)
             entry = left[v][0]
             found.make_next(v)
             w = entry.neighbour
-            if w is None or entry.kind != "Put" or refusals.get(w) != "LinkEmpty":
+            if w is None or entry.kind is not PUT or refusals.get(w) != "LinkEmpty":
                 continue
             if left[w][0].neighbour == v:
                 work.append(w)
@@ -128,9 +128,9 @@ def whole_run(net: Network, text: bytes, program: Program = COLOURING) -> tuple[
 def verdict(net: Network, entries: list[Entry]) -> str:
     """Of a whole run: each wire is put once."""
     puts = [
-        entry.what for entry in entries if isinstance(entry.what, tuple) and entry.kind == "Put"
+        entry.what for entry in entries if entry.kind is PUT and isinstance(entry.what, Message)
     ]
-    payloads = sum(wire[0] == "Payload" for wire in puts)
+    payloads = sum(wire.word == "payload" for wire in puts)
     return f"whole run of {net.nodes} nodes, {len(entries)} entries, {payloads} payloads, {len(puts)} wires"
 
 

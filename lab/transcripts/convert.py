@@ -2,10 +2,9 @@
 import json
 from collections import deque
 from collections.abc import Iterator
-from typing import Any
 
-from lab.definitions.nodes import wire_words
-from lab.transcripts.reading import Entry, Head, Wrong, read
+from lab.definitions.events import PUT, TAKE, Entry, Message
+from lab.transcripts.reading import Head, Wrong, read
 
 Made = list[tuple[Entry, Entry | None]]
 
@@ -20,19 +19,19 @@ def entries_of(text: bytes) -> tuple[Head, Made]:
             "edition 1 has no order of all entries: only editions 2 and 3 are written in "
             "other forms",
         )
-    links: dict[tuple, deque[Entry]] = {}
+    links: dict[tuple[int | None, int | None], deque[Entry]] = {}
     found = []
     for entry in entries:
         put = None
-        if entry.kind == "Put":
-            links.setdefault((entry.vertex, entry.neighbour), deque()).append(entry)
-        elif entry.kind == "Take":
-            link = links.get((entry.neighbour, entry.vertex))
+        if entry.kind is PUT:
+            links.setdefault((entry.node, entry.neighbour), deque()).append(entry)
+        elif entry.kind is TAKE:
+            link = links.get((entry.neighbour, entry.node))
             if not link:
                 raise Wrong(
                     entry.line,
                     "LinkEmpty",
-                    f"node {entry.vertex} takes what {entry.neighbour} hasn't put",
+                    f"node {entry.node} takes what {entry.neighbour} hasn't put",
                 )
             put = link.popleft()
         found.append((entry, put))
@@ -43,19 +42,18 @@ def as_json(head: Head, entries: Made) -> Iterator[str]:
     named = {"program": head.program} if head.program else {}
     yield json.dumps({"edition": head.edition, "nodes": head.nodes} | named)
     for entry, put in entries:
-        row: dict[str, Any] = {
+        row: dict[str, object] = {
             "line": entry.line,
             "stamp": entry.stamp,
-            "node": entry.vertex,
-            "kind": entry.kind.lower(),
+            "node": entry.node,
+            "kind": entry.kind.value,
         }
-        if isinstance(entry.what, int):
-            row["pulse"] = entry.what
-        else:
-            kind, *more = entry.what
-            row |= {"neighbour": entry.neighbour, "wire": kind.lower()}
-            row |= {"pulse": more[0]} if more else {}
-            row |= {"word": more[1][0].lower(), "number": more[1][1]} if kind == "Payload" else {}
+        match entry.what:
+            case Message(word, fields):
+                row |= {"neighbour": entry.neighbour, "wire": word}
+                row |= dict(zip(("pulse", "word", "number"), fields))
+            case pulse:
+                row["pulse"] = pulse
         if put:
             row["put"] = put.line
         yield json.dumps(row)
@@ -66,21 +64,21 @@ def as_shiviz(_: Head, entries: Made) -> Iterator[str]:
     clocks: dict[int, dict[int, int]] = {}
     carried: dict[int | None, dict[int, int]] = {}
     for entry, put in entries:
-        own = clocks.setdefault(entry.vertex, {})
-        own[entry.vertex] = own.get(entry.vertex, 0) + 1
+        own = clocks.setdefault(entry.node, {})
+        own[entry.node] = own.get(entry.node, 0) + 1
         if put:
             for v, count in carried.pop(put.line).items():
                 own[v] = max(own.get(v, 0), count)
-        if entry.kind == "Put":
+        if entry.kind is PUT:
             carried[entry.line] = dict(own)
-        yield f"node{entry.vertex} " + json.dumps(
+        yield f"node{entry.node} " + json.dumps(
             {f"node{v}": count for v, count in sorted(own.items())}
         )
-        if isinstance(entry.what, int):
+        if entry.neighbour is None:
             yield f"pulse {entry.what}"
         else:
-            way = "to" if entry.kind == "Put" else "from"
-            yield f"{entry.kind.lower()} {wire_words(entry.what)} {way} {entry.neighbour}"
+            way = "to" if entry.kind is PUT else "from"
+            yield f"{entry.kind.value} {entry.what} {way} {entry.neighbour}"
 
 
 FORMS = {"json": as_json, "shiviz": as_shiviz}

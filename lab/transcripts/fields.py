@@ -1,6 +1,7 @@
 """The fields of a transcript: the words of payloads, and numbers within their bounds. What is none raises `NoEntry`."""
 import functools
 
+from lab.definitions.events import CLOSE, Message, ack, safe
 
 # The words of the payloads of each proved program, and the bound of each one's number; those that go on after the
 # colouring have its words, too. Another program's payloads have any word of small letters.
@@ -15,6 +16,10 @@ PAYLOADS = {
 }
 COLOURING = "colouring"
 WIRES = "`payload P WORD NUMBER`, `ack P`, `safe P` and `close`"
+
+
+# No number has more; a longer one takes quadratic time to read.
+MOST_DIGITS = len(str(2**128))
 
 
 class NoEntry(ValueError):
@@ -60,7 +65,7 @@ def bound_of(program: str, word: bytes) -> int:
 @functools.lru_cache(maxsize=2**16)
 def number(field: bytes, what: str, bound: int = 2**32) -> int:
     digits = field.lstrip(b"0") or field[-1:]
-    if not digits.isdigit() or len(digits) > len(str(bound)) or int(digits) >= bound:
+    if not digits.isdigit() or len(digits) > MOST_DIGITS or int(digits) >= bound:
         raise NoEntry(
             f"{field_words(field)} is no number of a {what}, which is below 2^{bound.bit_length() - 1}"
         )
@@ -68,18 +73,19 @@ def number(field: bytes, what: str, bound: int = 2**32) -> int:
 
 
 @functools.lru_cache(maxsize=2**16)
-def wire_of(program: str, *fields: bytes) -> tuple:
-    """A wire as lab/definitions/nodes.py has it, with a payload of the program."""
+def wire_of(program: str, *fields: bytes) -> Message:
+    """A wire, with a payload of the program."""
     match fields:
         case [b"payload", pulse, word, of_word]:
-            payload = word.decode("latin-1").title(), number(
-                of_word, word.decode("latin-1"), bound_of(program, word)
-            )
-            return "Payload", number(pulse, "pulse"), payload
-        case [b"ack" | b"safe" as kind, pulse]:
-            return kind.decode().title(), number(pulse, "pulse")
+            name = word.decode("latin-1")
+            of_payload = number(of_word, name, bound_of(program, word))
+            return Message("payload", (number(pulse, "pulse"), name, of_payload))
+        case [b"ack", pulse]:
+            return ack(number(pulse, "pulse"))
+        case [b"safe", pulse]:
+            return safe(number(pulse, "pulse"))
         case [b"close"]:
-            return ("Close",)
+            return CLOSE
     raise NoEntry(f"{field_words(b' '.join(fields))} is no wire, which are {WIRES}")
 
 

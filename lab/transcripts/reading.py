@@ -1,10 +1,9 @@
 """The reading of transcripts of all editions. It is written from the pages in docs/ alone."""
 import contextlib
-from dataclasses import dataclass
 from typing import NamedTuple
 
 from lab import wrong
-from lab.definitions.nodes import wire_words
+from lab.definitions.events import PULSE, PUT, TAKE, Entry
 from lab.transcripts.fields import (
     COLOURING,
     NoEntry,
@@ -17,19 +16,8 @@ from lab.transcripts.fields import (
 
 # What begins the lines of a network.
 NETWORK = (b"p", b"c", b"e", b"i", b"b")
-
-
-@dataclass(slots=True)
-class Entry:
-    """`kind` is Pulse, Put or Take; `what` is the number of the pulse, or the wire, as lab/definitions/nodes.py has it.
-    A pulse has no neighbour. Edition 1 has no `stamp`, until an order is found."""
-
-    line: int
-    vertex: int
-    kind: str
-    neighbour: int | None
-    what: int | tuple
-    stamp: int | None = None
+# The kinds of the entries that name a wire.
+OF_WIRES = {b"put": PUT, b"take": TAKE}
 
 
 class Head(NamedTuple):
@@ -63,10 +51,11 @@ def entry_of(line: int, fields: list[bytes], program: str, is_stamped: bool = Fa
     stamp, own = (number(fields[0], "stamp", 2**64), fields[1:]) if is_stamped else (None, fields)
     match own:
         case [vertex, b"pulse", pulse]:
-            return Entry(line, number(vertex, "node"), "Pulse", None, number(pulse, "pulse"), stamp)
+            v = number(vertex, "node")
+            return Entry(line, v, PULSE, None, number(pulse, "pulse"), stamp)
         case [vertex, b"put" | b"take" as kind, neighbour, *of_wire] if of_wire:
             v, w = number(vertex, "node"), number(neighbour, "neighbour")
-            return Entry(line, v, kind.decode().title(), w, wire_of(program, *of_wire), stamp)
+            return Entry(line, v, OF_WIRES[kind], w, wire_of(program, *of_wire), stamp)
     after = " after its stamp" if is_stamped else ""
     raise NoEntry(
         f"{field_words(b' '.join(own))}{after} is neither `V pulse P`, `V put W WIRE` nor `V take W WIRE`"
@@ -141,14 +130,14 @@ def advice(field: bytes) -> str:
 
 def line_of(entry: Entry) -> str:
     """An entry as a transcript has it, without its stamp."""
-    if isinstance(entry.what, int):
-        return f"{entry.vertex} pulse {entry.what}"
-    return f"{entry.vertex} {entry.kind.lower()} {entry.neighbour} {wire_words(entry.what)}"
+    if entry.neighbour is None:
+        return f"{entry.node} {entry.kind.value} {entry.what}"
+    return f"{entry.node} {entry.kind.value} {entry.neighbour} {entry.what}"
 
 
 def words(entry: Entry) -> str:
     """An entry in words."""
-    if isinstance(entry.what, int):
-        return f"node {entry.vertex} makes pulse {entry.what}"
-    way = "for" if entry.kind == "Put" else "from"
-    return f"node {entry.vertex} {entry.kind.lower()}s {wire_words(entry.what)} {way} {entry.neighbour}"
+    if entry.neighbour is None:
+        return f"node {entry.node} makes pulse {entry.what}"
+    way = "for" if entry.kind is PUT else "from"
+    return f"node {entry.node} {entry.kind.value}s {entry.what} {way} {entry.neighbour}"

@@ -2,8 +2,9 @@
 from collections import deque
 from collections.abc import Iterable, Iterator
 
-from lab.definitions.nodes import NetState, Wire, event_of, lacks_of, wire_words
-from lab.transcripts.reading import Entry, Head, Wrong, words
+from lab.definitions.events import PULSE, PUT, TAKE, Entry, Kind
+from lab.definitions.nodes import NetState, event_of, lacks_of
+from lab.transcripts.reading import Head, Wrong, words
 from lab.transcripts.rules import Standing, rule_of, stuck_words
 
 
@@ -14,14 +15,14 @@ class Clock:
         self.counters = dict.fromkeys(vertices, 0)
         self.links: dict[tuple[int | None, int | None], deque[int]] = {}
 
-    def next(self, kind: str, v: int, neighbour: int | None) -> int:
+    def next(self, kind: Kind, v: int, neighbour: int | None) -> int:
         """The stamp of the next entry of v: one more than the counter, and of a take also than the stamp of the
         put."""
         stamp = self.counters[v]
-        if kind == "Take":
+        if kind is TAKE:
             stamp = max(stamp, self.links[neighbour, v].popleft())
         self.counters[v] = stamp + 1
-        if kind == "Put":
+        if kind is PUT:
             self.links.setdefault((v, neighbour), deque()).append(stamp + 1)
         return stamp + 1
 
@@ -42,9 +43,7 @@ def check_whole(state: NetState, last: Entry | Head) -> None:
 def standing(state: NetState, v: int) -> Standing:
     """Where a node is, for the words on its next entry."""
     node = state.nodes[v]
-    puts = {
-        w: wire_words(port.out[0]) for w, port in zip(state.neighbours[v], node.ports) if port.out
-    }
+    puts = {w: str(port.out[0]) for w, port in zip(state.neighbours[v], node.ports) if port.out}
     is_at_the_end = node.pulse_number == node.last
     lacks = ([], []) if is_at_the_end or node.may_act() else lacks_of(state, v)
     return Standing(node.pulse_number, node.last, node.may_act(), *lacks, puts, "for {}")
@@ -63,39 +62,31 @@ def refusal(state: NetState, entry: Entry, code: str, entries: list[Entry], cloc
     said = words(entry) + LACKED.get(code, "")
     if code == "NoSuch":
         return Wrong(entry.line, code, said)
-    at = standing(state, entry.vertex)
+    at = standing(state, entry.node)
     if code == "NotReady" and at.lacks:
         said += f", but it lacks {at.lacks}"
     elif code == "WrongWire":
-        due = state.carried(*event_of(state, entry))
-        said += f", but the next one there is {what_words(due)}"
+        said += f", but the next one there is {state.carried(event_of(state, entry))}"
     elif code == "LinkEmpty":
         said += why_link_empty(entry, entries)
     elif code == "WrongStamp":
-        due, why = clock.counters[entry.vertex], "entries ascend by stamp, and then by node"
+        due, why = clock.counters[entry.node], "entries ascend by stamp, and then by node"
         if entry.stamp != due:
             why = f"the clock there gives {due}"
         said += f" with stamp {entry.stamp}, but {why}"
-    if code in ("NotReady", "NothingToPut", "WrongWire") and entry.kind != "Take":
-        what = "pulse" if entry.kind == "Pulse" else f"put {entry.neighbour}"
-        what += f" {what_words(entry.what)}"
-        said += f"; {rule_of(at, what, says_lacks=False)}"
+    if code in ("NotReady", "NothingToPut", "WrongWire") and entry.kind is not TAKE:
+        what = "pulse" if entry.kind is PULSE else f"put {entry.neighbour}"
+        said += f"; {rule_of(at, f'{what} {entry.what}', says_lacks=False)}"
     return Wrong(entry.line, code, said)
-
-
-def what_words(what: int | Wire) -> str:
-    """What an event carries: a pulse, or a wire."""
-    return str(what) if isinstance(what, int) else wire_words(what)
 
 
 def why_link_empty(entry: Entry, entries: list[Entry]) -> str:
     """Of a wire that isn't there: where it is put, or that it never is."""
-    link = entry.neighbour, entry.vertex
+    link = entry.neighbour, entry.node
     taken = sum(
-        e.kind == "Take" and (e.neighbour, e.vertex) == link and e.line < entry.line
-        for e in entries
+        e.kind is TAKE and (e.neighbour, e.node) == link and e.line < entry.line for e in entries
     )
-    puts = [e for e in entries if e.kind == "Put" and (e.vertex, e.neighbour) == link][taken:]
+    puts = [e for e in entries if e.kind is PUT and (e.node, e.neighbour) == link][taken:]
     put = next((e for e in puts if e.what == entry.what), None)
     if put:
         return f"; it is put in line {put.line}, which can't have come before"
@@ -109,6 +100,6 @@ def unfinished(state: NetState) -> Iterator[tuple[int, str]]:
             yield v, f"node {v} is at pulse {node.pulse_number} of {node.last}"
     for (v, w), port in state.port_to.items():
         for wire in state.nodes[v].ports[port].out:
-            yield v, f"node {v} hasn't put {wire_words(wire)} for {w}"
+            yield v, f"node {v} hasn't put {wire} for {w}"
         for wire in state.link[v, port]:
-            yield w, f"node {w} hasn't taken {wire_words(wire)} from {v}"
+            yield w, f"node {w} hasn't taken {wire} from {v}"

@@ -3,6 +3,7 @@ make is written down with Lamport's stamps, and `forestplay replay` judges it.""
 from collections import deque
 from typing import NamedTuple
 
+from lab.definitions.events import Kind
 from lab.networks.texts import plain_text
 from lab.schedules.policies import Policy, Step
 from lab.transcripts.fields import first_line
@@ -29,7 +30,7 @@ class Link(Step):
     has them, the stamp of its put, and how many puts there were, up to it."""
 
     def __init__(self, v: int, w: int) -> None:
-        super().__init__("take", w, v)
+        super().__init__(Kind.TAKE, w, v)
         self.wires: deque[tuple[str, int, int]] = deque()
 
     def renew(self) -> None:

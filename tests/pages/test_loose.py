@@ -10,7 +10,6 @@ from tests.cases import FilesCase
 FOLDERS = ("lab", "build", "tests")
 # By the file: how many places it has, and the reason.
 LOOSE = {
-    "lab/definitions/nodes.py": (3, "an entry comes from a package above"),
     "lab/networks/networkx_graph.py": (1, "what networkx keeps of a node, which has no hints"),
     "lab/pictures/page/marks.js": (
         1,
@@ -26,7 +25,6 @@ LOOSE = {
     "lab/studio/connections.py": (2, "an address and a place for bytes, as sockets have them"),
     "lab/studio/page/address.js": (1, "the values of an address, each of its own type"),
     "lab/studio/serving.py": (2, "a request and an address, as socketserver has them"),
-    "lab/transcripts/convert.py": (1, "a row of JSON"),
     "tests/pages/test_reads.py": (1, "one method stands for three of a visitor"),
 }
 

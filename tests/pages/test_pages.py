@@ -13,6 +13,7 @@ import os
 import re
 
 from lab.definitions.colours import colours
+from lab.definitions.events import Event, Kind, Message
 from lab.definitions.nodes import DROPPED, NetState, last_pulse, text_of_wire
 from lab.definitions.rounds import Rounds
 from lab.networks.network_text import network_of
@@ -54,8 +55,8 @@ def played(net, rows):
     for row in rows[2:]:
         wires = []
         for kind, v, _, port in re.findall(r"(Pulse|Put|Take)\((\d+)(,(\d+))?\)", row[1]):
-            wire = state.step(kind, int(v), int(port) if port else None)
-            wires += [f"`{text_of_wire(wire)}`"] if isinstance(wire, tuple) else []
+            wire = state.step(Event(Kind(kind.lower()), int(v), int(port) if port else None))
+            wires += [f"`{text_of_wire(wire)}`"] if isinstance(wire, Message) else []
         pulses = ", ".join(str(node.pulse_number) for _, node in sorted(state.nodes.items()))
         wanted.append([row[1], " ".join(wires), pulses])
     return wanted

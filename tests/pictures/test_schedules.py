@@ -19,7 +19,7 @@ NETWORKS = {name: example(name) for name in ("two", "path", "triangle")}
 
 @functools.cache
 def space_of(name, without=(), program=COLOURING):
-    return Space(network_of(NETWORKS[name]), without, program=program)
+    return Space(network_of(NETWORKS[name]), without, program=program).search()
 
 
 def columns_of(root, mark):

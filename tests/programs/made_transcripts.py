@@ -1,8 +1,9 @@
 """The run of one worker by the definitions (lab/definitions/nodes.py).
 
-A run is held as its entries (lab/transcripts/reading.py), in the order in which they were made."""
+A run is held as its entries (lab/definitions/events.py), in the order in which they were made."""
 from collections import deque
 
+from lab.definitions.events import Event, Kind
 from lab.definitions.nodes import COLOURING
 from lab.schedules.simulate import Player, text_of_run
 from lab.transcripts.reading import line_of
@@ -20,12 +21,12 @@ def turn(state, v, capacity):
             has_all = other.closed or other.safe and not other.waits
             if taken and has_all or not can_take(state, v, port):
                 break
-            yield "take", v, port
+            yield Event(Kind.TAKE, v, port)
     if node.may_act():
-        yield "pulse", v
+        yield Event(Kind.PULSE, v)
     for port, other in enumerate(node.ports):
         while other.out and len(state.link[v, port]) < capacity:
-            yield "put", v, port
+            yield Event(Kind.PUT, v, port)
 
 
 def can_take(state, v, port):
@@ -34,7 +35,7 @@ def can_take(state, v, port):
 
 def transcript_text(nodes, entries):
     """As the program writes edition 1: the vertices ascend."""
-    lines = [line_of(entry) for entry in sorted(entries, key=lambda entry: entry.vertex)]
+    lines = [line_of(entry) for entry in sorted(entries, key=lambda entry: entry.node)]
     return "".join(line + "\n" for line in [f"transcript 1 {nodes}", *lines]).encode()
 
 
@@ -59,7 +60,7 @@ class Run:
         while pool:
             self.looks, v = self.looks + 1, pool.popleft()
             for event in turn(state, v, capacity):
-                self.player.make(*event)
+                self.player.make(event)
             if not state.nodes[v].drained():
                 pool.append(v)
 

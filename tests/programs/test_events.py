@@ -42,11 +42,6 @@ REPLAYED = [
 ]
 
 
-def words_of(event):
-    """An event as a list has it."""
-    return " ".join(str(word) for word in event if word is not None).lower()
-
-
 @needs("forestplay", "forestplay.by-rattle")
 class Events(Case):
     def test_worked(self):

@@ -3,7 +3,7 @@ docs/claim/DEFINITIONS.md ("The 96 cells" and "Refusals of the colouring"), whic
 import copy
 
 from lab.definitions.nodes import COLOURING, Colouring
-from lab.definitions.program import Slot, synchronous_pulses
+from lab.definitions.program import Payload, Slot, synchronous_pulses
 from lab.networks.network_text import network_of
 from lab.schedules.ruled_node import inbox_refused
 from tests.cases import Case, text
@@ -12,14 +12,14 @@ from tests.cases import Case, text
 ROW = network_of(text("p edge 3 2|e 1 2|e 2 3|"))
 CHILD, PARENT = 0, 1
 LAST = 12 + 3 * 1 * 3
-# A value of each kind that nobody refuses for itself.
-KINDS = {"Hello": 9, "Label": 0, "Colour": 0, "Chosen": 0}
-# The kind that is due in a phase, from ports of which roles, and from which of them it may not be missing.
+# A number for each word that nobody refuses for itself.
+WORDS = {"hello": 9, "label": 0, "colour": 0, "chosen": 0}
+# The word that is due in a phase, from ports of which roles, and from which of them it may not be missing.
 DUE: dict[str, tuple[str, set[str], set[str]]] = {
-    "Orient": ("Hello", {"Unknown"}, {"Unknown"}),
-    "Seed": ("Label", {"Unknown"}, {"Unknown"}),
-    "Step": ("Colour", {"Up"}, {"Up"}),
-    "Merge": ("Chosen", {"Up", "Down"}, set()),
+    "Orient": ("hello", {"Unknown"}, {"Unknown"}),
+    "Seed": ("label", {"Unknown"}, {"Unknown"}),
+    "Step": ("colour", {"Up"}, {"Up"}),
+    "Merge": ("chosen", {"Up", "Down"}, set()),
 }
 # The greatest colour of the parent: of the bit steps by pulse, and of a shift and a drop the class that is dropped.
 GREATEST = {4: 255, 5: 15, 6: 7, 7: 5, 8: 5, 9: 4, 10: 4, 11: 3, 12: 3}
@@ -73,9 +73,11 @@ class RefusedInboxes(Case):
             is_open = pulse != FIRST_MERGE
             for port, slot in enumerate(inbox):
                 wanted = [due] if role_of(pulse, port) in roles and is_open else []
-                values = KINDS | ({slot[0]: slot[1]} if slot else {})
+                values = WORDS | ({slot.word: slot.number} if slot else {})
                 found = [
-                    kind for kind in KINDS if not self.refuses(pulse, port, (kind, values[kind]))
+                    word
+                    for word in WORDS
+                    if not self.refuses(pulse, port, Payload(word, values[word]))
                 ]
                 self.same(f"pulse {pulse}: what may come by port {port}", found, wanted)
 
@@ -89,14 +91,16 @@ class RefusedInboxes(Case):
 
     def test_identifiers(self):
         for number, is_refused in ((1, True), (2, True), (4, False), (0, False)):
-            found = self.refuses(1, PARENT, ("Hello", number))
+            found = self.refuses(1, PARENT, Payload("hello", number))
             self.same(f"{number} comes to node 2 beside 1", found, is_refused)
         node, _ = self.before[1]
-        higher = inbox_refused(node, 1, [("Hello", 3), ("Hello", 4)])
+        higher = inbox_refused(node, 1, [Payload("hello", 3), Payload("hello", 4)])
         self.assertTrue(higher, "two identifiers are higher than its own, and there is one forest")
 
     def test_labels(self):
-        found = [forest for forest in range(3) if not self.refuses(2, CHILD, ("Label", forest))]
+        found = [
+            forest for forest in range(3) if not self.refuses(2, CHILD, Payload("label", forest))
+        ]
         self.assertEqual(found, [0])
 
     def test_colours(self):
@@ -105,11 +109,15 @@ class RefusedInboxes(Case):
             wanted = [colour for colour in range(greatest + 1) if colour != own]
             colours = [*range(greatest + 3), 2**64, 2**128 - 1]
             found = [
-                colour for colour in colours if not self.refuses(pulse, PARENT, ("Colour", colour))
+                colour
+                for colour in colours
+                if not self.refuses(pulse, PARENT, Payload("colour", colour))
             ]
             self.same(f"pulse {pulse}: colours of the parent", found, wanted)
         found = [
-            colour for colour in (1, 2, 3, 2**127) if self.refuses(3, PARENT, ("Colour", colour))
+            colour
+            for colour in (1, 2, 3, 2**127)
+            if self.refuses(3, PARENT, Payload("colour", colour))
         ]
         self.same("pulse 3: its own identifier", found, [2])
 
@@ -118,7 +126,7 @@ class RefusedInboxes(Case):
         for pulse in range(3, 13):
             node, inbox = copy.deepcopy(self.before[pulse])
             # Its parent's colour is another one, and there can be such a one.
-            slots = [None, ("Colour", 0)]
+            slots = [None, Payload("colour", 0)]
             node.colours = [GREATEST.get(pulse, 255) + 1]
             found = inbox_refused(node, pulse, slots)
             self.same(f"pulse {pulse}: a colour of its own that is too great", found, pulse >= 7)
@@ -126,14 +134,14 @@ class RefusedInboxes(Case):
     def test_choices(self):
         """Of Δ + B = 2 the choices are 0 to 2; and whose turn it is needs one that is free."""
         for pulse in range(FIRST_MERGE + 1, LAST + 1):
-            found = [c for c in range(5) if not self.refuses(pulse, CHILD, ("Chosen", c))]
+            found = [c for c in range(5) if not self.refuses(pulse, CHILD, Payload("chosen", c))]
             self.same(f"pulse {pulse}: choices", found, [0, 1, 2])
         for step in range(1, LAST + 1 - FIRST_MERGE):
             pulse = FIRST_MERGE + step
             node, _ = copy.deepcopy(self.before[pulse])
             has_turn = (node.colours[0], node.old) == divmod(step, 3)
             node.chosen = {0}
-            slots: list[Slot] = [("Chosen", 1), ("Chosen", 2)]
+            slots: list[Slot] = [Payload("chosen", 1), Payload("chosen", 2)]
             self.same(f"pulse {pulse}: none is free", inbox_refused(node, pulse, slots), has_turn)
             node.chosen = set()
             self.same(f"pulse {pulse}: 0 is free", inbox_refused(node, pulse, slots), False)

@@ -8,6 +8,7 @@ import random
 import re
 
 from lab.definitions.colours import colours
+from lab.definitions.events import Event, Kind
 from lab.definitions.nodes import NetState, last_pulse
 from lab.network import Network
 from lab.networks.network_text import network_of
@@ -16,7 +17,6 @@ from lab.schedules.explore import rounded
 from lab.schedules.space import Space
 from tests import TOP
 from tests.cases import Case, called, found_in, said_by, text_in
-from tests.programs.test_events import words_of
 from tests.programs.test_plain_networks import networks_by_chance, payloads_of
 from tests.settings import PLAY
 from tests.tools import needs
@@ -63,13 +63,16 @@ def put_all(state):
     """Makes all puts that are possible."""
     for (v, _), port in state.port_to.items():
         while state.nodes[v].ports[port].out:
-            state.step("Put", v, port)
+            state.step(Event(Kind.PUT, v, port))
 
 
 def links_of(space, s):
     """The wires on each link in a state."""
     state = space.states[s]
-    return {link: space.contents[state[space.slot[link]]] for link in space.links}
+    return {
+        link: tuple(space.wires[number] for number in space.contents[state[space.slot[link]]])
+        for link in space.links
+    }
 
 
 def states_of(space, states):
@@ -170,7 +173,7 @@ def is_state(space, s, state):
     return (
         links_of(space, s) == wires
         and seen == {v: shown(state, v) for v in space.vertices}
-        and may == set(map(words_of, state.possible()))
+        and may == set(map(str, state.possible()))
     )
 
 
@@ -183,7 +186,7 @@ class Schedules(Case):
 
     def test_trials(self):
         for name, how, states, steps in TRIAL:
-            space = Space(net_of(name), limit=MOST, **how)
+            space = Space(net_of(name), limit=MOST, **how).search()
             self.same(
                 f"numbers of {name}, {how}", (space.count, len(space.target)), (states, steps)
             )
@@ -201,21 +204,22 @@ class Schedules(Case):
 
     def test_formulas(self):
         for name in ("alone", "apart", "barred"):
-            self.end_rows(name, Space(net_of(name), limit=MOST))
+            self.end_rows(name, Space(net_of(name), limit=MOST).search())
 
     def test_walks(self):
         """Random walks, each state beside the definitions."""
         source = random.Random(SEED)
         for name, count in (("two", 10), ("path", 10), ("triangle", 20)):
-            space = Space(net_of(name), limit=MOST)
+            space = Space(net_of(name), limit=MOST).search()
             for _ in range(count):
                 state, s, length = NetState(space.net), 0, source.randrange(0, 400)
                 events: list[str] = []
                 put_all(state)
                 is_right = is_state(space, s, state)
                 while is_right and space.steps(s) and len(events) < length:
-                    event, s = source.choice(space.steps(s))
-                    state.step(event.kind.title(), event.v, event.port)
+                    event, target = source.choice(space.steps(s))
+                    s = target or 0
+                    state.step(event)
                     put_all(state)
                     events.append(str(event))
                     is_right = is_state(space, s, state)
@@ -224,14 +228,14 @@ class Schedules(Case):
     def test_reduced(self):
         """With `reduce` the same goes wrong, and the ends are the same; its states are some of the whole search."""
         for net, without in REDUCED:
-            whole, less = (Space(net, without, MOST, reduce=it) for it in (False, True))
+            whole, less = (Space(net, without, MOST, reduce=it).search() for it in (False, True))
             name = f"{net.edges} without {without}"
             self.note(f"nothing goes wrong: {name}", not less.faults and not whole.faults)
             self.same(name, *(states_of(space, space.ends) for space in (less, whole)))
             some, of_all = (states_of(space, range(space.count)) for space in (less, whole))
             self.note(f"states of {name}", some < of_all, (len(some), len(of_all)))
         for without in (("early",), ("acks", "early")):
-            less = Space(net_of("two"), without, MOST, reduce=True)
+            less = Space(net_of("two"), without, MOST, reduce=True).search()
             self.note(f"what goes wrong is found: two without {without}", less.faults)
         # The triangle's counts by the help; and nothing of what it doesn't know.
         for words in ((), ("--reduce",)):
@@ -330,5 +334,5 @@ class Schedules(Case):
         )
         said = explored("--help")[1]
         self.note("explore --help", all(f"  {word} " in said for word in rules.ALL), said)
-        cut = Space(net_of("two"), limit=280)
+        cut = Space(net_of("two"), limit=280).search()
         self.note("more states than the limit", cut.is_cut and cut.expanded < cut.count, cut.count)

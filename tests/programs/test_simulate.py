@@ -6,6 +6,7 @@ import itertools
 import re
 
 from lab.definitions.colours import colours
+from lab.definitions.events import Event, Kind
 from lab.definitions.nodes import NetState, make
 from lab.networks.network_text import network_of
 from lab.schedules.policies import POLICIES
@@ -27,10 +28,10 @@ class Waits(Case):
         """By hand: node 2 puts its greeting third and its acknowledgement fourth, so node 1 can take since 3, and what
         was put on that link last is of 4."""
         player = Player(network_of(example("two")))
-        for event in (("put", 1, 0), ("take", 2, 0), ("put", 2, 0), ("put", 2, 0)):
-            player.make(*event)
+        for kind, node in ((Kind.PUT, 1), (Kind.TAKE, 2), (Kind.PUT, 2), (Kind.PUT, 2)):
+            player.make(Event(kind, node, 0))
         self.assertEqual(
-            [(step.kind, step.since, step.latest) for step in player.steps[1]], [("take", 3, 4)]
+            [(step.kind, step.since, step.latest) for step in player.steps[1]], [(Kind.TAKE, 3, 4)]
         )
 
     def test_how_far_what_waits_lets_others_run(self):
@@ -43,13 +44,13 @@ class Waits(Case):
             (
                 "a slow link",
                 played(net, seed="5", slow=[(2, 3)]),
-                lambda it: {it.vertex, it.neighbour} == {2, 3},
+                lambda it: {it.node, it.neighbour} == {2, 3},
                 [0, 0, 0, 0, 1, 2],
             ),
             (
                 "a lazy node",
                 played(net, seed="5", lazy=[5]),
-                lambda it: it.vertex == 5,
+                lambda it: it.node == 5,
                 [2, 1, 0, 0, 0, 0],
             ),
         ):

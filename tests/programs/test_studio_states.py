@@ -7,6 +7,7 @@ import re
 from collections import defaultdict
 from collections.abc import Iterator
 
+from lab.definitions.events import Kind, Message
 from lab.definitions.programs import PROGRAMS, program_at
 from lab.definitions.rounds import Rounds
 from lab.networks.network_text import network_of
@@ -74,8 +75,11 @@ def taken_by(player: Stepwise) -> dict[tuple[int, str, int], set[int]]:
     """By node, word and pulse: from whom it has taken such a wire, by the events of the run."""
     found: dict[tuple[int, str, int], set[int]] = defaultdict(set)
     for entry in player.made:
-        if entry.kind == "Take" and entry.what[0] in ("Ack", "Safe"):
-            found[entry.vertex, entry.what[0].lower(), entry.what[1]].add(entry.neighbour)
+        if entry.kind is not Kind.TAKE or entry.neighbour is None:
+            continue
+        match entry.what:
+            case Message("ack" | "safe" as word, (int(pulse),)):
+                found[entry.node, word, pulse].add(entry.neighbour)
     return found
 
 
@@ -111,7 +115,8 @@ class States(Case):
             sent = {
                 entry.neighbour
                 for entry in player.made
-                if (entry.vertex, entry.kind) == (v, "Put") and entry.what[:2] == ("Payload", p)
+                if (entry.node, entry.kind) == (v, Kind.PUT)
+                and str(entry.what).startswith(f"payload {p} ")
             }
             if "are acknowledged" in why:
                 self.note(f"{at}: acknowledgements", sent <= taken[v, "ack", p], taken)
@@ -122,10 +127,10 @@ class States(Case):
         if other.is_over or step == str(v):
             return
         waits, after = said_of(before, v)[0], said_of(other, v)[0]
-        entry = next(one for one in other.made[len(before.made) :] if one.kind != "Put")
+        entry = next(one for one in other.made[len(before.made) :] if one.kind is not Kind.PUT)
         came = set()
-        if entry.vertex == v and entry.kind == "Take":
-            came = {f"{entry.what[0].lower()} {entry.neighbour}"}
+        if entry.node == v and isinstance(entry.what, Message):
+            came = {f"{entry.what.word} {entry.neighbour}"}
         self.note(at, after <= waits and waits - after <= came, (waits, after, came))
 
     def test_every_rule_and_program(self) -> None:

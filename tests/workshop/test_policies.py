@@ -1,4 +1,5 @@
 """Each policy on steps of which it is plain by its rule which one it chooses."""
+from lab.definitions.events import Kind
 from lab.schedules.policies import POLICIES, Policy, Step
 from lab.workshop.cases import NETWORKS, cases_of
 from tests.cases import Case
@@ -7,10 +8,10 @@ from tests.workshop.base import options_of
 VERTICES, EDGES = [1, 2, 3], [(1, 2), (2, 3)]
 # Links 2-1, 1-2 and 2-3 hold wires, and node 3 can make a pulse: put first is the safe, last the second wire of 2-1.
 STEPS = [
-    Step("take", 1, 2, "ack", 3, 9),
-    Step("take", 2, 1, "safe", 1, 1),
-    Step("take", 3, 2, "payload", 4, 4),
-    Step("pulse", 3, 0, "", 2, 2),
+    Step(Kind.TAKE, 1, 2, "ack", 3, 9),
+    Step(Kind.TAKE, 2, 1, "safe", 1, 1),
+    Step(Kind.TAKE, 3, 2, "payload", 4, 4),
+    Step(Kind.PULSE, 3, 0, "", 2, 2),
 ]
 # By policy, which of the steps it chooses: of all, or by the edge or the node that the seed chose.
 RIGHT = {
@@ -43,7 +44,7 @@ class Policies(Case):
 
     def test_a_network_without_edges(self):
         """It has no slow link."""
-        step = Policy("slow-link", [1], [], "1").choose([Step("pulse", 1)])
+        step = Policy("slow-link", [1], [], "1").choose([Step(Kind.PULSE, 1)])
         self.same("the node", step.node, 1)
 
     def test_bursts_stay_on_a_link_and_turns_go_round(self):

@@ -1,0 +1,85 @@
+"""What nodes without a common clock do, and what they send each other, as the texts of docs/claim/FORMATS.md have it:
+messages, events, and the entries of a transcript.
+
+A message under synchroniser alpha is called a wire. It is `payload P WORD NUMBER`, which carries the payload `WORD
+NUMBER` of pulse P; `ack P`; `safe P`; or `close`."""
+from dataclasses import dataclass
+from enum import Enum
+from functools import cache
+
+
+class Kind(Enum):
+    """The kinds of events, each with its word."""
+
+    PULSE = "pulse"
+    PUT = "put"
+    TAKE = "take"
+
+    # Each kind is one object, and `Enum` computes its hash anew from its name each time.
+    __hash__ = object.__hash__
+
+
+# Before Python 3.12 `Kind.PUT` is looked up slowly, so what is called for each event uses these names.
+PULSE = Kind.PULSE
+PUT = Kind.PUT
+TAKE = Kind.TAKE
+
+
+@dataclass(frozen=True, slots=True)
+class Message:
+    """A word of small letters, and then numbers from 0 or such words."""
+
+    word: str
+    fields: tuple[int | str, ...] = ()
+
+    def __str__(self) -> str:
+        """The message as texts have it."""
+        return " ".join([self.word, *map(str, self.fields)])
+
+
+CLOSE = Message("close")
+
+
+@cache
+def ack(pulse: int) -> Message:
+    """The wire that acknowledges the payload of a pulse; of each pulse there is one, which many links hold."""
+    return Message("ack", (pulse,))
+
+
+@cache
+def safe(pulse: int) -> Message:
+    """The wire that says that all payloads of a pulse have been acknowledged."""
+    return Message("safe", (pulse,))
+
+
+@dataclass(frozen=True, slots=True)
+class Event:
+    """What the node `node` does: it makes its next pulse, and then `port` is None; or it puts a message on its link by
+    a port, or takes one from there. `message` is that message, where it is said. A take may overtake `place` messages,
+    if links don't keep their order."""
+
+    kind: Kind
+    node: int
+    port: int | None = None
+    message: Message | None = None
+    place: int = 0
+
+    def __str__(self) -> str:
+        """The event as `forestplay events` reads it."""
+        if self.port is None:
+            return f"{self.kind.value} {self.node}"
+        return f"{self.kind.value} {self.node} {self.port}"
+
+
+@dataclass(frozen=True, slots=True)
+class Entry:
+    """What a transcript says of an event, in one line: `what` is the number of the pulse, or the message that is put or
+    taken, and `neighbour` the node at the other end of its link; a pulse has none. Edition 1 has no `stamp`, until an
+    order is found."""
+
+    line: int
+    node: int
+    kind: Kind
+    neighbour: int | None
+    what: int | Message
+    stamp: int | None = None
