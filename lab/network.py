@@ -12,10 +12,10 @@ class Network:
     """The vertices from 1 to `nodes`, and the edges between them: `edges` has pairs, the lower vertex first, ascending,
     and `neighbours[v]` vertices, ascending.
 
-    `said[v]` is an identifier that v was given, below 2^128, and `identifiers[v]` that or v. `bars[v]` are the channels
-    from 1 that are barred at v, ascending, if some are; `barred[v]` are the same as colours from 0, a set of each
-    vertex. `names[v]` and `places[v]`, as (x, y) with y growing downwards, are there where they are known, and `name`
-    is what the network is called.
+    `given_identifiers[v]` is an identifier that v was given, below 2^128, and `identifiers[v]` that or v. `bars[v]` are
+    the channels from 1 that are barred at v, ascending, if some are; `barred[v]` are the same as colours from 0, a set
+    of each vertex. `names[v]` and `places[v]`, as (x, y) with y growing downwards, are there where they are known, and
+    `name` is what the network is called.
 
     `higher[v]` are the neighbours with a higher identifier, by ascending identifier: entry f is v's parent in forest f.
     `number[frozenset((v, w))]` is the forest of an edge. `span` is the greatest degree and the greatest number of bars
@@ -23,7 +23,7 @@ class Network:
 
     nodes: int
     edges: Collection[Edge]
-    said: Mapping[int, int] = field(default_factory=dict)
+    given_identifiers: Mapping[int, int] = field(default_factory=dict)
     bars: Mapping[int, Collection[int]] = field(default_factory=dict)
     names: Mapping[int, str] = field(default_factory=dict)
     places: Places = field(default_factory=dict)
@@ -36,7 +36,9 @@ class Network:
         for v, w in self.edges:
             self.neighbours[v].append(w)
             self.neighbours[w].append(v)
-        self.identifiers: dict[int, int] = {v: self.said.get(v, v) for v in self.vertices}
+        self.identifiers: dict[int, int] = {
+            v: self.given_identifiers.get(v, v) for v in self.vertices
+        }
         self.bars = {v: sorted(channels) for v, channels in sorted(self.bars.items()) if channels}
         self.greatest_degree = max(map(len, self.neighbours.values()), default=0)
         self.greatest_bars = max(map(len, self.bars.values()), default=0)

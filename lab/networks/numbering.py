@@ -13,8 +13,8 @@ from lab.networks.random_networks import shuffled
 Value = TypeVar("Value")
 
 
-def in_order(network: Network, order: Sequence[int], said: Mapping[int, int]) -> Network:
-    """The network of the vertices of `order` alone, in this order. `said` has their identifiers.
+def in_order(network: Network, order: Sequence[int], identifiers: Mapping[int, int]) -> Network:
+    """The network of the vertices of `order` alone, in this order. `identifiers` has theirs.
 
     >>> in_order(Network(3, [(1, 2), (2, 3)]), [3, 2], {}).names
     {1: '3', 2: '2'}
@@ -29,7 +29,7 @@ def in_order(network: Network, order: Sequence[int], said: Mapping[int, int]) ->
         network,
         nodes=len(order),
         edges=[(number[v], number[w]) for v, w in left],
-        said=kept(said),
+        given_identifiers=kept(identifiers),
         bars=kept(network.bars),
         names={new: network.names.get(old, str(old)) for old, new in number.items()},
         places=kept(network.places),
@@ -46,7 +46,9 @@ def renumbered(network: Network, seed: str | int) -> Network:
     Raises `Wrong` if an identifier that a line gives is the new number of another vertex.
     """
     order = shuffled(random.Random(seed), network.vertices)
-    return checked(in_order(network, order, network.said), f"{network.name}, numbered again")
+    return checked(
+        in_order(network, order, network.given_identifiers), f"{network.name}, numbered again"
+    )
 
 
 def near_each_other(network: Network) -> Network:

@@ -43,7 +43,7 @@ def listed_in(network: Network, path: str) -> Listed:
         edges=[(f"vertex {v}", names[v], names[w]) for v, w in network.edges],
         nodes={own: f"vertex {v}" for v, own in names.items()},
         places={names[v]: place for v, place in network.places.items() if v in names},
-        identifiers={names[v]: number for v, number in network.said.items()},
+        identifiers={names[v]: number for v, number in network.given_identifiers.items()},
         bars={names[v]: set(channels) for v, channels in network.bars.items()},
     )
 

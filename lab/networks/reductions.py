@@ -21,7 +21,7 @@ def smaller(network: Network) -> Iterator[tuple[Network, list[int]]]:
     """
     same = list(network.vertices)
     names = network.identifiers
-    own = replace(network, said=names, names={}, places={})
+    own = replace(network, given_identifiers=names, names={}, places={})
     for gone in same:
         yield without_vertex(network, gone)
     for edge in network.edges:
@@ -31,4 +31,4 @@ def smaller(network: Network) -> Iterator[tuple[Network, list[int]]]:
         yield replace(own, bars=bars), same
     small = {v: k for k, v in enumerate(sorted(same, key=names.__getitem__), 1)}
     if small != names:
-        yield replace(own, said=small), same
+        yield replace(own, given_identifiers=small), same

@@ -26,7 +26,9 @@ def plain_text(network: Network) -> str:
     e 1 2
     """
     lines = [f"p edge {network.nodes} {len(network.edges)}"]
-    lines += [f"i {v} {number}" for v, number in sorted(network.said.items()) if number != v]
+    lines += [
+        f"i {v} {number}" for v, number in sorted(network.given_identifiers.items()) if number != v
+    ]
     lines += [f"b {v} {channel}" for v, channels in network.bars.items() for channel in channels]
     lines += [f"e {v} {w}" for v, w in network.edges]
     return as_text(lines)

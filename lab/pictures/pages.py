@@ -36,7 +36,7 @@ def net_of(network: Network) -> Net:
         NetNode(
             x=round(places[v][0], 1),
             y=round(places[v][1], 1),
-            id=str(network.said.get(v, "")),
+            id=str(network.given_identifiers.get(v, "")),
             name=network.names.get(v, ""),
             bars=network.bars.get(v, []),
         )

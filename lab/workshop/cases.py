@@ -91,7 +91,7 @@ def varied(network: Network, chance: Random, program: str) -> Network:
             for v in vertices
             if chance.random() < 0.3
         }
-    return replace(network, said=dict(zip(vertices, names)), bars=bars)
+    return replace(network, given_identifiers=dict(zip(vertices, names)), bars=bars)
 
 
 def identifiers(own: list[int], how: str, chance: Random) -> list[int]:

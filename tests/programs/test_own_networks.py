@@ -80,7 +80,7 @@ def by_names(text):
     return {
         names[v]: (
             net.places.get(v),
-            net.said.get(v),
+            net.given_identifiers.get(v),
             net.bars.get(v),
             {names[w] for w in net.neighbours[v]},
         )
@@ -306,7 +306,7 @@ class OwnNetworks(Case):
             self.same(f"{words} by {seed}: whether neighbours are near", are_near, [True, False])
         small = large_network(random.Random(6), 999)
         written = network_of(self.written("read", "-", data=small))
-        self.same("999 nodes", written.said, network_of(small).said)
+        self.same("999 nodes", written.given_identifiers, network_of(small).given_identifiers)
 
     def told_of(self, data, *words):
         """{name: what} of the lines of `network tell`."""

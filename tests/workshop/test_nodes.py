@@ -41,7 +41,7 @@ NODES = {"rounds": ROUNDS, "alpha": ALPHA}
 RING = Network(
     5, [(1, 2), (2, 3), (3, 4), (1, 4)], {1: 40, 2: 1 << 100, 3: 1, 4: 7, 5: 2}, name="ring and one"
 )
-BARRED_RING = Network(5, RING.edges, RING.said, {1: [1], 4: [2]}, name="barred ring")
+BARRED_RING = Network(5, RING.edges, RING.given_identifiers, {1: [1], 4: [2]}, name="barred ring")
 # Its colour is 1, since 0 is barred, and 1 again. The last pulse is 14, two after those of the colouring.
 BARRED = Network(1, [], bars={1: [1]}, name="barred one")
 
