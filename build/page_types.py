@@ -58,7 +58,8 @@ NAMES = {kind: name for module in MODULES for kind, name in names_of(module).ite
 
 def type_of(hint: object) -> str:
     """What TypeScript calls a type."""
-    kind, within = get_origin(hint), get_args(hint)
+    kind = get_origin(hint)
+    within = get_args(hint)
     if kind is Annotated:
         return SIMPLE.get(within[1]) or type_of(within[0])
     if hint in NAMES or hint in SIMPLE:

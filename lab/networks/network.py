@@ -27,7 +27,8 @@ from lab.wrong import Wrong
 
 # Kilometres: less than the first no two sites are apart, and numbers of places have no such digits; no two places on
 # the earth are much more than the second apart.
-LEAST_REACH, MOST_REACH = 1e-6, 20_000
+LEAST_REACH = 1e-6
+MOST_REACH = 20_000
 # What is said of a large network.
 NEAR = "numbered again by breadth first search; nodes keep their identifiers, and so their channels"
 

@@ -11,6 +11,7 @@ nothing, and no place is above the limits that the linter doesn't have.
   module may call, and each method of a dataclass, has a hint for each parameter and its result."""
 
 import ast
+import os
 import pathlib
 import subprocess
 
@@ -20,6 +21,9 @@ from tests.tools import need
 
 FOLDERS = ("lab", "build", "tests", "bench", "examples")
 HINTED = ("network.py", "definitions/", "transcripts/", "networks/", "schedules/")
+# Here a statement gives one value to one name; in one line are swaps, whose values need the old ones, and these pairs.
+ONE_A_LINE = ("lab/networks/", "lab/workshop/", "lab/python/", "build/")
+PAIRS = {"v w", "x y", "xs ys", "north east"}
 MOST_WAYS, MOST_PARTS, MOST_LOOPS = 12, 4, 2
 
 FUNCTIONS = (ast.FunctionDef, ast.AsyncFunctionDef)
@@ -147,6 +151,18 @@ def hinted_of(tree):
             yield from (inner for inner in node.body if isinstance(inner, FUNCTIONS))
 
 
+def is_several(node):
+    """Whether a statement gives several values to as many names, none of which a later value needs."""
+    if not isinstance(node, ast.Assign) or not isinstance(node.value, ast.Tuple):
+        return False
+    if not isinstance(node.targets[0], ast.Tuple):
+        return False
+    names = [ast.unparse(name) for name in node.targets[0].elts]
+    read = [{ast.unparse(part) for part in ast.walk(value)} for value in node.value.elts]
+    needs = any(name in later for at, name in enumerate(names) for later in read[at + 1 :])
+    return not needs and " ".join(names) not in PAIRS
+
+
 def called(decorator):
     return getattr(getattr(decorator, "func", decorator), "id", "")
 
@@ -191,6 +207,13 @@ class Python(FilesCase):
                 for what in wrong_at(node)
             ]
             self.same(file, places, [])
+
+    def test_one_assignment_a_line(self):
+        for file in files():
+            if file.startswith(ONE_A_LINE) or os.path.dirname(file) == "lab":
+                tree = ast.parse(pathlib.Path(TOP, file).read_text())
+                places = [f"{file}:{node.lineno}" for node in ast.walk(tree) if is_several(node)]
+                self.same(f"{file}: several values in one line", places, [])
 
     def test_imports(self):
         trees = {
