@@ -4,6 +4,7 @@
 - For each theorem, the page says with which files a reader begins, and how many files and lines of definitions its
   statement reaches, as the clauses that it names say it (statements.py); and how many lines of code, definitions and
   proofs there are. A number of lines may be 5 percent off, so that a small change needs no other.
+- It says in which proof a run picks its network; each call that passes `Brand` has such a pick.
 - It says how many planted bugs CI tries, how many crates a first call proves, and what crates of theorems it leaves.
 - CITATION.cff has the version of this tree.
 """
@@ -90,6 +91,21 @@ class Theorems(FilesCase):
         simulates = text_in(files["Simulates"]).partition("pub record Simulates")[2]
         fields = re.findall(r"^  pub (\w+) :", simulates, re.M)
         self.same("fields of Simulates", (len(fields), "thirteen fields" in page), (13, True))
+
+    def test_picks(self):
+        """A call that passes `Brand` without a pick in its caller's proof would speak of an empty network."""
+        picks = {}
+        for path in crate_files("*/src/**/*.rt"):
+            crate, module = crate_of(path), os.path.splitext(os.path.basename(path))[0]
+            for name in re.findall(r"\b(\w+)::<Brand\b", text_in(path)):
+                proofs = crate_files(f"{crate}/proofs/**/{module}/**/Invariants.antt")
+                found = [proof for proof in proofs if f"\nghosts-{name} " in text_in(proof)]
+                self.same(f"picks of {name} in {path}", len(found), 1)
+                picks |= {os.path.relpath(proof, TOP): text_in(proof) for proof in found}
+        said = re.findall(r"`(crates/\S+/Invariants\.antt)`", text_in(PAGE))
+        self.note("the page names a pick", said, picks.keys())
+        for path in said:
+            self.note(f"{path} picks the network", "net = a.net.now;" in picks.get(path, ""), path)
 
     def judged(self, name, roots, files, lines, code):
         """The rows of what there is to read to judge a statement."""
