@@ -94,7 +94,7 @@ class Theorems(FilesCase):
 
     def test_picks(self):
         """A call that passes `Brand` without a pick in its caller's proof would speak of an empty network."""
-        picks = {}
+        picks: dict[str, str] = {}
         for path in crate_files("*/src/**/*.rt"):
             crate, module = crate_of(path), os.path.splitext(os.path.basename(path))[0]
             for name in re.findall(r"\b(\w+)::<Brand\b", text_in(path)):
