@@ -124,13 +124,17 @@ class Policy:
         if self.name == "in-turn":
             return self.next_in_turn(steps)
         if self.name == "bursts":
-            link = self.last and self.last.link
+            link = self.last_link()
             same = [step for step in steps if step.link == link]
             return same[0] if same else self.any_of(steps)
         if self.name in WAITS:
             waits = WAITS[self.name]
             steps = [step for step in steps if not waits(step, self.chosen)] or steps
         return self.any_of(steps)
+
+    def last_link(self) -> Edge | None:
+        """The link of the step that was chosen last, if one was."""
+        return self.last.link if self.last else None
 
     def next_in_turn(self, steps: Sequence[Step]) -> Step:
         last = self.last.turn if self.last else ((0, 0), "")
