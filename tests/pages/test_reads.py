@@ -60,11 +60,22 @@ OWN = {
     ("lab/networks/network_text.py", "reading_of: read.read"): "the method of `Reading` for a line",
     ("lab/networks/reading.py", "listed_of: foreign.read"): "the function of foreign.py for bytes",
     ("lab/networks/foreign.py", "read: for in warned"): "a list of warnings",
-    ("lab/networks/table.py", "Table.__init__: self.read"): "the method of `Table` for a row",
-    ("lab/networks/tables.py", "Sites.__init__: self.read"): "the method of `Sites` for a row",
+    (
+        "lab/networks/network.py",
+        "was_read: tables.Sites(table, given.stated).read",
+    ): "the method of `Sites` for a text",
+    **{
+        ("lab/networks/tables.py", f"{where}.read"): "the method of `Table` for a text"
+        for where in (
+            "pairs: Table(name, stated, ('source', 'target'))",
+            "licence_of: Table(name, stated, ('channel',))",
+            "with_bars: Table(name, stated, ('site', 'channel'))",
+            "Sites.read: self.table",
+        )
+    },
     ("lab/workshop/clock_run.py", "ClockRun.answered: self.read"): "the method for an answer",
     ("lab/workshop/clock_run.py", "RoundsRun.read: super().read"): "the method for an answer",
-    ("lab/workshop/right_rounds.py", "RightRounds.__init__: self.read"): "the method for a line",
+    ("lab/workshop/right_rounds.py", "RightRounds.work_out: self.read"): "the method for a line",
 }
 OF_TREE = "a file of this folder, which has its size"
 OF_PROGRAM = "what a program of this folder says of a network within the limits"
