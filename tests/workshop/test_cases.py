@@ -77,7 +77,8 @@ class Varied(Case):
 
     def test_long_identifiers_stay_below_their_bound(self):
         net = replace(
-            network_of("ring5", Random("1")), said={v: 2**BITS - v for v in range(1, 6)}
+            network_of("ring5", Random("1")),
+            given_identifiers={v: 2**BITS - v for v in range(1, 6)},
         )
         for seed in SEEDS:
             names = names_of(varied(net, Random(seed), "colouring"))
