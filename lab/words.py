@@ -164,8 +164,18 @@ def add_seed(
     parser: argparse.ArgumentParser, what: str = "whatever is random comes from it"
 ) -> None:
     parser.add_argument(
-        "--seed", default="1", metavar="WORD", help=f"any word or number; {what}; default: 1"
+        "--seed",
+        default="1",
+        type=as_utf8,
+        metavar="WORD",
+        help=f"any word or number; {what}; default: 1",
     )
+
+
+def as_utf8(word: str) -> str:
+    """A word of the command line as text that can be written. Its bytes may be no UTF-8: such a byte becomes `\\udcff`,
+    as on standard error."""
+    return word.encode(errors="backslashreplace").decode()
 
 
 def count(text: str, most: int = 10**9 - 1) -> int:
@@ -195,7 +205,7 @@ def source_of(seed: str) -> int | str:
 def write(given: argparse.Namespace, text: str | bytes) -> None:
     """Writes what a command has made: to the file of -o, which stays as it was until all is written, or to standard
     output."""
-    data = text if isinstance(text, bytes) else text.encode()
+    data = text if isinstance(text, bytes) else as_utf8(text).encode()
     if given.output in (None, "-"):
         sys.stdout.buffer.write(data)
     elif os.path.exists(given.output) and not stat.S_ISREG(os.stat(given.output).st_mode):

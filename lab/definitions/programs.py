@@ -14,7 +14,7 @@ from lab.definitions.own_program import own_program
 from lab.definitions.program import Program
 from lab.definitions.recolouring import recolouring
 from lab.network import Network
-from lab.words import count
+from lab.words import as_utf8, count
 from lab.wrong import Wrong
 
 # Those that `forestplay` runs.
@@ -102,5 +102,9 @@ def add_program(words: ArgumentParser) -> None:
         help=f"how often recolouring chooses again, 1 to {MAX_PASSES}; default: once",
     )
     words.add_argument(
-        "--lots", default="1", metavar="WORD", help="the seed of a file's `me.random`; default: 1"
+        "--lots",
+        default="1",
+        type=as_utf8,
+        metavar="WORD",
+        help="the seed of a file's `me.random`; default: 1",
     )

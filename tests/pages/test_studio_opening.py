@@ -203,15 +203,18 @@ class Opening(Page):
 
     def test_large_networks(self) -> None:
         """What a network is too large for is named, with what to do; nothing is named that isn't there."""
+        # The threads are named exactly if the programs are built.
+        is_built = self.value("studio.seen.hello.proved")
         for words, said in (
             ("example=disk100&tab=run", "A run without a clock"),
             ("example=disk100&tab=adversary", "smaller example"),
-            ("example=queen5_5&tab=run", "smaller example"),
+            ("example=queen5_5&tab=run", "take the threads" if is_built else "smaller example"),
         ):
             self.go_to(words)
             self.sees(words, f"wrong.textContent.includes({json.dumps(said)}) && wrong.textContent")
             got = self.page.text("wrong")
-            self.note(f"{words}: no threads that aren't built", "take the threads" not in got, got)
+            is_named = "take the threads" in got
+            self.note(f"{words}: threads only if built", is_named <= bool(is_built), got)
 
     def test_no_backquotes(self) -> None:
         """What the server has between backquotes is code on the page."""
