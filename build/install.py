@@ -87,7 +87,7 @@ page says of `crates/`, `bench/`, `tests/`, the toolchain and `python3 build` is
 
 
 # What README says of the toolchain: a paragraph, and the last column of its first table.
-OF_THE_KIT = re.compile(r"^The kit is the toolchain .*?\n\n", re.M | re.S)
+OF_THE_KIT = re.compile(r"^To build the programs you need the kit.*?\n\n", re.M | re.S)
 NEEDS_THE_KIT = re.compile(r"^([^|\n]*\|[^|\n]*)\|[^|\n]*$", re.M)
 # Its links to what only the repository has.
 OF_THE_REPOSITORY = r"\[([^\]]+)\]\((?:crates/[^)]+|CONTRIBUTING\.md)\)"

@@ -32,6 +32,8 @@ COPIED = (
     "lab/__main__.py",
     "lab/door.py",
     "lab/door.sh",
+    "lab/definitions/__init__.py",
+    "lab/definitions/events.py",
     "lab/help",
     "lab/network.py",
     "lab/programs.py",

@@ -129,7 +129,6 @@ class ClassFolder(FolderCase):
 
     def test_it_has_no_solution(self):
         for path in (
-            "lab/definitions",
             "lab/pictures",
             "lab/transcripts/check.py",
             "lab/schedules/ruled_node.py",
@@ -146,6 +145,9 @@ class ClassFolder(FolderCase):
             with self.subTest(path):
                 self.assertTrue(os.path.exists(os.path.join(TOP, path)), "it isn't here either")
                 self.assertFalse([name for name in self.found if name.startswith(path)])
+        # Of the definitions only what messages and events are: no rule of a node.
+        defined = sorted(path for path in self.found if path.startswith("lab/definitions"))
+        self.assertEqual(defined, ["lab/definitions/__init__.py", "lab/definitions/events.py"])
         for path in (path for path in self.found if path.endswith(".py")):
             self.assertNotRegex(
                 self.text(path), r"def (bit_step|merge|recolour|settle)\(self, t|def bit_step"
