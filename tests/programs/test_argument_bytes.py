@@ -59,7 +59,7 @@ class ArgumentBytes(Case):
             )
             with open(net, "wb") as file:
                 file.write(NETWORK)
-            shutil.copy("examples/algorithms/independent_set.py", program)
+            shutil.copy(b"examples/algorithms/independent_set.py", program)
             for line in COMMANDS.splitlines():
                 parts = {b"{bad}": BAD, b"{net}": net, b"{program}": program}
                 words = [replaced(word.encode(), parts) for word in line.split()]
