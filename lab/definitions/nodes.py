@@ -1,16 +1,16 @@
-"""The rounds of the colouring at one node, a node under synchroniser alpha, and a network of such nodes event by event,
-by their definitions (docs/claim/DEFINITIONS.md), slow and plain. What a caller may only do wrong (a wire that is
-refused, an event that isn't possible) raises `Refused`.
+"""The rounds of the colouring at one node, and a node under synchroniser alpha, by their definitions
+(docs/claim/DEFINITIONS.md), slow and plain. A wire that is refused, which a caller may only do wrong, raises `Refused`.
 
-The node under alpha and the network are of any program (lab/definitions/program.py, which says what vertices, ports,
-pulses and payloads are; lab/definitions/programs.py has all programs). Wires and events are as in
-lab/definitions/events.py."""
-from collections.abc import Iterable, Iterator
-from dataclasses import dataclass, field
-from typing import Protocol
+The node under alpha is of any program (lab/definitions/program.py, which says what vertices, ports, pulses and payloads
+are; lab/definitions/programs.py has all programs). Wires are as in lab/definitions/events.py, and a network of such
+nodes, event by event, is `NetState` of lab/definitions/machine.py."""
+from collections.abc import Iterable
+from dataclasses import dataclass
+from functools import partial
 
 from lab.definitions.colours import other_than
-from lab.definitions.events import CLOSE, PULSE, PUT, TAKE, Entry, Event, Kind, Message, ack, safe
+from lab.definitions.events import CLOSE, PULSE, Message, ack, safe
+from lab.definitions.machine import NetState, Node, Outgoing, Refused
 from lab.definitions.program import Payload, Program, RoundsNode, Slot
 from lab.network import Network
 from lab.words import in_words
@@ -21,10 +21,6 @@ Role = tuple[str, int]
 
 # The colour that is dropped, by the pulse.
 DROPPED = {8: 5, 10: 4, 12: 3}
-
-
-class Refused(Exception):
-    """Why an event isn't possible, in one word of docs/claim/FORMATS.md; of a wire that isn't due, which it is."""
 
 
 def last_pulse(net: Network) -> int:
@@ -170,12 +166,12 @@ COLOURING = Program("colouring", Colouring, last_pulse)
 
 
 @dataclass(eq=False)
-class Port:
-    """What a node keeps for one neighbour.
+class Port(Outgoing):
+    """What a node under alpha keeps for one neighbour, with the wires that are to be put on the link.
 
     `waits`: the acknowledgement of its payload is still to come. `safe`, `present`: the neighbour's safe and payload of
     this pulse, if they came; `early_safe`, `early`: the same of the next pulse. `closed`: the neighbour's last wire
-    came. `out`: the wires that are to be put on the link, the first one next."""
+    came."""
 
     waits: bool = False
     safe: bool = False
@@ -183,7 +179,6 @@ class Port:
     closed: bool = False
     present: Slot = None
     early: Slot = None
-    out: list[Message] = field(default_factory=list)
 
     def safes(self) -> int:
         """How many safes came, of this pulse and of the next: 0 to 2."""
@@ -194,26 +189,12 @@ class Port:
         return self.safes() < 2 and (self.present, self.early)[self.safes()] is not None
 
 
-class Node(Protocol):
-    """A node of the event machine: what it puts on its links, it has in lists by port, and takes what comes by them."""
-
-    def may_act(self) -> bool:
-        """Whether it may make a step of its own."""
-
-    def act(self) -> None:
-        """It makes a step of its own."""
-
-    def on_wire(self, at: int, wire: Message) -> None:
-        """It takes a wire by a port."""
-
-    def result(self) -> str:
-        """What it has found so far, in words."""
-
-
 class AlphaNode(Node):
     """A node under synchroniser alpha. It simulates the rounds of a node of a program, `simulated`: `pulse_number` is 0
-    to `last`, and `said` means that it has said safe for this pulse."""
+    to `last`, and `said` means that it has said safe for this pulse. Its own steps are its pulses.
+    """
 
+    own = PULSE
     simulated: RoundsNode
     last: int
     ports: list[Port]
@@ -259,9 +240,21 @@ class AlphaNode(Node):
             and self.can_take()
         )
 
+    def next_act(self) -> int:
+        return self.pulse_number + 1
+
     def lacks_safe(self, port: Port) -> bool:
         """Whether its next pulse waits for the safe of a neighbour."""
         return not port.safe
+
+    def lacks(self, neighbours: list[int]) -> str:
+        if self.pulse_number == self.last:
+            return f"pulse {self.last} is the last"
+        return lacks_words(self.pulse_number, *lacks_of(self, neighbours))
+
+    def undone(self) -> str:
+        is_last = self.pulse_number == self.last
+        return "" if is_last else f"is at pulse {self.pulse_number} of {self.last}"
 
     def drained(self) -> bool:
         """Whether it is through with everything."""
@@ -324,95 +317,9 @@ class AlphaNode(Node):
         return self.simulated.result()
 
 
-class NetState:
-    """Every node at its start; `link[v, port]` holds what was put on the link out of v by that port and not taken.
-    `events[kind, v, w]` are all events that there are, by the node and its neighbour, which a pulse has not.
-    """
-
-    neighbours: dict[int, list[int]]
-    port_to: dict[tuple[int, int], int]
-    nodes: dict[int, AlphaNode]
-    link: dict[tuple[int, int], list[Message]]
-    events: dict[tuple[Kind, int, int | None], Event]
-
-    def __init__(self, net: Network, program: Program = COLOURING) -> None:
-        self.neighbours = net.neighbours
-        self.port_to = {
-            (v, w): port for v, ws in self.neighbours.items() for port, w in enumerate(ws)
-        }
-        self.nodes = {v: AlphaNode(net, v, program) for v in net.neighbours}
-        self.link = {(v, port): [] for (v, _), port in self.port_to.items()}
-        self.events = {(PULSE, v, None): Event(PULSE, v) for v in net.neighbours}
-        for (v, w), port in self.port_to.items():
-            for kind in (PUT, TAKE):
-                self.events[kind, v, w] = Event(kind, v, port)
-
-    def link_to(self, v: int, port: int) -> list[Message]:
-        """What the link holds that comes to v by that port."""
-        w = self.neighbours[v][port]
-        return self.link[w, self.port_to[w, v]]
-
-    def carried(self, event: Event) -> int | Message:
-        """What an event carries that is possible now: the number of the pulse, or the wire that is put or taken."""
-        v, port = event.node, event.port
-        if v not in self.nodes or port is not None and port >= len(self.nodes[v].ports):
-            raise Refused("NoSuch")
-        node = self.nodes[v]
-        if port is None:
-            if not node.may_act():
-                raise Refused("NotReady")
-            return node.pulse_number + 1
-        wires = node.ports[port].out if event.kind is PUT else self.link_to(v, port)
-        if not wires:
-            raise Refused("NothingToPut" if event.kind is PUT else "LinkEmpty")
-        return wires[0]
-
-    def step(self, event: Event, what: int | Message | None = None) -> int | Message:
-        """Makes an event that is possible, and carries this if that is given; returns what it carries."""
-        carried = self.carried(event)
-        if what is not None and what is not carried and what != carried:
-            raise Refused("WrongWire")
-        v, port = event.node, event.port
-        if port is None or isinstance(carried, int):
-            self.nodes[v].act()
-        elif event.kind is PUT:
-            self.link[v, port].append(self.nodes[v].ports[port].out.pop(0))
-        else:
-            self.nodes[v].on_wire(port, carried)
-            self.link_to(v, port).pop(0)
-        return carried
-
-    def possible(self) -> Iterator[Event]:
-        """All events that are possible now."""
-        for v, node in self.nodes.items():
-            if node.may_act():
-                yield self.events[PULSE, v, None]
-            for port, w in enumerate(self.neighbours[v]):
-                if node.ports[port].out:
-                    yield self.events[PUT, v, w]
-                if self.link_to(v, port):
-                    yield self.events[TAKE, v, w]
-
-
-def missing_words(state: NetState, event: Event) -> str:
-    """What comes after the line of an event that isn't possible: the wires of the pulse that are still to come, or
-    the out-list or the link that is empty."""
-    v, port = event.node, event.port
-    if v not in state.nodes or port is not None and port >= len(state.nodes[v].ports):
-        return ""
-    node = state.nodes[v]
-    if port is not None:
-        w = state.neighbours[v][port]
-        return f": list of {v} for {w}" if event.kind is PUT else f": link from {w} to {v}"
-    if node.pulse_number == node.last:
-        return f": pulse {node.last} is the last"
-    return f": {lacks_words(node.pulse_number, *lacks_of(state, v))}"
-
-
-def lacks_of(state: NetState, v: int) -> tuple[list[int], list[int]]:
+def lacks_of(node: AlphaNode, neighbours: list[int]) -> tuple[list[int], list[int]]:
     """The neighbours whose acknowledgements, and those whose safes, are still to come in a node's pulse."""
-    node = state.nodes[v]
-    ports = list(zip(state.neighbours[v], node.ports))
+    ports = list(zip(neighbours, node.ports))
     return [w for w, port in ports if port.waits], [w for w, port in ports if node.lacks_safe(port)]
 
 
@@ -420,32 +327,6 @@ def lacks_words(pulse: int, acks: list[int], safes: list[int]) -> str:
     """`ack 0 of 2; safe 0 of 2 and 3`."""
     lacks = [("ack", acks), ("safe", safes)]
     return "; ".join(f"{word} {pulse} of {in_words(names)}" for word, names in lacks if names)
-
-
-def event_of(state: NetState, entry: Entry) -> Event:
-    """The event of an entry of a transcript."""
-    event = state.events.get((entry.kind, entry.node, entry.neighbour))
-    if event is None:
-        raise Refused("NoSuch")
-    return event
-
-
-def entry_words(state: NetState, entry: Entry, refused: Refused) -> str:
-    """What comes after the line of a refused entry: what its event lacks, or the pulse or wire to which its event
-    comes."""
-    if str(refused) == "NoSuch":
-        return ""
-    event = event_of(state, entry)
-    if str(refused) != "WrongWire":
-        return missing_words(state, event)
-    due = state.carried(event)
-    return f": expected pulse {due}" if isinstance(due, int) else f": expected {due}"
-
-
-def make(state: NetState, entry: Entry) -> None:
-    """The event of an entry of a transcript, if it is possible with what the entry says; otherwise nothing is
-    changed."""
-    state.step(event_of(state, entry), entry.what)
 
 
 def text_of_wire(wire: Message) -> str:
@@ -456,3 +337,8 @@ def text_of_wire(wire: Message) -> str:
         case Message(word, (pulse,)):
             return f"{word.title()}({pulse})"
     return wire.word.title()
+
+
+def alpha_start(net: Network, program: Program = COLOURING) -> NetState[AlphaNode]:
+    """The machine at its start, whose nodes run a program under the synchroniser."""
+    return NetState(net, partial(AlphaNode, program=program))

@@ -397,17 +397,16 @@ def kept_by(node: OwnNode) -> Hashable:
 
 def what_is_wrong(
     net: Network,
-    program: Program,
+    file: ProgramFile | None,
     found: dict[int, str],
     function: str = "right",
-    messages: Iterable[tuple[int, int, tuple[str, int]]] = (),
+    messages: Iterable[tuple[int, int, tuple[int | str, ...]]] = (),
 ) -> str:
-    """What the file's `right` or `always` says of what nodes have found, in words; nothing if that is right, or if the
-    file has no such function."""
-    file = program.file
+    """What the `right` or `always` of a program's file says of what nodes have found, in words; nothing if that is
+    right, or if there is no such function."""
     if file is None or function not in file.functions:
         return ""
-    more = [list(messages)] if function == "always" and asks_for_messages(program) else []
+    more = [list(messages)] if function == "always" and asks_for_messages(file) else []
     values = [*by_identifier(net, found), *more]
     said = call(file.path, f"`{function}`", file.functions[function], *values)
     if said is True:
@@ -444,9 +443,11 @@ def has_verdict(program: Program) -> bool:
 def wrong_end(net: Network, program: Program) -> str:
     """What isn't right at the end of the rounds, and so of every whole run, in words; nothing if it is right, or if
     the program doesn't say."""
-    return what_is_wrong(net, program, results_of(net, program)) if has_verdict(program) else ""
+    if not has_verdict(program):
+        return ""
+    return what_is_wrong(net, program.file, results_of(net, program))
 
 
-def asks_for_messages(program: Program) -> bool:
-    """Whether the file's `always` takes the messages under way."""
-    return program.file is not None and takes(program.file.functions.get("always"), 3)
+def asks_for_messages(file: ProgramFile | None) -> bool:
+    """Whether the `always` of a program's file takes the messages under way."""
+    return file is not None and takes(file.functions.get("always"), 3)

@@ -40,7 +40,7 @@ class ProgramRounds:
             results = {v: node.result() for v, node in nodes.items()}
             self.pulses.append(Pulse(p, puts, results=results, drawn=drawn))
         self.nodes = nodes
-        self.wrong = what_is_wrong(network, program, self.pulses[-1].results)
+        self.wrong = what_is_wrong(network, program.file, self.pulses[-1].results)
 
     def lines(self) -> Iterator[str]:
         """The text of rounds, line by line."""

@@ -12,7 +12,7 @@ from lab.pictures.schedules_space import fault_words, left_out_words
 from lab.pictures.svg import Svg, text_width, wrapped
 from lab.pictures.transcripts import window_of
 from lab.schedules.explore import events_words, rounded
-from lab.schedules.space import Space, Status
+from lab.schedules.alpha_space import AlphaSpace, Status
 from lab.wrong import at_most
 
 # Where a step ends: at a state, or at (state, number of the step) if it is refused there.
@@ -23,7 +23,7 @@ LEFT, HIGH, WIDE, LEAST_WIDTH = 44, 560, 1150, 860
 APART = [BAND, "#CFE3F1", "#8FBBDD", "#56B4E9"]
 
 
-def draw(network: Network, space: Space, asked: tuple[int, int] | None) -> str:
+def draw(network: Network, space: AlphaSpace, asked: tuple[int, int] | None) -> str:
     """The states after the events A to B that are `asked` for, or after the first ones."""
     low, high = window_of(network.name, last_column(space), asked, 1 + columns_of(space), "events")
     at_most(
@@ -40,7 +40,7 @@ def draw(network: Network, space: Space, asked: tuple[int, int] | None) -> str:
     return Lattice(network, space, low, high, bold).drawn().document()
 
 
-def last_column(space: Space) -> int:
+def last_column(space: AlphaSpace) -> int:
     """The most events after which all states are known, one that is refused being a state of its own."""
     if space.expanded < space.count:
         return space.depth[space.expanded]
@@ -50,7 +50,7 @@ def last_column(space: Space) -> int:
     )
 
 
-def steps_between(space: Space) -> list[int]:
+def steps_between(space: AlphaSpace) -> list[int]:
     """How many steps there are from each column to the next."""
     counts = [0] * (space.depth[space.count - 1] + 1)
     for s in range(space.expanded):
@@ -58,7 +58,7 @@ def steps_between(space: Space) -> list[int]:
     return counts
 
 
-def columns_of(space: Space) -> int:
+def columns_of(space: AlphaSpace) -> int:
     """How many columns are drawn beside the first one if none are asked for: as many as have room."""
     return min(COLUMNS, max(1, bisect_right(list(accumulate(steps_between(space))), STEPS)))
 
@@ -66,7 +66,7 @@ def columns_of(space: Space) -> int:
 # The run that is bold: its steps as (state, number of the step in it).
 
 
-def to_fault(space: Space) -> list[tuple[int, int]]:
+def to_fault(space: AlphaSpace) -> list[tuple[int, int]]:
     """A shortest run that goes wrong."""
     s, found = 0, []
     for event in space.path_to_fault():
@@ -80,7 +80,7 @@ def to_fault(space: Space) -> list[tuple[int, int]]:
     return found
 
 
-def in_step(space: Space) -> list[tuple[int, int]]:
+def in_step(space: AlphaSpace) -> list[tuple[int, int]]:
     """All messages come before a node makes a pulse, and then the node that has made the fewest."""
     s, found = 0, []
     while steps := space.steps(s):
@@ -110,7 +110,7 @@ class Lattice:
     """`bold` are the steps of one run. A step ends at a state; one that is refused has an end of its own, (s, e)."""
 
     def __init__(
-        self, network: Network, space: Space, low: int, high: int, bold: list[tuple[int, int]]
+        self, network: Network, space: AlphaSpace, low: int, high: int, bold: list[tuple[int, int]]
     ) -> None:
         self.network, self.space = network, space
         self.low, self.high, self.bold = low, high, set(bold)

@@ -1,12 +1,13 @@
-"""All states of a tiny network and the steps between them, as lab/schedules/space.py finds them, for the kinds that
-draw every schedule. What is too large for a picture is refused here, in a sentence."""
+"""All states of a tiny network and the steps between them, as lab/schedules/alpha_space.py finds them, for the kinds
+that draw every schedule. What is too large for a picture is refused here, in a sentence."""
 import re
 
 from lab.definitions.nodes import COLOURING
 from lab.definitions.program import Program
 from lab.network import Network
+from lab.schedules.alpha_space import AlphaSpace
 from lab.schedules.rules import ALL
-from lab.schedules.space import Place, Progress, Space
+from lab.schedules.space import Place, Progress
 from lab.wrong import Wrong
 
 MAX_STATES = 200_000
@@ -17,10 +18,10 @@ def space_of(
     without: tuple[str, ...] = (),
     program: Program = COLOURING,
     progress: Progress | None = None,
-) -> Space:
+) -> AlphaSpace:
     """The space of a network that was read, whose nodes run a program. `progress` is told now and then how many states
     and events there are so far."""
-    space = Space(network, without, MAX_STATES, program=program).search(progress)
+    space = AlphaSpace(network, without, MAX_STATES, program=program).search(progress)
     if space.is_cut:
         raise Wrong(
             f"schedules draws at most {MAX_STATES:,} states, and {network.name} has more: leave out an edge or a node"
@@ -28,7 +29,7 @@ def space_of(
     return space
 
 
-def fault_words(space: Space, key: Place | None = None) -> str:
+def fault_words(space: AlphaSpace, key: Place | None = None) -> str:
     """What goes wrong, by default that to which the fewest events lead."""
     return quoted(space.faults[key or space.first_fault()])
 

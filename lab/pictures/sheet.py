@@ -10,7 +10,7 @@ from typing import TypeVar
 
 from lab.definitions.colours import at_parent, colours, drop, shift
 from lab.definitions.events import Event
-from lab.definitions.nodes import NetState, last_pulse
+from lab.definitions.nodes import alpha_start, last_pulse
 from lab.definitions.rounds import LAST_COLOUR, Rounds
 from lab.network import Network
 from lab.networks.random_networks import alike_edges
@@ -216,7 +216,7 @@ class Sheet:
 def farthest(net: Network, edge: tuple[int, int]) -> dict[int, int]:
     """The pulse that each node comes to if nothing goes over an edge. (Whatever the order, it is the same: what a node
     can do stays possible until it does it.)"""
-    state = NetState(net)
+    state = alpha_start(net)
 
     def is_free(event: Event) -> bool:
         v, port = event.node, event.port

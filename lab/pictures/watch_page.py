@@ -2,13 +2,14 @@
 waits for, what it keeps, and its channel. One run, or two of one network side by side.
 
 The page has no algorithm in it: what a node is after each entry is worked out here, by the slow definitions
-(lab/definitions/nodes.py), and written into the page as rows. page/watch.js draws it."""
+(lab/definitions/machine.py), and written into the page as rows. page/watch.js draws it."""
 from collections import deque
 from collections.abc import Iterator
 from typing import NamedTuple
 
 from lab.definitions.events import Entry, Kind, Message
-from lab.definitions.nodes import COLOURING, AlphaNode, Colouring, NetState, lacks_of, make
+from lab.definitions.machine import NetState, make
+from lab.definitions.nodes import COLOURING, AlphaNode, Colouring, alpha_start, lacks_of
 from lab.definitions.program import Program
 from lab.definitions.rounds import FIRST_MERGE
 from lab.network import Edge, Network
@@ -29,7 +30,7 @@ ORDER = (
 Step = tuple[Entry, int, Look]
 
 
-def look_of(state: NetState, v: int) -> Look:
+def look_of(state: NetState[AlphaNode], v: int) -> Look:
     """What is shown of a node: its pulse; of whom it awaits which wire; what it has taken for its next pulse, and what
     came a pulse early; and its channel, once it has chosen one."""
     node = state.nodes[v]
@@ -47,13 +48,13 @@ def look_of(state: NetState, v: int) -> Look:
     )
 
 
-def waits_of(state: NetState, v: int) -> list[tuple[str, int]]:
+def waits_of(state: NetState[AlphaNode], v: int) -> list[tuple[str, int]]:
     """Of whom a node awaits which wire."""
     node = state.nodes[v]
     if node.pulse_number == node.last:
         ports = zip(state.neighbours[v], node.ports)
         return [("close", w) for w, port in ports if not port.closed]
-    acks, safes = lacks_of(state, v)
+    acks, safes = lacks_of(node, state.neighbours[v])
     return [("ack", w) for w in acks] + [("safe", w) for w in safes]
 
 
@@ -87,7 +88,7 @@ class Steps:
     """A run as it is played: `every` has each entry, the pulse during which it was made, and what is shown of its node
     after it; `start` is what is shown of each node before the first one."""
 
-    def __init__(self, state: NetState) -> None:
+    def __init__(self, state: NetState[AlphaNode]) -> None:
         self.state, self.start = state, {v: look_of(state, v) for v in state.nodes}
         self.every: list[Step] = []
 
@@ -111,7 +112,7 @@ def steps_of_text(
 ) -> Steps:
     """The steps of a transcript, as far as they are needed for these pulses; or its first fault in words."""
     order, _ = ordered(text, name, network, program)
-    state, made = NetState(network, program), dict.fromkeys(network.vertices, 0)
+    state, made = alpha_start(network, program), dict.fromkeys(network.vertices, 0)
     steps = Steps(state)
     for entry in order.made:
         make(state, entry)
@@ -130,7 +131,7 @@ def steps_of_text(
 
 class Run:
     """The entries of a run that are shown, `moments`, the wires among them, and the nodes before the first one. `steps`
-    are those of a text, or of a `Player` by stamp."""
+    are those of a text, or of an `AlphaPlayer` by stamp."""
 
     def __init__(
         self, name: str, network: Network, steps: Steps, pulses: tuple[int, int] | None = None

@@ -15,10 +15,10 @@ from lab.definitions.program import Program
 from lab.definitions.programs import add_program, program_asked
 from lab.network import Network
 from lab.networks.sources import network_at
+from lab.schedules.alpha_space import AlphaSpace, Status
 from lab.schedules.own_rounds import verdict_of, verdict_on_many
 from lab.schedules.ruled_rounds import looked_at
 from lab.schedules.rules import ALL, OF_SCHEDULES, program_of, table, unknown_to
-from lab.schedules.space import Space, Status
 from lab.words import add_output, add_seed, as_text, count, counted, parser_of, write
 from lab.wrong import Wrong
 
@@ -264,7 +264,7 @@ def found_by_rounds(given: Namespace, net: Network, program: Program) -> Found |
     return Found(not is_right, words + (ROUNDS_ALONE if is_large else ""))
 
 
-def searched(given: Namespace, net: Network, program: Program) -> Space:
+def searched(given: Namespace, net: Network, program: Program) -> AlphaSpace:
     """The search, with a line of progress if somebody looks on."""
     show = sys.stderr.isatty()
     if show:
@@ -279,7 +279,7 @@ def searched(given: Namespace, net: Network, program: Program) -> Space:
         sys.stderr.flush()
 
     try:
-        space = Space(net, given.without, given.limit, given.reduce, program)
+        space = AlphaSpace(net, given.without, given.limit, given.reduce, program)
         space.search(progress if show else None)
     finally:
         if show:
@@ -294,7 +294,7 @@ def searched(given: Namespace, net: Network, program: Program) -> Space:
     return space
 
 
-def whole_text(given: Namespace, name: str, space: Space) -> str:
+def whole_text(given: Namespace, name: str, space: AlphaSpace) -> str:
     """All went right."""
     what = (
         f"not broken without {','.join(given.without)}"
@@ -324,7 +324,7 @@ def whole_text(given: Namespace, name: str, space: Space) -> str:
     ) + refused_words(given.without)
 
 
-def has_drawn(space: Space) -> bool:
+def has_drawn(space: AlphaSpace) -> bool:
     """Whether a node of a file has asked for chance."""
     nodes = [own[at].simulated for own, at in zip(space.locals, space.states[space.ends[0]])]
     return any("random" in vars(node.me) for node in nodes if isinstance(node, OwnNode))
@@ -347,7 +347,7 @@ def rounded(number: int) -> str:
     return f"{two // 10}.{two % 10}e{len(text) - 1}" if two < 100 else f"1.0e{len(text)}"
 
 
-def broken_text(given: Namespace, space: Space, listed: list[Event]) -> str:
+def broken_text(given: Namespace, space: AlphaSpace, listed: list[Event]) -> str:
     s, _ = space.first_fault()
     what = space.faults[space.first_fault()]
     if (

@@ -11,16 +11,18 @@ from typing import TypeVar
 from lab.definitions.events import Message, ack
 from lab.definitions.layers import Layers
 from lab.definitions.leader import Leader
-from lab.definitions.nodes import COLOURING, AlphaNode, Colouring, Port, Refused, Role
+from lab.definitions.machine import Refused
+from lab.definitions.nodes import COLOURING, AlphaNode, Colouring, Port, Role
 from lab.definitions.own_program import OwnNode
 from lab.definitions.program import Payload, Program, RoundsNode, Slot, synchronous_pulses
 from lab.definitions.sequel import Sequel
 from lab.definitions.values import frozen
 from lab.network import Network
+from lab.schedules.space import SearchedNode
 from lab.wrong import Wrong
 
 
-class RuledNode(AlphaNode):
+class RuledNode(AlphaNode, SearchedNode):
     """`wrong` says that it has made a pulse with another inbox than the round's. A node of its program that it has come
     to is never changed: a pulse makes another one."""
 

@@ -1,5 +1,5 @@
 """The door: `forestlab simulate NETWORK [options]`. Plays a run without a clock by a seed or by a list of events, step
-by step, on the slow definitions (lab/definitions/nodes.py), and writes its transcript, or one line on standard
+by step, on the slow definitions (lab/definitions/machine.py), and writes its transcript, or one line on standard
 error."""
 from argparse import ArgumentParser, Namespace
 import argparse
@@ -7,9 +7,12 @@ import re
 import sys
 from collections import defaultdict, deque
 from collections.abc import Collection, Iterable, Iterator
+from functools import partial
+from typing import Generic
 
 from lab.definitions.events import PULSE, PUT, TAKE, Entry, Event, Kind, Message
-from lab.definitions.nodes import COLOURING, NetState, Refused, missing_words
+from lab.definitions.machine import AnyNode, NetState, Refused, missing_words
+from lab.definitions.nodes import COLOURING, AlphaNode, alpha_start
 from lab.definitions.own_program import check_repeats, wrong_end
 from lab.definitions.program import Program
 from lab.definitions.programs import add_program, program_asked
@@ -68,26 +71,21 @@ EVENT = re.compile(
 )
 
 
-# Of the put or the take of a wire by a link, or of a pulse, for which the neighbour is 0.
+# Of the put or the take of a wire by a link, or of a node's own step, for which the neighbour is 0.
 Waiting = tuple[Kind, int, int]
 
 
-class Player:
-    """A run on its way, whose entries are `made`; the nodes may be `without` rules. `steps[v]` are the steps that are
-    possible at v; `since[kind, v, w]` has for each wire that can be put or taken, and for a pulse, how many entries
-    were made when it came there."""
+class Player(Generic[AnyNode]):
+    """A run on its way, whose entries are `made`, of the machine at its start, `state`. `steps[v]` are the steps that
+    are possible at v; `since[kind, v, w]` has for each wire that can be put or taken, and for a node's own step, how many
+    entries were made when it came there."""
 
-    def __init__(
-        self, net: Network, program: Program = COLOURING, without: Collection[str] = ()
-    ) -> None:
-        check_repeats(net, program)
-        self.state = NetState(net, program)
-        self.clock = Clock(net.neighbours)
+    def __init__(self, state: NetState[AnyNode]) -> None:
+        self.state = state
+        self.clock = Clock(state.neighbours)
         self.made: list[Entry] = []
         self.since: defaultdict[Waiting, deque[int]] = defaultdict(deque)
         self.steps: dict[int, list[Step]] = {}
-        if without:
-            self.state.nodes = {v: RuledNode(net, v, without, program) for v in net.neighbours}
         for v in sorted(self.state.nodes):
             self.look_at(v)
 
@@ -95,7 +93,7 @@ class Player:
         """What is possible at v now."""
         node = self.state.nodes[v]
         self.steps[v] = []
-        self.note_waiting(PULSE, v, 0, [NO_WIRE] if node.may_act() else [])
+        self.note_waiting(node.own, v, 0, [NO_WIRE] if node.may_act() else [])
         for port, w in enumerate(self.state.neighbours[v]):
             self.note_waiting(PUT, v, w, node.ports[port].out)
             self.note_waiting(TAKE, v, w, self.state.link_to(v, port))
@@ -145,8 +143,21 @@ class Player:
             yield self.make(self.event_of(policy.choose(steps)))
 
 
-# What a pulse has in place of a wire.
+# What a node's own step has in place of a wire.
 NO_WIRE = Message("")
+
+
+class AlphaPlayer(Player[AlphaNode]):
+    """A run of nodes that run a program under the synchroniser; they may be `without` rules."""
+
+    def __init__(
+        self, net: Network, program: Program = COLOURING, without: Collection[str] = ()
+    ) -> None:
+        check_repeats(net, program)
+        if without:
+            super().__init__(NetState(net, partial(RuledNode, without=without, program=program)))
+        else:
+            super().__init__(alpha_start(net, program))
 
 
 def played(
@@ -155,12 +166,12 @@ def played(
     seed: str = "1",
     slow: Collection[Edge] = (),
     lazy: Collection[int] = (),
-    player: Player | None = None,
+    player: AlphaPlayer | None = None,
     program: Program = COLOURING,
 ) -> list[Entry]:
     """The entries of a run of a program on a network, in the order in which they were made; `player` may be on its
     way."""
-    player = player or Player(net, program)
+    player = player or AlphaPlayer(net, program)
     for _ in player.entries(Policy(policy, net.vertices, net.edges, seed, slow, lazy)):
         pass
     return player.made
@@ -269,7 +280,7 @@ def run_asked(net: Network, given: Namespace, program: Program) -> list[Entry]:
     """The entries of the run that the command line asks for; a list that ends early is said."""
     if not given.events:
         return played(net, given.policy, given.seed, given.slow, given.lazy, program=program)
-    player, name = Player(net, program), text_name(given.events)
+    player, name = AlphaPlayer(net, program), text_name(given.events)
     player.play_events(events_of(text_at(given.events), name), name)
     if given.to_the_end:
         return played(net, given.policy, given.seed, given.slow, given.lazy, player)

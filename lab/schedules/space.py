@@ -1,86 +1,63 @@
 """Every schedule of a tiny network: all states that lists of events lead to, and the steps between them.
 
-    space = Space(net, without=("safes",), limit=200_000).search()
+    space = Space(net, node_of, without=("fifo",), limit=200_000).search()
 
-`net` is a network of the definitions, and `program` what its nodes run. A put is made as soon as it can be, so that a
-state has no wires that wait to be put, and no event is a put. `without` has rules of rules.OF_SCHEDULES. With a rule
-left out the search ends at the first event that goes wrong, which a shortest list of events leads to. If there are
-more than `limit` states it ends there, and `is_cut`: states from `expanded` on have no steps.
-
-With `reduce`, a safe or a close that comes next on its link is taken at once and alone, which leaves most states out
-(see `alone`). What each pulse finds, what is refused, and the ends stay; the number of schedules, shortest lists, how
-far neighbours are apart and how much a link holds don't.
+`net` is a network of the definitions, and `node_of(net, v)` the node of a vertex at its start. A put is made as soon as
+it can be, so that a state has no messages that wait to be put, and no event is a put. Without the rule `fifo` a take
+may overtake others. The search ends at the first event or state that goes wrong, which a shortest list of events leads
+to. If there are more than `limit` states it ends there, and `is_cut`: states from `expanded` on have no steps.
 
     space.vertices        [1, 2, 3]; space.ports[v] are v's neighbours, ascending (port 0 first)
     space.links           [(v, w), ..]: what v puts for w
-    space.last            the last pulse of each node
     space.count           how many states there are; they are numbered from 0, the start, by width
     space.depth[s]        the least number of events that lead to state s
     space.steps(s)        [(event, target)], the events possible in state s; target is None if the event is refused
-    space.events[e]       an Event, a take with its wire or a pulse; str(event) is its line for `forestplay
+    space.events[e]       an Event, a take with its message or a node's own step; str(event) is its line for `forestplay
                           events`
-    space.nodes(s)        {v: Status}: pulse, stage (asks, safe, ready, last, whole), waits (what it waits for, as
-                          (wire, w)), wrong (it has made a pulse with another inbox than the round's), colour (merged
-                          so far, of the colouring alone) and result (what it has found so far, in words)
+    space.results(s)      {v: what v has found so far, in words}
     space.ends            the states in which nothing is possible
     space.faults          {(s, e): what goes wrong in words}, e being the event's number in steps(s); and {(s, None):
-                          words} for a state in which nothing is possible though some node waits, or of which the file
-                          of a program says that it isn't right
-    space.broken          the states of the latter
+                          words} for a state in which something isn't right
+    space.broken          those of the latter of which the file of a program says that they aren't right
     space.first_fault()   the key of a fault that the fewest events lead to
     space.path(s)         a shortest list of events from the start to state s; space.path_to_fault() one that ends with
                           the event of the first fault
     space.with_puts(events)
-                          the events of a list, and between them the puts that they need, each with its wire
-    space.schedules       how many lists of events lead from the start to an end; None if events are possible in
-                          different numbers, which they are not if no rule is left out
-    space.farthest        the most pulses that two neighbours are apart in any state
-    space.most_wires      the most wires that any link holds in any state
+                          the events of a list, and between them the puts that they need, each with its message
+    space.most_wires      the most messages that any link holds in any state
 """
 import time
 from array import array
 from collections import Counter
 from collections.abc import Callable, Collection, Hashable, Iterable
 from functools import cache
-from typing import NamedTuple, TypeVar
+from typing import Generic, NamedTuple, Protocol, TypeVar
 
 from lab.definitions.events import Event, Kind, Message
-from lab.definitions.nodes import COLOURING, Colouring, Refused
+from lab.definitions.machine import Node, Refused
 from lab.definitions.own_program import asks_for_messages, what_is_wrong
-from lab.definitions.program import Program
+from lab.definitions.program import ProgramFile
 from lab.network import Edge, Network
-from lab.schedules.ruled_node import Rounds, RuledNode
 
 REFUSED = 2**32 - 1
 
 # By node and then by link, the number of what it is.
 State = tuple[int, ...]
-# The wires that go on links, by the number of the link in a state and the number of their list.
+# The messages that go on links, by the number of the link in a state and the number of their list.
 Gone = tuple[tuple[int, int], ...]
-# The number of the node's value after an event, or None if its program refuses it; the wires that go on links; and what
+# The number of the node's value after an event, or None if it refuses that; the messages that go on links; and what
 # goes wrong.
 After = tuple[int | None, Gone, str | None]
 Progress = Callable[[int, int], None]
 # The key of a fault: a state, and the number of the event in it, if it is one event's fault.
 Place = tuple[int, int | None]
 # Of the messages under way: sender, receiver, and what the file of a program knows of it.
-UnderWay = tuple[int, int, tuple[str, int]]
-
-
-class Status(NamedTuple):
-    """What is told of a node in a state."""
-
-    pulse: int
-    stage: str
-    waits: list[tuple[str, int]]
-    wrong: bool
-    colour: int | None
-    result: str
+UnderWay = tuple[int, int, tuple[int | str, ...]]
 
 
 class Move(NamedTuple):
     """An event that is possible: its number, the number of the node's value after it or None, the link that it takes
-    from or None, the number of what that holds then, the wires that go on links, and what goes wrong.
+    from or None, the number of what that holds then, the messages that go on links, and what goes wrong.
     """
 
     event: int
@@ -110,42 +87,56 @@ class Numbered(list[Thing]):
         return found
 
 
-class Space:
-    """The states of a network, which are there once `search` has found them."""
+class SearchedNode(Node, Protocol):
+    """A node of which a search makes copies, and compares them."""
+
+    def copied(self: "Same") -> "Same":
+        """A node that is changed alone."""
+
+    def key(self) -> Hashable:
+        """Equal for equal nodes of one vertex."""
+
+
+Same = TypeVar("Same", bound=SearchedNode)
+AnySearched = TypeVar("AnySearched", bound=SearchedNode)
+
+
+class Space(Generic[AnySearched]):
+    """The states of a network, which are there once `search` has found them. What its nodes have found is asked of the
+    `file` of their program, if they have one."""
 
     def __init__(
         self,
         net: Network,
+        node_of: Callable[[Network, int], AnySearched],
+        file: ProgramFile | None = None,
         without: Collection[str] = (),
         limit: int = 1_000_000,
-        reduce: bool = False,
-        program: Program = COLOURING,
     ) -> None:
         self.net = net
+        self.node_of = node_of
+        self.file = file
         self.without = tuple(without)
         self.limit = limit
-        self.reduce = reduce
-        self.program = program
-        self.asks_for_messages = asks_for_messages(program)
+        self.asks_for_messages = asks_for_messages(file)
         self.vertices = net.vertices
         self.ports = net.neighbours
-        self.last = program.last_pulse(net)
         self.links = [(v, w) for v in self.vertices for w in self.ports[v]]
         self.slot = {link: k for k, link in enumerate(self.links, len(self.vertices))}
         self.arriving = [[self.slot[w, v] for w in self.ports[v]] for v in self.vertices]
-        # The parts of a state, each kept once and known by its number; a link's content are the numbers of its wires,
-        # and content 0 is empty.
-        self.locals: list[Numbered[RuledNode]] = [Numbered() for _ in self.vertices]
+        # The parts of a state, each kept once and known by its number; a link's content are the numbers of its
+        # messages, and content 0 is empty.
+        self.locals: list[Numbered[AnySearched]] = [Numbered() for _ in self.vertices]
         self.wires: Numbered[Message] = Numbered()
         self.contents: Numbered[tuple[int, ...]] = Numbered()
         self.contents.number(())
         self.events: Numbered[Event] = Numbered()
         # Each is worked out once for the same parts of a state.
         self.moves_of = cache(self.find_moves)
-        self.pulse = cache(self.find_pulse)
+        self.act = cache(self.find_act)
         self.take = cache(self.find_take)
         self.with_wires = cache(self.find_with_wires)
-        self.event = cache(self.find_event)
+        self.result = cache(self.find_result)
         self.faults: dict[Place, str] = {}
         self.ends: list[int] = []
         self.broken: set[int] = set()
@@ -162,8 +153,8 @@ class Space:
 
     # What a node can do.
 
-    def after(self, a: int, node: RuledNode) -> tuple[int, Gone]:
-        """(number of the node's value, wires that go on its links), its out-lists being put."""
+    def after(self, a: int, node: AnySearched) -> tuple[int, Gone]:
+        """(number of the node's value, messages that go on its links), its out-lists being put."""
         gone = []
         for w, port in zip(self.ports[self.vertices[a]], node.ports):
             if port.out:
@@ -172,17 +163,21 @@ class Space:
                 port.out = []
         return self.locals[a].number(node, node.key()), tuple(gone)
 
-    def find_pulse(self, a: int, i: int) -> After:
-        """What a pulse of the node with this value comes to."""
+    def find_act(self, a: int, i: int) -> After:
+        """What a step of its own of the node with this value comes to."""
         node = self.locals[a][i].copied()
-        fault, is_refused = node.fault_of_pulse(self.vertices[a], self.rounds)
+        fault, is_refused = self.fault_of_act(self.vertices[a], node)
         if is_refused:
             return None, (), fault
         node.act()
         return *self.after(a, node), fault
 
+    def fault_of_act(self, v: int, node: AnySearched) -> tuple[str | None, bool]:
+        """What is wrong with the next step of its own of a node, or None; and whether the node refuses it."""
+        return None, False
+
     def find_take(self, a: int, i: int, port: int, number: int) -> After:
-        """What the take of the wire of a number comes to."""
+        """What the take of the message of a number comes to."""
         node, wire = self.locals[a][i].copied(), self.wires[number]
         try:
             node.on_wire(port, wire)
@@ -191,66 +186,53 @@ class Space:
             return None, (), f"node {v} refuses `{wire}` from {self.ports[v][port]}"
         return *self.after(a, node), None
 
-    def find_event(self, v: int, port: int | None, wire: int = 0, place: int = 0) -> int:
-        """The number of a pulse, which has no port, or of the take of the wire of a number."""
-        if port is None:
-            return self.events.number(Event(Kind.PULSE, v))
-        return self.events.number(Event(Kind.TAKE, v, port, self.wires[wire], place))
+    def find_result(self, a: int, i: int) -> str:
+        """What the node with this value has found."""
+        return self.locals[a][i].result()
 
     def find_moves(self, a: int, i: int, *arriving: int) -> Moves:
         """The moves of a node with this value and these contents of the links to it, and which is made `alone`."""
         v, node, moves = self.vertices[a], self.locals[a][i], []
         if node.may_act():
-            j, gone, fault = self.pulse(a, i)
-            moves.append(Move(self.event(v, None), j, None, 0, gone, fault))
+            j, gone, fault = self.act(a, i)
+            moves.append(Move(self.events.number(Event(node.own, v)), j, None, 0, gone, fault))
         for p, (w, c) in enumerate(zip(self.ports[v], arriving)):
             wires = self.contents[c]
             for place in range(len(wires) if "fifo" in self.without else min(1, len(wires))):
                 j, gone, fault = self.take(a, i, p, wires[place])
-                e = self.event(v, p, wires[place], place)
+                taken = Event(Kind.TAKE, v, p, self.wires[wires[place]], place)
+                e = self.events.number(taken)
                 rest = self.contents.number(wires[:place] + wires[place + 1 :])
                 moves.append(Move(e, j, self.slot[w, v], rest, gone, fault))
         return moves, self.alone(moves)
 
     def alone(self, moves: list[Move]) -> Move | None:
-        """With `reduce`, the take of a safe or a close that comes next on its link, if a node has one among its moves.
-
-        Such a take sends nothing. It stays possible, with the same effect, whatever else happens first: others only add
-        to the end of the link, and at its node a pulse or a take from another link neither needs what it changes to be
-        as it was nor makes it impossible. So each list of events can be changed into one in which it
-        comes first, by exchanging neighbours that don't depend on each other, and what each pulse finds and whatever
-        is refused stays as it is. Without `safes` or `fifo` that isn't so. (A take that is refused isn't meant.)
-        """
-        for move in moves if self.reduce else ():
-            wire = self.events[move.event].message
-            if move.value is not None and wire and wire.word in ("safe", "close"):
-                return move
+        """Which of a node's moves is made before anything else, so that nothing else is tried; None of most nodes."""
         return None
 
     # The search.
 
     def start(self) -> State:
-        """The first state; `first_puts` are the wires that are put by then."""
+        """The first state; `first_puts` are the messages that are put by then."""
         state = [0] * (len(self.vertices) + len(self.links))
         for a, v in enumerate(self.vertices):
-            state[a], gone = self.after(a, RuledNode(self.net, v, self.without, self.program))
+            state[a], gone = self.after(a, self.node_of(self.net, v))
             self.first_puts += gone
         return self.with_all(state, self.first_puts)
 
     def with_all(self, state: list[int], gone: Iterable[tuple[int, int]]) -> State:
-        """The state with these wires on its links."""
+        """The state with these messages on its links."""
         for slot, wires in gone:
             state[slot] = self.with_wires(state[slot], wires)
         return tuple(state)
 
     def find_with_wires(self, c: int, wires: int) -> int:
-        """The number of what a link holds once these wires are put on it, too."""
+        """The number of what a link holds once these messages are put on it, too."""
         return self.contents.number(self.contents[c] + self.contents[wires])
 
-    def search(self, progress: Progress | None = None) -> "Space":
+    def search(self, progress: Progress | None = None) -> "Space[AnySearched]":
         """Finds the states and the steps between them; `progress` is told now and then how many states there are, and
         how many events lead to the last one."""
-        self.rounds = Rounds(self.net, self.program)
         self.states.number(self.start())
         said, s = time.monotonic(), 0
         while s < len(self.states) and not self.is_cut:
@@ -298,42 +280,38 @@ class Space:
         self.first.append(len(self.target))
         if not possible:
             self.ends.append(s)
-            if not self.is_whole(state):
-                self.faults[s, None] = self.stuck_words(s)
-        if self.program.file is not None and (words := self.wrong_words(state, not possible)):
+            if words := self.fault_of_end(s):
+                self.faults[s, None] = words
+        if self.file is not None and (words := self.wrong_words(state, not possible)):
             self.faults[s, None] = words
             self.broken.add(s)
 
+    def fault_of_end(self, s: int) -> str:
+        """What is wrong with a state in which nothing is possible, whatever the nodes have found; or nothing."""
+        return ""
+
     def wrong_words(self, state: State, is_end: bool) -> str:
         """What the file of a program says of what its nodes have found in a state."""
-        found = tuple(
-            self.locals[a][state[a]].simulated.result() for a in range(len(self.vertices))
-        )
+        found = tuple(self.result(a, state[a]) for a in range(len(self.vertices)))
         messages = tuple(self.under_way(state)) if self.asks_for_messages else ()
         key = found, messages, is_end
         if key not in self.verdicts:
             results = dict(zip(self.vertices, found))
-            words = what_is_wrong(self.net, self.program, results, "always", messages)
+            words = what_is_wrong(self.net, self.file, results, "always", messages)
             if is_end and not words:
-                words = what_is_wrong(self.net, self.program, results)
+                words = what_is_wrong(self.net, self.file, results)
             self.verdicts[key] = words
         return self.verdicts[key]
 
     def under_way(self, state: State) -> list[UnderWay]:
-        """(sender, receiver, payload) by identifier, ascending, of what is sent and not yet read: on its link, or taken
-        for this pulse's inbox or the next."""
+        """(sender, receiver, message) by identifier, ascending, of what is sent and not yet taken."""
         name = self.net.identifiers
         found: list[UnderWay] = []
-        for a, v in enumerate(self.vertices):
-            for w, port in zip(self.ports[v], self.locals[a][state[a]].ports):
-                for number in self.contents[state[self.slot[v, w]]]:
-                    match self.wires[number]:
-                        case Message("payload", (_, str(word), int(value))):
-                            found.append((name[v], name[w], (word, value)))
-                for slot in (port.present, port.early):
-                    if slot is not None:
-                        found.append((name[w], name[v], (slot.word, slot.number)))
-        return sorted(found)
+        for (v, w), slot in self.slot.items():
+            for number in self.contents[state[slot]]:
+                message = self.wires[number]
+                found.append((name[v], name[w], (message.word, *message.fields)))
+        return sorted(found, key=placed_among)
 
     def reached(self, state: State, s: int, e: int) -> int:
         t = self.states.number(state)
@@ -361,77 +339,13 @@ class Space:
             for k in range(self.first[s], self.first[s + 1])
         ]
 
-    def is_whole(self, state: State) -> bool:
-        return all(
-            self.locals[a][state[a]].drained() for a in range(len(self.vertices))
-        ) and not any(state[len(self.vertices) :])
-
-    def stuck_words(self, s: int) -> str:
-        waiting = [
-            f"node {v} waits for {' and '.join(f'{wire} from {w}' for wire, w in node.waits)}"
-            for v, node in self.nodes(s).items()
-            if node.waits
-        ]
-        said = "nothing is possible before the end"
-        return f"{said}, and {', '.join(waiting)}" if waiting else said
-
-    def nodes(self, s: int) -> dict[int, Status]:
-        return {
-            v: self.status_of(v, self.locals[a][self.states[s][a]])
-            for a, v in enumerate(self.vertices)
-        }
-
-    def status_of(self, v: int, node: RuledNode) -> Status:
-        simulated = node.simulated
-        colour = simulated.merged if isinstance(simulated, Colouring) else None
-        stage, waits = self.stage_of(v, node)
-        return Status(node.pulse_number, stage, waits, node.wrong, colour, simulated.result())
-
-    def stage_of(self, v: int, node: RuledNode) -> tuple[str, list[tuple[str, int]]]:
-        """How far a node is in its pulse, and the wires for which it waits there."""
-        p, ports = node.pulse_number, list(zip(self.ports[v], node.ports))
-        if p == self.last:
-            waits = [("close", w) for w, port in ports if not port.closed]
-            return ("last" if waits else "whole"), waits
-        if not node.said:
-            return "asks", [(f"ack {p}", w) for w, port in ports if port.waits]
-        if "safes" in self.without:
-            return "ready", []
-        waits = [(f"safe {p}", w) for w, port in ports if not port.safe]
-        return ("safe" if waits else "ready"), waits
-
-    @property
-    def farthest(self) -> int:
-        places = [(self.vertices.index(v), self.vertices.index(w)) for v, w in self.links if v < w]
-        pulses = [[node.pulse_number for node in nodes] for nodes in self.locals]
-        return max(
-            (
-                abs(pulses[a][state[a]] - pulses[b][state[b]])
-                for state in self.states
-                for a, b in places
-            ),
-            default=0,
-        )
+    def results(self, s: int) -> dict[int, str]:
+        """What each node has found in a state."""
+        return {v: self.result(a, self.states[s][a]) for a, v in enumerate(self.vertices)}
 
     @property
     def most_wires(self) -> int:
         return max(map(len, self.contents))
-
-    @property
-    def schedules(self) -> int | None:
-        if self.expanded < self.count:
-            return None
-        ways, found = [0] * self.count, 0
-        ways[0] = 1
-        for s in range(self.count):
-            targets = self.target[self.first[s] : self.first[s + 1]]
-            for t in targets:
-                if t == REFUSED or self.depth[t] != self.depth[s] + 1:
-                    return None
-                ways[t] += ways[s]
-            found += 0 if targets else ways[s]
-            ways[s] = 0
-        return found
 
     # Lists of events.
 
@@ -451,7 +365,7 @@ class Space:
         return self.path(s) + ([] if e is None else [self.events[self.event_of[self.first[s] + e]]])
 
     def with_puts(self, events: list[Event]) -> list[Event]:
-        """The events with the puts between them, each only as a take needs its wire."""
+        """The events with the puts between them, each only as a take needs its message."""
         sent: dict[Edge, list[Message]] = {link: [] for link in self.links}
         held: dict[Edge, list[int]] = {link: [] for link in self.links}
         put: Counter[Edge] = Counter()
@@ -477,7 +391,13 @@ class Space:
         return listed
 
     def after_event(self, state: State, event: Event) -> tuple[State, Gone]:
-        """The state after an event, which stays as it is if a program refuses that; and the wires that go on links."""
+        """The state after an event, which stays as it is if a node refuses that; and the messages that go on links."""
         a = self.vertices.index(event.node)
         move = next(move for move in self.moves_in(state, a)[0] if self.events[move.event] == event)
         return state if move.value is None else self.moved(state, a, move.value, move), move.gone
+
+
+def placed_among(message: UnderWay) -> tuple[int, int, list[tuple[bool, int | str]]]:
+    """What messages are sorted by, since numbers and words can't be compared: numbers come first."""
+    v, w, fields = message
+    return v, w, [(isinstance(field, str), field) for field in fields]

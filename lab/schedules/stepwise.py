@@ -8,16 +8,17 @@ import re
 from collections.abc import Collection, Iterable
 
 from lab.definitions.events import PULSE, PUT, TAKE, Event, Kind
-from lab.definitions.nodes import COLOURING, Refused
+from lab.definitions.machine import Refused
+from lab.definitions.nodes import COLOURING
 from lab.definitions.program import Program
 from lab.network import Edge, Network
 from lab.schedules.policies import Step
 from lab.schedules.ruled_node import Rounds, RuledNode
-from lab.schedules.simulate import Player, events_of
+from lab.schedules.simulate import AlphaPlayer, events_of
 from lab.wrong import Wrong, wrong_line
 
 
-class Stepwise(Player):
+class Stepwise(AlphaPlayer):
     """`chosen` are the steps so far, `lines` the events as `forestplay events` reads them. `fault` says what went wrong
     first; after `is_over` nothing goes on, since a program has refused what came."""
 

@@ -5,7 +5,8 @@ always judged by the definitions."""
 import re
 
 from lab.definitions.colours import plan_text
-from lab.definitions.nodes import NetState, Refused, entry_words, make
+from lab.definitions.machine import Refused, entry_words, make
+from lab.definitions.nodes import alpha_start
 from lab.definitions.program import Program
 from lab.definitions.programs import program_words
 from lab.definitions.rounds import Rounds
@@ -108,7 +109,7 @@ def beginning_judged(
         return Replayed(
             ok=status == 0, said=said, by=MACHINE, entries=len(entries), pulses=at, wires=flying
         )
-    state, said = NetState(network, program), ""
+    state, said = alpha_start(network, program), ""
     try:
         for entry in read(text.encode(), program.name)[1]:
             try:

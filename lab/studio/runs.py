@@ -14,7 +14,7 @@ from lab.pictures.program_rounds import is_own, least_wires, rounds_of
 from lab.pictures.watch_page import MOST_ENTRIES, Run, Steps, draw, look_of, run_of_text
 from lab.schedules.policies import Policy
 from lab.schedules.rules import OF_SCHEDULES
-from lab.schedules.simulate import Player, events_of, text_of_run
+from lab.schedules.simulate import AlphaPlayer, events_of, text_of_run
 from lab.schedules.stepwise import Stepwise
 from lab.studio.answers import JudgedText, Replayed, RunPart, StepsFound, WholeRun
 from lab.studio.asked import (
@@ -67,7 +67,7 @@ def played(call: RunCall, network: Network, program: Program, tell: Tell) -> tup
     policy = Policy(
         call.policy, network.vertices, network.edges, call.seed, *held_of(call, network)
     )
-    player = Player(network, program)
+    player = AlphaPlayer(network, program)
     made = Steps(player.state)
     for step in first_steps(call.steps, network, program):
         made.add(player.make(step))

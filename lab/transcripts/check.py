@@ -7,7 +7,8 @@ from collections import deque
 from dataclasses import replace
 
 from lab.definitions.events import PUT, Entry, Message
-from lab.definitions.nodes import COLOURING, NetState, Refused, make
+from lab.definitions.machine import Refused, make
+from lab.definitions.nodes import COLOURING, alpha_start
 from lab.definitions.program import Program
 from lab.network import Network
 from lab.transcripts.fields import fields_of
@@ -22,7 +23,7 @@ class Found:
 
     def __init__(self, net: Network, entries: list[Entry], program: Program) -> None:
         self.entries, self.is_stamped = entries, bool(entries) and entries[0].stamp is not None
-        self.state, self.clock = NetState(net, program), Clock(net.neighbours)
+        self.state, self.clock = alpha_start(net, program), Clock(net.neighbours)
         self.made: list[Entry] = []
         self.left: dict[int, deque[Entry]] = {}
         self.refusals: dict[int, str] = {}

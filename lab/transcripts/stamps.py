@@ -3,7 +3,8 @@ from collections import deque
 from collections.abc import Iterable, Iterator
 
 from lab.definitions.events import PULSE, PUT, TAKE, Entry, Kind
-from lab.definitions.nodes import NetState, event_of, lacks_of
+from lab.definitions.machine import NetState, Node, event_of
+from lab.definitions.nodes import AlphaNode, lacks_of
 from lab.transcripts.reading import Head, Wrong, words
 from lab.transcripts.rules import Standing, rule_of, stuck_words
 
@@ -27,7 +28,7 @@ class Clock:
         return stamp + 1
 
 
-def check_whole(state: NetState, last: Entry | Head) -> None:
+def check_whole(state: NetState[AlphaNode], last: Entry | Head) -> None:
     """Refuses a run that ends too early: what isn't done yet, or who owes what if nothing is on its way. `last` is its
     last entry, or the first line."""
     if undone := next(unfinished(state), None):
@@ -40,12 +41,12 @@ def check_whole(state: NetState, last: Entry | Head) -> None:
         raise Wrong(last.line, "NotWhole", f"after the last entry {what}")
 
 
-def standing(state: NetState, v: int) -> Standing:
+def standing(state: NetState[AlphaNode], v: int) -> Standing:
     """Where a node is, for the words on its next entry."""
     node = state.nodes[v]
     puts = {w: str(port.out[0]) for w, port in zip(state.neighbours[v], node.ports) if port.out}
     is_at_the_end = node.pulse_number == node.last
-    lacks = ([], []) if is_at_the_end or node.may_act() else lacks_of(state, v)
+    lacks = ([], []) if is_at_the_end or node.may_act() else lacks_of(node, state.neighbours[v])
     return Standing(node.pulse_number, node.last, node.may_act(), *lacks, puts, "for {}")
 
 
@@ -56,7 +57,9 @@ LACKED = {
 }
 
 
-def refusal(state: NetState, entry: Entry, code: str, entries: list[Entry], clock: Clock) -> Wrong:
+def refusal(
+    state: NetState[AlphaNode], entry: Entry, code: str, entries: list[Entry], clock: Clock
+) -> Wrong:
     """Of an entry that isn't possible: what it lacks or what is due there, and the rule that a pulse or a put
     breaks."""
     said = words(entry) + LACKED.get(code, "")
@@ -93,11 +96,11 @@ def why_link_empty(entry: Entry, entries: list[Entry]) -> str:
     return f", and {entry.neighbour} never puts it (is the text cut?)"
 
 
-def unfinished(state: NetState) -> Iterator[tuple[int, str]]:
+def unfinished(state: NetState[Node]) -> Iterator[tuple[int, str]]:
     """What a state lacks for a whole run: a node, and what it hasn't done."""
     for v, node in state.nodes.items():
-        if node.pulse_number != node.last:
-            yield v, f"node {v} is at pulse {node.pulse_number} of {node.last}"
+        if undone := node.undone():
+            yield v, f"node {v} {undone}"
     for (v, w), port in state.port_to.items():
         for wire in state.nodes[v].ports[port].out:
             yield v, f"node {v} hasn't put {wire} for {w}"

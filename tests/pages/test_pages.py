@@ -14,7 +14,7 @@ import re
 
 from lab.definitions.colours import colours
 from lab.definitions.events import Event, Kind, Message
-from lab.definitions.nodes import DROPPED, NetState, last_pulse, text_of_wire
+from lab.definitions.nodes import DROPPED, alpha_start, last_pulse, text_of_wire
 from lab.definitions.rounds import Rounds
 from lab.networks.network_text import network_of
 from lab.studio.lessons import lessons
@@ -51,7 +51,7 @@ def tables_of(lines):
 
 def played(net, rows):
     """The rows of a run, event by event: its events with their wires, and the nodes' pulses after each row."""
-    state, wanted = NetState(net), [rows[0][1:4]]
+    state, wanted = alpha_start(net), [rows[0][1:4]]
     for row in rows[2:]:
         wires = []
         for kind, v, _, port in re.findall(r"(Pulse|Put|Take)\((\d+)(,(\d+))?\)", row[1]):

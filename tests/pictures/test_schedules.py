@@ -7,7 +7,7 @@ from itertools import pairwise
 from lab.definitions.leader import LEADER
 from lab.definitions.nodes import COLOURING
 from lab.networks.network_text import network_of
-from lab.schedules.space import Space
+from lab.schedules.alpha_space import AlphaSpace
 from tests.cases import example
 from tests.pictures.base import PictureCase
 from tests.pictures.marks import SVG, centre, ends, marks, parsed, texts, title
@@ -19,7 +19,7 @@ NETWORKS = {name: example(name) for name in ("two", "path", "triangle")}
 
 @functools.cache
 def space_of(name, without=(), program=COLOURING):
-    return Space(network_of(NETWORKS[name]), without, program=program).search()
+    return AlphaSpace(network_of(NETWORKS[name]), without, program=program).search()
 
 
 def columns_of(root, mark):

@@ -8,7 +8,7 @@ from lab.networks.network_text import network_of
 from lab.pictures import watch_page
 from lab.pictures.watch_page import Run, Steps, steps_of_text
 from lab.schedules.policies import Policy
-from lab.schedules.simulate import Player, text_of_run
+from lab.schedules.simulate import AlphaPlayer, text_of_run
 from tests.cases import example
 from tests.pictures.base import PictureCase, transcript
 from tests.pictures.marks import data_of
@@ -74,7 +74,7 @@ class Watch(PictureCase):
     def test_run_of_a_player(self):
         """The steps of a player show what its transcript shows."""
         network = network_of(example("triangle"))
-        player = Player(network)
+        player = AlphaPlayer(network)
         steps = Steps(player.state)
         for entry in player.entries(Policy("random", network.vertices, network.edges, "watch")):
             steps.add(entry)

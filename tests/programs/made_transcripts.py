@@ -5,7 +5,7 @@ from collections import deque
 
 from lab.definitions.events import Event, Kind
 from lab.definitions.nodes import COLOURING
-from lab.schedules.simulate import Player, text_of_run
+from lab.schedules.simulate import AlphaPlayer, text_of_run
 from lab.transcripts.reading import line_of
 
 MOST_TAKES = 4
@@ -54,7 +54,7 @@ class Run:
     looks that it needs shows whether capacity and turns reached the run."""
 
     def __init__(self, net, capacity, program=COLOURING):
-        self.player, self.nodes, self.looks = Player(net, program), net.nodes, 0
+        self.player, self.nodes, self.looks = AlphaPlayer(net, program), net.nodes, 0
         self.program = program
         state, pool = self.player.state, deque(net.vertices)
         while pool:

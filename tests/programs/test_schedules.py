@@ -9,12 +9,12 @@ import re
 
 from lab.definitions.colours import colours
 from lab.definitions.events import Event, Kind
-from lab.definitions.nodes import NetState, last_pulse
+from lab.definitions.nodes import alpha_start, last_pulse
 from lab.network import Network
 from lab.networks.network_text import network_of
 from lab.schedules import ruled_rounds, rules
 from lab.schedules.explore import rounded
-from lab.schedules.space import Space
+from lab.schedules.alpha_space import AlphaSpace
 from tests import TOP
 from tests.cases import Case, called, found_in, said_by, text_in
 from tests.programs.test_plain_networks import networks_by_chance, payloads_of
@@ -186,7 +186,7 @@ class Schedules(Case):
 
     def test_trials(self):
         for name, how, states, steps in TRIAL:
-            space = Space(net_of(name), limit=MOST, **how).search()
+            space = AlphaSpace(net_of(name), limit=MOST, **how).search()
             self.same(
                 f"numbers of {name}, {how}", (space.count, len(space.target)), (states, steps)
             )
@@ -204,15 +204,15 @@ class Schedules(Case):
 
     def test_formulas(self):
         for name in ("alone", "apart", "barred"):
-            self.end_rows(name, Space(net_of(name), limit=MOST).search())
+            self.end_rows(name, AlphaSpace(net_of(name), limit=MOST).search())
 
     def test_walks(self):
         """Random walks, each state beside the definitions."""
         source = random.Random(SEED)
         for name, count in (("two", 10), ("path", 10), ("triangle", 20)):
-            space = Space(net_of(name), limit=MOST).search()
+            space = AlphaSpace(net_of(name), limit=MOST).search()
             for _ in range(count):
-                state, s, length = NetState(space.net), 0, source.randrange(0, 400)
+                state, s, length = alpha_start(space.net), 0, source.randrange(0, 400)
                 events: list[str] = []
                 put_all(state)
                 is_right = is_state(space, s, state)
@@ -228,14 +228,16 @@ class Schedules(Case):
     def test_reduced(self):
         """With `reduce` the same goes wrong, and the ends are the same; its states are some of the whole search."""
         for net, without in REDUCED:
-            whole, less = (Space(net, without, MOST, reduce=it).search() for it in (False, True))
+            whole, less = (
+                AlphaSpace(net, without, MOST, reduce=it).search() for it in (False, True)
+            )
             name = f"{net.edges} without {without}"
             self.note(f"nothing goes wrong: {name}", not less.faults and not whole.faults)
             self.same(name, *(states_of(space, space.ends) for space in (less, whole)))
             some, of_all = (states_of(space, range(space.count)) for space in (less, whole))
             self.note(f"states of {name}", some < of_all, (len(some), len(of_all)))
         for without in (("early",), ("acks", "early")):
-            less = Space(net_of("two"), without, MOST, reduce=True).search()
+            less = AlphaSpace(net_of("two"), without, MOST, reduce=True).search()
             self.note(f"what goes wrong is found: two without {without}", less.faults)
         # The triangle's counts by the help; and nothing of what it doesn't know.
         for words in ((), ("--reduce",)):
@@ -334,5 +336,5 @@ class Schedules(Case):
         )
         said = explored("--help")[1]
         self.note("explore --help", all(f"  {word} " in said for word in rules.ALL), said)
-        cut = Space(net_of("two"), limit=280).search()
+        cut = AlphaSpace(net_of("two"), limit=280).search()
         self.note("more states than the limit", cut.is_cut and cut.expanded < cut.count, cut.count)

@@ -7,10 +7,11 @@ import re
 
 from lab.definitions.colours import colours
 from lab.definitions.events import Event, Kind
-from lab.definitions.nodes import NetState, make
+from lab.definitions.machine import make
+from lab.definitions.nodes import alpha_start
 from lab.networks.network_text import network_of
 from lab.schedules.policies import POLICIES
-from lab.schedules.simulate import Player, played
+from lab.schedules.simulate import AlphaPlayer, played
 from lab.transcripts.check import whole_run
 from tests.cases import Case, called, example, forestlab
 from tests.settings import PLAY
@@ -27,7 +28,7 @@ class Waits(Case):
     def test_since_when(self):
         """By hand: node 2 puts its greeting third and its acknowledgement fourth, so node 1 can take since 3, and what
         was put on that link last is of 4."""
-        player = Player(network_of(example("two")))
+        player = AlphaPlayer(network_of(example("two")))
         for kind, node in ((Kind.PUT, 1), (Kind.TAKE, 2), (Kind.PUT, 2), (Kind.PUT, 2)):
             player.make(Event(kind, node, 0))
         self.assertEqual(
@@ -54,7 +55,7 @@ class Waits(Case):
                 [2, 1, 0, 0, 0, 0],
             ),
         ):
-            state = NetState(net)
+            state = alpha_start(net)
             for entry in itertools.takewhile(lambda it: not waits(it), entries):
                 make(state, entry)
             self.same(name, [node.pulse_number for node in state.nodes.values()], pulses)
