@@ -19,7 +19,7 @@ from lab.studio.fields import object_of
 from lab.studio.networks import opened_by
 from lab.transcripts import transcript
 from lab.workshop.protocol import END, fields_of, forms_of, lines_of
-from lab.workshop.findings import Fault
+from lab.workshop.findings import NoAnswer
 from lab.workshop.submissions import said_command
 from lab.wrong import Wrong
 
@@ -146,7 +146,7 @@ def answer(words: list[str]) -> int:
         end = END.search(got)
         for line in lines_of(got[: end.start()] if end else got):
             fields_of(line, forms_of(words[0], "colouring"), 2)
-    except Fault:
+    except NoAnswer:
         return 1
     return 0
 

@@ -16,7 +16,14 @@ from lab.pictures.results_picture import Found, draw_chosen, found_in, legend
 from lab.pictures.rounds_picture import COLUMN, LEFT, ROW, SQUARE, draw_rows, place_of
 from lab.pictures.schedules_space import left_out_words
 from lab.pictures.svg import Svg, text_width, wrapped
-from lab.schedules.ruled_rounds import Clash, Fault, RuledRounds, RuledSequel, looked_at, ruled
+from lab.schedules.ruled_rounds import (
+    Clash,
+    RuledRounds,
+    RuledSequel,
+    WrongResult,
+    looked_at,
+    ruled,
+)
 from lab.words import in_words
 from lab.wrong import Wrong, at_most
 
@@ -254,7 +261,7 @@ class OfEnd:
         )
 
 
-def draw_end(svg: Svg, found: dict[int, Found], faults: list[Fault], drawn: Map) -> None:
+def draw_end(svg: Svg, found: dict[int, Found], faults: list[WrongResult], drawn: Map) -> None:
     """The edges that nodes have chosen, and below them a red one for each pair that isn't right; a node that isn't has
     a red ring."""
     for fault in faults:

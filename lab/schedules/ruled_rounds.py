@@ -147,7 +147,7 @@ class RuledRounds:
         )
 
 
-class Fault(NamedTuple):
+class WrongResult(NamedTuple):
     """What isn't right at one node, or at two that are neighbours."""
 
     nodes: tuple[int, ...]
@@ -168,7 +168,7 @@ class RuledMatching(Matching):
         return sent
 
 
-def matching_faults(net: Network, nodes: Nodes) -> Iterator[Fault]:
+def matching_faults(net: Network, nodes: Nodes) -> Iterator[WrongResult]:
     """Each node whose partner has another one."""
     partner = {
         v: None if node.partner is None else net.neighbours[v][node.partner]
@@ -177,7 +177,7 @@ def matching_faults(net: Network, nodes: Nodes) -> Iterator[Fault]:
     }
     for v, w in partner.items():
         if w and partner[w] != v:
-            yield Fault(
+            yield WrongResult(
                 (v, w),
                 f"the partner of node {v} is {w}, and that of node {w} is {partner[w] or 'none'}",
             )
@@ -197,12 +197,12 @@ class RuledSet(IndependentSet):
         return [Payload("joined", self.first.merged) if pulse < self.span else None] * self.degree
 
 
-def set_faults(net: Network, nodes: Nodes) -> Iterator[Fault]:
+def set_faults(net: Network, nodes: Nodes) -> Iterator[WrongResult]:
     """Each edge of which both ends are in."""
     members = {v for v, node in nodes.items() if isinstance(node, IndependentSet) and node.is_in}
     for v, w in net.edges:
         if v in members and w in members:
-            yield Fault((v, w), f"the neighbours {v} and {w} are both in")
+            yield WrongResult((v, w), f"the neighbours {v} and {w} are both in")
 
 
 class RuledRecolouring(Recolouring):
@@ -220,15 +220,17 @@ class RuledRecolouring(Recolouring):
         return [slot and Payload("anew", self.first.merged) for slot in sent]
 
 
-def recolouring_faults(net: Network, nodes: Nodes) -> Iterator[Fault]:
+def recolouring_faults(net: Network, nodes: Nodes) -> Iterator[WrongResult]:
     """Each edge whose ends have one channel, and each node with a channel that is barred at it."""
     colour = {v: node.present() for v, node in nodes.items() if isinstance(node, Recolouring)}
     for v, w in net.edges:
         if colour[v] == colour[w]:
-            yield Fault((v, w), f"the neighbours {v} and {w} both have channel {colour[v] + 1}")
+            yield WrongResult(
+                (v, w), f"the neighbours {v} and {w} both have channel {colour[v] + 1}"
+            )
     for v, c in colour.items():
         if c in net.barred[v]:
-            yield Fault((v,), f"node {v} has channel {c + 1}, which is barred at it")
+            yield WrongResult((v,), f"node {v} has channel {c + 1}, which is barred at it")
 
 
 class Ruled(NamedTuple):
@@ -236,7 +238,7 @@ class Ruled(NamedTuple):
     end, the nodes being as they are after the last pulse."""
 
     node: Callable[[Network, int, frozenset[str]], RoundsNode]
-    faults: Callable[[Network, Nodes], Iterator[Fault]]
+    faults: Callable[[Network, Nodes], Iterator[WrongResult]]
 
 
 RULED = {

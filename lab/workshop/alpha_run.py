@@ -9,7 +9,7 @@ from lab.schedules.policies import Policy, Step
 from lab.transcripts.fields import first_line
 from lab.transcripts.proved_judge import Verdict, verdict_of
 from lab.words import as_text
-from lab.workshop.findings import Fault
+from lab.workshop.findings import NoAnswer
 from lab.workshop.nodes import PATIENCE, Nodes
 from lab.workshop.protocol import fields_of, forms_of, own_data, shown, wire_of
 from lab.workshop.right_rounds import RightRounds, words_of
@@ -57,7 +57,7 @@ class AlphaRun:
         self.entries: list[Entry] = []
         self.results: dict[int, str] = {}
         self.pulses = dict.fromkeys(self.network.vertices, 0)
-        self.stop: tuple[int, Fault, str] | None = None
+        self.stop: tuple[int, NoAnswer, str] | None = None
 
     def play(self, nodes: Nodes) -> None:
         """Until nothing is on its way, a node gives no answer, or there are more entries than any right run has: then
@@ -86,7 +86,7 @@ class AlphaRun:
         try:
             for line in nodes.ask(v, lines):
                 self.answered(v, line)
-        except Fault as fault:
+        except NoAnswer as fault:
             self.stop = v, fault, asked
         return self.stop is None
 
@@ -113,10 +113,10 @@ class AlphaRun:
         """Refuses what isn't the one result of a node that has made its last pulse."""
         if v in self.results:
             words = f"it has said `{self.results[v]}` before, and a result is final"
-            raise Fault("garbage", f"{shown(line)}: {words}")
+            raise NoAnswer("garbage", f"{shown(line)}: {words}")
         if self.pulses[v] != self.rounds.last:
             words = f"a node says that once it has made its last pulse, {self.rounds.last}"
-            raise Fault("garbage", f"{shown(line)} at pulse {self.pulses[v]}: {words}")
+            raise NoAnswer("garbage", f"{shown(line)} at pulse {self.pulses[v]}: {words}")
 
     def write(self, v: int, words: str, after: int = 0) -> None:
         self.counters[v] = 1 + max(self.counters[v], after)

@@ -9,7 +9,7 @@ from lab.transcripts.proved_judge import Verdict, verdict_of
 from lab.transcripts.rules import Standing, rule_of, rules_of_dues
 from lab.words import as_text
 from lab.workshop.alpha_run import OWN_DATA, AlphaRun, Entry
-from lab.workshop.findings import Fault, Finding, first_of, kind_of, last_of, listed
+from lab.workshop.findings import Finding, NoAnswer, first_of, kind_of, last_of, listed
 from lab.workshop.right_rounds import RightRounds, words_of
 from lab.workshop.why import Why
 
@@ -144,7 +144,7 @@ def wrong_entry(run: AlphaRun, entries: list[Entry], verdict: Verdict) -> Findin
     return Finding(verdict.name, v, at.pulse, lines, verdict.at, way=kind_of(words))
 
 
-def no_answer(run: AlphaRun, entries: list[Entry], v: int, fault: Fault, asked: str) -> Finding:
+def no_answer(run: AlphaRun, entries: list[Entry], v: int, fault: NoAnswer, asked: str) -> Finding:
     at = at_node(run.rounds, entries, v)
     inbox = f", for which {run.rounds.came(at.pulse + 1, v)} came" if at.can_pulse else ""
     lines = [

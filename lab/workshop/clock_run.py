@@ -7,7 +7,7 @@ from collections.abc import Iterator
 
 from lab.network import Network
 from lab.networks.texts import plain_text
-from lab.workshop.findings import Fault, Finding, first_of, kind_of, listed
+from lab.workshop.findings import Finding, NoAnswer, first_of, kind_of, listed
 from lab.workshop.nodes import PATIENCE, Answer, Nodes
 from lab.workshop.protocol import COLOURING, fields_of, forms_of, own_data, shown
 from lab.workshop.right_rounds import RightRounds, Rounds, ask
@@ -77,10 +77,10 @@ class ClockRun(Rounds, ABC):
 
     def answered(self, p: int, v: int, answer: Answer) -> Finding | None:
         try:
-            if isinstance(answer, Fault):
+            if isinstance(answer, NoAnswer):
                 raise answer
             self.read(v, answer)
-        except Fault as fault:
+        except NoAnswer as fault:
             return self.finding(fault.kind, p, v, [("wrong", fault.message)], is_first=p == 0)
         return self.difference(p, v)
 
@@ -108,7 +108,7 @@ class ClockRun(Rounds, ABC):
             match fields_of(line, forms, len(self.ports[v])):
                 case "put", port, *words:
                     if int(port) in puts:
-                        raise Fault(
+                        raise NoAnswer(
                             "garbage",
                             f"{shown(line)} is a second payload by this port in one pulse",
                         )
@@ -143,7 +143,7 @@ class RoundsRun(ClockRun):
         about = {"colour": " ".join(fields[:2]), "chose": "chose"}.get(fields[0], "result")
         if about in self.said[v]:
             words = f"it has said `{self.said[v][about]}` in this answer already"
-            raise Fault("garbage", f"{shown(line)}: {words}")
+            raise NoAnswer("garbage", f"{shown(line)}: {words}")
         self.said[v][about] = " ".join(fields)
 
     def difference(self, p: int, v: int) -> Finding | None:
@@ -217,12 +217,12 @@ class OpenRun(ClockRun):
     def hear(self, v: int, line: str, fields: tuple[str, ...]) -> None:
         channel = int(fields[1])
         if channel == 0:
-            raise Fault(
+            raise NoAnswer(
                 "garbage", f"{shown(line)}: channels count from 1; a channel is a colour plus 1"
             )
         if v in self.channels:
             words = f"it has said channel {self.channels[v]} before, and a result is final"
-            raise Fault("garbage", f"{shown(line)}: {words}")
+            raise NoAnswer("garbage", f"{shown(line)}: {words}")
         self.channels[v] = channel
 
     def is_done(self) -> bool:

@@ -7,7 +7,7 @@ from lab.words import in_words
 MOST = 8  # of a list of words
 
 
-class Fault(Exception):
+class NoAnswer(Exception):
     """A program gave no answer. `kind` is silent, ended, garbage, flood, late or start."""
 
     def __init__(self, kind: str, message: str) -> None:

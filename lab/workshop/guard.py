@@ -8,7 +8,7 @@ import time
 from collections.abc import Callable, Collection
 from typing import TypedDict
 
-from lab.workshop.findings import Fault
+from lab.workshop.findings import NoAnswer
 from lab.workshop.leftovers import PARENT_DEATH_SIGNAL, Running, below, children, control, processes
 from lab.workshop.memory import memory_of
 
@@ -81,7 +81,7 @@ class Guard:
 
     def __init__(self) -> None:
         self.programs: set[int] = set()
-        self.faults: dict[int, Fault] = {}
+        self.faults: dict[int, NoAnswer] = {}
         self.next_look = 0.0
 
     def words(self, command: list[str]) -> list[str]:
@@ -139,7 +139,7 @@ class Guard:
             running = [process for process in [*family, *away] if not process.is_over]
             try:
                 self.check(running, memory)
-            except Fault as fault:
+            except NoAnswer as fault:
                 self.faults[program] = fault
                 end(family)
         seconds = time.monotonic() - begun
@@ -153,7 +153,7 @@ class Guard:
     def check(self, running: list[Running], memory: int) -> None:
         """Raises a fault if the processes of one program take too much."""
         if memory_of(running) > memory:
-            raise Fault("flood", f"it takes more than {memory >> 20} megabytes of memory")
+            raise NoAnswer("flood", f"it takes more than {memory >> 20} megabytes of memory")
 
     def tasks(self) -> int:
         """How many processes and threads the programs' user has now."""

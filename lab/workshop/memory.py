@@ -7,7 +7,7 @@ import re
 import stat
 from collections.abc import Iterable, Iterator
 
-from lab.workshop.findings import Fault
+from lab.workshop.findings import NoAnswer
 from lab.workshop.leftovers import Running
 
 SHARED = re.compile(rb"(?m)^RssShmem:\s+([0-9]+) kB$")
@@ -50,7 +50,7 @@ def text_of(number: int, name: str) -> bytes:
     except OSError:
         return b""
     if len(found) > MOST_BYTES:
-        raise Fault(
+        raise NoAnswer(
             "flood",
             f"a process of it has more than {MOST_BYTES >> 20} megabyte of /proc/PID/{name}",
         )

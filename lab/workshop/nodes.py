@@ -4,12 +4,12 @@ from collections.abc import Callable
 from typing import ParamSpec, TypeVar
 
 from lab.door import held
-from lab.workshop.findings import Fault
+from lab.workshop.findings import NoAnswer
 from lab.workshop.guard import Guard, Limits
 from lab.workshop.leftovers import end_all, is_reaper
 from lab.workshop.processes import Process
 
-Answer = list[str] | Fault
+Answer = list[str] | NoAnswer
 Given = ParamSpec("Given")
 Result = TypeVar("Result")
 PATIENCE = 1.0  # seconds that programs have to end at the end of their input
@@ -93,9 +93,9 @@ class Nodes:
 
 def attempt(
     do: Callable[Given, Result], *given: Given.args, **named: Given.kwargs
-) -> Result | Fault:
+) -> Result | NoAnswer:
     """What a call returns, or the fault that it raises."""
     try:
         return do(*given, **named)
-    except Fault as fault:
+    except NoAnswer as fault:
         return fault

@@ -10,7 +10,7 @@ from lab.workshop.alpha_run import AlphaRun
 from lab.workshop.alpha_verdict import finding_of
 from lab.workshop.cases import Case
 from lab.workshop.clock_run import ClockRun, OpenRun, RoundsRun
-from lab.workshop.findings import Fault, Finding, listed
+from lab.workshop.findings import Finding, NoAnswer, listed
 from lab.workshop.guard import Guard, Limits
 from lab.workshop.nodes import Nodes
 from lab.workshop.protocol import shown
@@ -58,7 +58,7 @@ class Player:
         try:
             with self.nodes(case) as nodes:
                 found = run.play(nodes)
-        except Fault as fault:  # a command can't be started
+        except NoAnswer as fault:  # a command can't be started
             raise Wrong(fault.message) from None
         if isinstance(run, AlphaRun):
             found = finding_of(run)

@@ -1,5 +1,5 @@
 """One student's program as a process: a message goes to its standard input, and its answer, up to a line `end`,
-comes from its standard output. Whatever it does, the workshop goes on: what is no answer is a Fault, and `stop`
+comes from its standard output. Whatever it does, the workshop goes on: what is no answer raises NoAnswer, and `stop`
 leaves no process."""
 import contextlib
 import os
@@ -10,7 +10,7 @@ import subprocess
 import tempfile
 import time
 
-from lab.workshop.findings import Fault
+from lab.workshop.findings import NoAnswer
 from lab.workshop.guard import Guard, Limits
 from lab.workshop.protocol import END, MOST_BYTES, lines_of, shown
 
@@ -59,7 +59,7 @@ class Process:
             )
         except OSError as why:
             said = f"{shown(' '.join(command))} can't be started: {why.strerror}{START_HINT}"
-            raise Fault("start", said) from None
+            raise NoAnswer("start", said) from None
         guard.programs.add(self.process.pid)
         assert self.process.stdin and self.process.stdout
         self.pipes = self.process.stdin, self.process.stdout
@@ -96,7 +96,9 @@ class Process:
         got = bytearray()
         while not (end := END.search(got)):
             if len(got) > MOST_BYTES:
-                raise Fault("flood", f"it wrote more than {MOST_BYTES} bytes without a line `end`")
+                raise NoAnswer(
+                    "flood", f"it wrote more than {MOST_BYTES} bytes without a line `end`"
+                )
             nothing = "it wrote nothing" + FIRST_HINT * (self.asked == 1)
             self.wait(
                 self.readable, f"it wrote {shown(got)}, and no line `end`" if got else nothing
@@ -116,28 +118,30 @@ class Process:
             found = exit_of(self.process.pid, 0)
             if found and not poll.poll(0):
                 words = f"it ended with {found}, and what it has started goes on"
-                raise Fault("ended", words + self.last_errors())
+                raise NoAnswer("ended", words + self.last_errors())
             if time.monotonic() < until:
                 continue
             if until < self.until:
-                raise Fault("late", "the time for all runs is over")
-            raise Fault("silent", f"{silent} within {self.seconds():g} seconds{self.last_errors()}")
+                raise NoAnswer("late", "the time for all runs is over")
+            raise NoAnswer(
+                "silent", f"{silent} within {self.seconds():g} seconds{self.last_errors()}"
+            )
 
     def seconds(self) -> float:
         """How long an answer may take: the first one longer, since the program starts meanwhile."""
         return self.limits.timeout * (FIRST_FACTOR if self.asked == 1 else 1)
 
-    def ended(self, got: bytes | bytearray = b"") -> Fault:
+    def ended(self, got: bytes | bytearray = b"") -> NoAnswer:
         """How it ended in the middle, or why it was ended."""
         if self.process.pid in self.guard.faults:
             return self.guard.faults[self.process.pid]
         found = exit_of(self.process.pid, time.monotonic() + 1)
         if found is None:
             words = "it closed its standard input or output, and goes on running"
-            return Fault("ended", words + self.last_errors())
+            return NoAnswer("ended", words + self.last_errors())
         after = f" after {shown(got)}" if got else ""
         words = f"it ended with {found}{after} instead of an answer"
-        return Fault("ended", words + self.last_errors())
+        return NoAnswer("ended", words + self.last_errors())
 
     def last_errors(self) -> str:
         """The end of what is on its standard error, if there is any."""
@@ -164,8 +168,8 @@ class Process:
         self.errors.close()
 
 
-def after_its_end(got: bytes | bytearray) -> Fault:
-    return Fault("garbage", f"it wrote after the line `end` of its answer: {shown(got)}")
+def after_its_end(got: bytes | bytearray) -> NoAnswer:
+    return NoAnswer("garbage", f"it wrote after the line `end` of its answer: {shown(got)}")
 
 
 def exit_of(pid: int, until: float) -> str | None:

@@ -5,7 +5,7 @@ from functools import cache
 
 from lab.network import Network
 from lab.transcripts.fields import NoEntry, wire_of as read_wire
-from lab.workshop.findings import Fault
+from lab.workshop.findings import NoAnswer
 
 EDITION = 1
 COLOURING = "colouring"
@@ -99,7 +99,7 @@ def fields_of(line: str, forms: list[str], degree: int) -> tuple[str, ...]:
     else:
         what = shown(line) if words else "an empty line"
         lines = ", ".join(f"`{form}`" for form in forms)
-        raise Fault(
+        raise NoAnswer(
             "garbage",
             f"{what} is no line of an answer, which are {lines} and `end`; what a program prints to "
             "find mistakes goes to standard error",
@@ -107,7 +107,7 @@ def fields_of(line: str, forms: list[str], degree: int) -> tuple[str, ...]:
     if found[1] == "put" and int(found[2]) >= degree:
         ports = {0: "no port", 1: "port 0 alone"}.get(degree, f"ports 0 to {degree - 1}")
         words = f"there is no port {found[2][:9]}; the node has {ports}"
-        raise Fault("garbage", f"{shown(line)}: {words}")
+        raise NoAnswer("garbage", f"{shown(line)}: {words}")
     return found.groups()
 
 
@@ -116,5 +116,5 @@ def wire_of(line: str, words: str, program: str) -> str:
     try:
         read_wire(program, *words.encode().split())
     except NoEntry as why:
-        raise Fault("garbage", f"{shown(line)}: {why}") from None
+        raise NoAnswer("garbage", f"{shown(line)}: {why}") from None
     return re.sub("\\b0+(?=[0-9])", "", words)

@@ -24,7 +24,7 @@ from functools import cached_property
 
 from lab.workshop import visible
 from lab.workshop.calls import filters_of_calls
-from lab.workshop.findings import Fault
+from lab.workshop.findings import NoAnswer
 from lab.workshop.guard import MEGABYTE, Guard, Limits, Start
 from lab.workshop.leftovers import Running
 from lab.workshop.memory import memory_of
@@ -157,10 +157,10 @@ class Sandbox(Guard):
     def check(self, running: list[Running], memory: int) -> None:
         rooms = rooms_of(running)
         if sum(room.f_files - room.f_ffree for room in rooms) > MOST_FILES:
-            raise Fault("flood", f"it wrote more than {MOST_FILES} files")
+            raise NoAnswer("flood", f"it wrote more than {MOST_FILES} files")
         written = sum((room.f_blocks - room.f_bfree) * room.f_frsize for room in rooms)
         if memory_of(running) + written > memory:
-            raise Fault("flood", f"it takes more than {memory >> 20} megabytes of memory")
+            raise NoAnswer("flood", f"it takes more than {memory >> 20} megabytes of memory")
 
     def try_out(self) -> None:
         """Refuses a system on which nothing can be started so."""

@@ -4,7 +4,7 @@ program."""
 
 import time
 
-from lab.workshop.findings import Fault
+from lab.workshop.findings import NoAnswer
 from lab.workshop.guard import Guard, Limits, Unguarded
 from lab.workshop.processes import Process, exit_of
 from lab.workshop.sandbox import USERS
@@ -115,7 +115,7 @@ class Memory(Contained):
                 for one in nodes:
                     one.receive()
             return "answers"
-        except Fault as fault:
+        except NoAnswer as fault:
             return f"{fault.kind}: {fault.message}"
         finally:
             for one in nodes:
@@ -175,7 +175,7 @@ class Memory(Contained):
             grows.send(["pulse"])
             slow.receive()
             self.note("ended", exit_of(grows.process.pid, 0) is not None, "it runs")
-            with self.assertRaises(Fault) as fault:
+            with self.assertRaises(NoAnswer) as fault:
                 grows.receive()
             self.same("named", f"{fault.exception.kind}: {fault.exception.message}", FLOOD)
         finally:

@@ -26,7 +26,7 @@ class Pages(Case):
         """All words that a finding is called by in the code."""
         said = set()
         for path in glob.glob(os.path.join(TOP, "lab", "workshop", "*.py")):
-            said |= set(re.findall(r'(?:[Ff]inding|Fault)\("(\w+)"', text_in(path)))
+            said |= set(re.findall(r'(?:[Ff]inding|NoAnswer)\("(\w+)"', text_in(path)))
         self.assertGreater(len(said), 6)
         table = page("PROTOCOL.md").partition("## What is wrong")[2]
         self.assertEqual({word for word in said - {"start"} if f"`{word}`" not in table}, set())

@@ -9,7 +9,7 @@ import subprocess
 from unittest import mock
 
 from lab.workshop.compiling import compiled, unpack
-from lab.workshop.findings import Fault
+from lab.workshop.findings import NoAnswer
 from lab.workshop.guard import OPEN_FILES, Limits
 from lab.workshop.leftovers import end_all, shut
 from lab.workshop.processes import Process
@@ -172,7 +172,7 @@ class Sandboxed(Contained):
         try:
             process.send(["workshop 1 rounds"])
             process.receive()
-        except Fault as fault:
+        except NoAnswer as fault:
             return f"{fault.kind}: {fault.message}"
         finally:
             process.stop(0)
@@ -206,7 +206,7 @@ class Sandboxed(Contained):
             ([f"./{NODE}"], f"`bwrap: execvp ./{NODE}: Permission denied`"),
         ):
             process = Process(command, Limits(30, 200, 1), self.guards()[0], 0)
-            with self.assertRaises(Fault) as found:
+            with self.assertRaises(NoAnswer) as found:
                 process.send(["workshop 1 rounds"])
                 process.receive()
             process.stop(0)

@@ -7,7 +7,7 @@ import sys
 
 from lab.workshop import grade
 from lab.workshop.compiling import compiled as compiled_in
-from lab.workshop.findings import Fault
+from lab.workshop.findings import NoAnswer
 from lab.workshop.guard import Limits
 from lab.workshop.processes import Process
 from lab.workshop.sandbox import USERS, Sandbox
@@ -49,7 +49,7 @@ class Starts(Contained):
         try:
             process.send([f"workshop 1 {assignment}", *FIRST.split("\n")])
             return process.receive()
-        except Fault as fault:
+        except NoAnswer as fault:
             return f"{fault.kind}: {fault.message}"
         finally:
             process.stop(0)
