@@ -6,9 +6,9 @@ import re
 
 from build.crate_lists import TOP, lines_of
 from build.kit import PARTS
+from lab.faults import Fault
 from lab.words import parser_of
 from lab.workshop.class_files import write
-from lab.wrong import Wrong
 
 # What a crate is called as a crate, as a type, and as a name in texts.
 Model = tuple[str, str, str]
@@ -62,9 +62,9 @@ def copy(name: str, top: str, model: Model = MODEL) -> None:
     """Writes the crate, of which nothing is there before, and its line of crates.txt, after the model's.
     Its test makes rounds, so the line has `sync_rounds`, too."""
     if not re.fullmatch("[a-z]{1,20}", name):
-        raise Wrong(f"{name}: a program's name is one word of at most 20 small letters, a to z")
+        raise Fault(f"{name}: a program's name is one word of at most 20 small letters, a to z")
     if os.path.exists(os.path.join(top, "crates", name)) or name == "colouring":
-        raise Wrong(f"{name}: there is a crate or a program of this name")
+        raise Fault(f"{name}: there is a crate or a program of this name")
     source = os.path.join(TOP, "crates", model[0])
     for part in PARTS:
         for path in glob.glob(os.path.join(source, part, "**", "*.*"), recursive=True):

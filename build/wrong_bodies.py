@@ -27,8 +27,8 @@ from collections.abc import Collection, Iterable, Mapping
 
 from build import gate, kit
 from build.crate_lists import TOP, listed
+from lab.faults import Fault
 from lab.words import parser_of
-from lab.wrong import Wrong
 
 # What the kit says of a refusal for a name alone.
 NAME_ALONE = "only because a proof file names"
@@ -62,7 +62,7 @@ def changed_since(rev: str, given: Mapping[str, list[str]], at_hand: list[str]) 
     asked = ["git", "-C", TOP, "diff", "--name-only", "--no-renames", rev, "--", "crates"]
     done = subprocess.run(asked, capture_output=True, text=True)
     if done.returncode:
-        raise Wrong(f"git knows no commit {rev}")
+        raise Fault(f"git knows no commit {rev}")
     parts = [line.split("/") for line in done.stdout.splitlines()]
     own = {part[1] for part in parts if part[2] in ("wrong-bodies", "src", "specs", "proofs")}
     said = {part[1] for part in parts if part[2] in ("src", "specs")}
@@ -77,7 +77,7 @@ def chosen(names: Iterable[str], at_hand: Collection[str]) -> dict[str, list[str
         there = edits_of(crate) if crate in at_hand else []
         found = [path for path in there if not edit or os.path.basename(path) == f"{edit}.edit"]
         if not found:
-            raise Wrong(f"there is no crates/{crate}/wrong-bodies/{edit}")
+            raise Fault(f"there is no crates/{crate}/wrong-bodies/{edit}")
         edits[crate] = list(dict.fromkeys(edits.get(crate, []) + found))
     return edits
 

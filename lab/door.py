@@ -13,7 +13,7 @@ from collections.abc import Callable, Iterator
 from types import FrameType
 from typing import NoReturn
 
-from lab.wrong import Wrong
+from lab.faults import Fault
 
 # What ends a command so that nothing is left of it and of what it runs.
 STOPS = (signal.SIGINT, signal.SIGTERM, signal.SIGHUP)
@@ -61,7 +61,7 @@ def run(name: str, load: Load) -> int:
     except KeyboardInterrupt:
         status = 130
         message = "interrupted"
-    except (Wrong, MemoryError) as why:
+    except (Fault, MemoryError) as why:
         status = 1
         message = str(why) or "out of memory"
     except OSError as why:
@@ -107,5 +107,5 @@ def status_of(child: int, reader: int) -> int:
         raise
     if not os.read(reader, 1):
         how = f"by signal {os.WTERMSIG(ended)}" if os.WIFSIGNALED(ended) else "by itself"
-        raise Wrong(f"the program's file has ended the command {how}, before it was done")
+        raise Fault(f"the program's file has ended the command {how}, before it was done")
     return os.waitstatus_to_exitcode(ended)

@@ -6,8 +6,8 @@ import subprocess
 import sys
 from collections.abc import Iterable
 
+from lab.faults import Fault
 from lab.unbuilt import how_to_build
-from lab.wrong import Wrong
 
 TOP = os.path.dirname(os.path.dirname(os.path.realpath(__file__)))
 # What the C library is asked for, unless the caller says something else: large pages for what is allocated.
@@ -50,7 +50,7 @@ def program_file(name: str) -> str:
     """The program's file; refused if it isn't built."""
     path = built(name)
     if path is None:
-        raise Wrong(f"{name} isn't built: {how_to_build(name)}")
+        raise Fault(f"{name} isn't built: {how_to_build(name)}")
     return path
 
 
@@ -64,7 +64,7 @@ def called(name: str, arguments: Iterable[str], data: bytes) -> subprocess.Compl
             env={"GLIBC_TUNABLES": TUNABLES, **os.environ},
         )
     except OSError as why:
-        raise Wrong(f"{name} can't be run: {why.strerror}") from None
+        raise Fault(f"{name} can't be run: {why.strerror}") from None
 
 
 def text_of(name: str, arguments: Iterable[str], data: bytes) -> str:

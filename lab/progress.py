@@ -7,10 +7,10 @@ import sys
 import time
 from itertools import chain, count
 
+from lab.faults import Fault
 from lab.networks.describe import Run, processor_seconds
 from lab.networks.network_text import network_of
 from lab.words import MOST_BYTES, bytes_in, duration
-from lab.wrong import Wrong
 
 # Seconds after which a line is written, and then every half hour.
 MOMENTS = chain((10, 30, 60, 120, 300, 600, 1200), count(1800, 1800))
@@ -37,7 +37,7 @@ def about(process: int, command: str) -> str:
             return ""
         run = Run(network_of(data))
         return f", of about {duration(processor_seconds(run, command))} for {run.wires:,} wires"
-    except (OSError, Wrong, MemoryError):
+    except (OSError, Fault, MemoryError):
         return ""
 
 

@@ -9,7 +9,7 @@ import sys
 from collections.abc import Callable, Iterable, Sequence
 from typing import IO, BinaryIO, NoReturn, TypeAlias
 
-from lab.wrong import Wrong
+from lab.faults import Fault
 
 
 class Parser(argparse.ArgumentParser):
@@ -138,9 +138,9 @@ def bytes_at(path: str, most: int = MOST_BYTES, why: str = "the most that is rea
             with open(path, "rb") as file:
                 data = bytes_in(file, most)
     except OSError as fault:
-        raise Wrong(f"{text_name(path)}: {fault.strerror}") from None
+        raise Fault(f"{text_name(path)}: {fault.strerror}") from None
     if data is None:
-        raise Wrong(f"{text_name(path)}: more than {most >> 20} MiB, {why}")
+        raise Fault(f"{text_name(path)}: more than {most >> 20} MiB, {why}")
     return data
 
 

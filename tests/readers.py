@@ -12,6 +12,7 @@ from collections.abc import Callable, Iterator
 from dataclasses import dataclass
 
 from lab.definitions.own_program import code_of
+from lab.faults import Fault
 from lab.networks import channels, network
 from lab.pictures import picture
 from lab.schedules import simulate
@@ -21,7 +22,6 @@ from lab.transcripts import transcript
 from lab.workshop.protocol import END, fields_of, forms_of, lines_of
 from lab.workshop.findings import NoAnswer
 from lab.workshop.submissions import said_command
-from lab.wrong import Wrong
 
 Main = Callable[[list[str]], int]
 # The modules of commands.
@@ -94,7 +94,7 @@ class Reader:
                 return self.main(words)
             except SystemExit as ended:
                 return int(ended.code or 0)
-            except (Wrong, OSError):
+            except (Fault, OSError):
                 return 1
 
 

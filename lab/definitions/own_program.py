@@ -38,9 +38,9 @@ from typing import TypeGuard, TypeVar
 
 from lab.definitions.program import Payload, Program, ProgramFile, Slot, pulses_of, synchronous_run
 from lab.definitions.values import by_name, frozen
+from lab.faults import Fault, wrong_line
 from lab.network import Network
 from lab.words import bytes_at
-from lab.wrong import Wrong, wrong_line
 
 # A function that is needed, by the names that it may have.
 NEEDED = (("greet",), ("step", "next"), ("result",))
@@ -66,7 +66,7 @@ def own_program(path: str, lots: str = "1") -> Program:
     ]
     missing += [name for name in MAY_BE if name in found and name not in functions]
     if missing:
-        raise Wrong(f"{path} has no function {' and no function '.join(missing)}")
+        raise Fault(f"{path} has no function {' and no function '.join(missing)}")
     file = ProgramFile(path, functions, code, lots)
     name = os.path.splitext(os.path.basename(path))[0]
     return Program(
@@ -79,16 +79,16 @@ def code_of(path: str) -> CodeType:
     try:
         text = bytes_at(path, MOST_BYTES).decode("utf-8-sig")
         if marks_in_a_row(text) > MOST_MARKS:
-            raise Wrong(f"{path}: more than {MOST_MARKS} marks over one letter")
+            raise Fault(f"{path}: more than {MOST_MARKS} marks over one letter")
         code: CodeType = compile(text, path, "exec")
         return code
     except SyntaxError as why:
         raise wrong_line(path, why.lineno or 1, why.msg) from None
     except (RecursionError, MemoryError):
         # Python's parser says that memory is out, too.
-        raise Wrong(f"{path}: it is nested too deep for Python") from None
+        raise Fault(f"{path}: it is nested too deep for Python") from None
     except ValueError as why:
-        raise Wrong(f"{path}: {why}") from None
+        raise Fault(f"{path}: {why}") from None
 
 
 def marks_in_a_row(text: str) -> int:
@@ -148,7 +148,7 @@ def call(path: str, where: str, function: Callable[..., Returned], *values: obje
         kind = "" if isinstance(why, TooLong) else type(why).__name__
         said = ": ".join(filter(None, [kind, str(why)])) + (f", in {where}" if where else "")
         raise (
-            wrong_line(path, lines[-1] or 1, said) if lines else Wrong(f"{path}: {said}")
+            wrong_line(path, lines[-1] or 1, said) if lines else Fault(f"{path}: {said}")
         ) from None
 
 
@@ -198,7 +198,7 @@ class LoadedFile:
     def needed(self, *names: str) -> Callable[..., object]:
         function = self.function(*names)
         if function is None:
-            raise Wrong(f"{self.path} has no function {' or '.join(names)} when it is run again")
+            raise Fault(f"{self.path} has no function {' or '.join(names)} when it is run again")
         return function
 
     def changed_variable(self) -> str | None:
@@ -241,7 +241,7 @@ class OwnNode:
         sizes = (net.nodes, net.greatest_degree, net.forest_count, net.greatest_bars)
         last = call(file.path, "`last_pulse`", function, *sizes[: 4 if takes(function, 4) else 2])
         if not isinstance(last, int) or isinstance(last, bool) or not 0 <= last < 2**32:
-            raise Wrong(f"{file.path}: `last_pulse` returns {last!r}, which is no pulse")
+            raise Fault(f"{file.path}: `last_pulse` returns {last!r}, which is no pulse")
         return last
 
     def where(self, function: str, pulse: int) -> str:
@@ -263,18 +263,18 @@ class OwnNode:
         """By port, what a function returned, with the words of payloads as the definitions write them."""
         where = f"{self.of_file.path}: {where}"
         if isinstance(what, (dict, set)):
-            raise Wrong(f"{where} returns a {type(what).__name__}: {ALL_THAT_IS_SENT}")
+            raise Fault(f"{where} returns a {type(what).__name__}: {ALL_THAT_IS_SENT}")
         found: list[object] = list(what) if isinstance(what, list) else [what] * self.degree
         if len(found) != self.degree:
-            raise Wrong(f"{where} returns a list of {len(found)} for {self.degree} ports")
+            raise Fault(f"{where} returns a list of {len(found)} for {self.degree} ports")
         slots: list[Slot] = []
         for slot in found:
             try:
                 slots.append(None if slot is None else payload_of(slot))
             except NoPayload as why:
-                raise Wrong(f"{where} sends {slot!r}: {why}") from None
+                raise Fault(f"{where} sends {slot!r}: {why}") from None
         if pulse == self.last and any(slot is not None for slot in slots):
-            raise Wrong(f"{where} sends something, and {pulse} is the last pulse")
+            raise Fault(f"{where} sends something, and {pulse} is the last pulse")
         return slots
 
     def result(self) -> str:
@@ -282,7 +282,7 @@ class OwnNode:
         where = f"`result` of the node of identifier {self.id}"
         words = call(path, where, self.of_file.finding, self.me)
         if not isinstance(words, str) or "\n" in words:
-            raise Wrong(f"{path}: `result` returns {words!r}: it must be words on one line")
+            raise Fault(f"{path}: `result` returns {words!r}: it must be words on one line")
         return words
 
     def drawn(self) -> tuple[int | None, int | None]:
@@ -296,7 +296,7 @@ class OwnNode:
             colour, port = pair
             if is_below(colour, COLOURS) and is_below(port, self.degree):
                 return colour, port
-        raise Wrong(
+        raise Fault(
             f"{path}: `drawn` returns {pair!r} at the node of identifier {self.id}: it must be a "
             f"pair, a colour below {COLOURS} or None, and a port or None"
         )
@@ -363,9 +363,9 @@ def check_repeats(net: Network, program: Program) -> None:
         rounds_of(net, file, vertices), rounds_of(net, file, vertices[::-1])
     ):
         if one != two:
-            raise Wrong(f"{file.path}: {where} does something else the second time: {AGAIN}")
+            raise Fault(f"{file.path}: {where} does something else the second time: {AGAIN}")
         if name := node.of_file.changed_variable():
-            raise Wrong(
+            raise Fault(
                 f"{file.path}: {where} changes the variable `{name}` outside `me`: keep everything in `me`, "
                 "since orders of events play on copies of it"
             )
@@ -415,7 +415,7 @@ def what_is_wrong(
         return f"`{function}` says that it isn't right"
     if isinstance(said, str) and said.strip() and "\n" not in said:
         return said
-    raise Wrong(
+    raise Fault(
         f"{file.path}: `{function}` returns {said!r}: it must be True, False, or what isn't right in "
         "words on one line"
     )

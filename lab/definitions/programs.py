@@ -13,9 +13,9 @@ from lab.definitions.nodes import COLOURING
 from lab.definitions.own_program import own_program
 from lab.definitions.program import Program
 from lab.definitions.recolouring import recolouring
+from lab.faults import Fault
 from lab.network import Network
 from lab.words import as_utf8, count
-from lab.wrong import Wrong
 
 # Those that `forestplay` runs.
 PROGRAMS: dict[str, Program] = {
@@ -39,7 +39,7 @@ def program_at(name: str, lots: str = "1", **options: int | None) -> Program:
     for option in given:
         of, _ = OPTIONS[option]
         if name != of:
-            raise Wrong(f"--{option} is for --program {of}, not for {name}")
+            raise Fault(f"--{option} is for --program {of}, not for {name}")
     # Each option is another program's, so there is one at most.
     for option, value in given.items():
         _, with_option = OPTIONS[option]
@@ -48,7 +48,7 @@ def program_at(name: str, lots: str = "1", **options: int | None) -> Program:
         return PROGRAMS[name]
     if name.endswith(".py"):
         return own_program(name, lots)
-    raise Wrong(
+    raise Fault(
         f"there is no program {name}: there are {', '.join(PROGRAMS)}, and a file of your own, as {name}.py"
         if os.sep not in name
         else f"{name} is no name of a program, and doesn't end in .py"
@@ -75,7 +75,7 @@ def program_asked(command: str, given: Namespace, network: Network | None = None
         getattr(given, "program", COLOURING.name), getattr(given, "lots", "1"), **options
     )
     if network and options["root"] not in (None, *network.vertices):
-        raise Wrong(
+        raise Fault(
             f"there is no node {program.root} that could be the root: the network has {network.nodes}"
         )
     if network and network.bars and not program.reads_bars:

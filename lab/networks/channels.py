@@ -4,6 +4,7 @@ import re
 import sys
 from argparse import ArgumentParser, Namespace
 
+from lab.faults import Fault, wrong_line
 from lab.networks.fields import shown
 from lab.networks.network_text import MAX_CHANNEL
 from lab.networks.options import add_stated, commands_for, stated_by
@@ -11,7 +12,6 @@ from lab.networks.plan_text import PlanRow, rows_of
 from lab.networks.forms import Unsaid, decoded
 from lab.networks.tables import MOST_DIGITS, licence_of
 from lab.words import add_output, bytes_at, one_line, parser_of, text_at, write
-from lab.wrong import Wrong, wrong_line
 
 HELP = """\
 Replaces a plan's channels by real channel numbers, or the other way round.
@@ -65,14 +65,14 @@ def channels_asked(given: Namespace, words: list[str], command: str) -> list[int
         return each_once(numbers, f"{name}: ")
     try:
         return each_once(numbers_of(words))
-    except Wrong as why:
+    except Fault as why:
         given.refuse(str(why))
         raise
 
 
 def each_once(numbers: list[int], begin: str = "") -> list[int]:
     if len(set(numbers)) != len(numbers) or len(numbers) > MAX_CHANNEL:
-        raise Wrong(f"{begin}the table names a channel twice, or more than {MAX_CHANNEL} channels")
+        raise Fault(f"{begin}the table names a channel twice, or more than {MAX_CHANNEL} channels")
     return numbers
 
 
@@ -89,13 +89,13 @@ def range_of(word: str) -> range:
     digits = f"([0-9]{{1,{MOST_DIGITS}}})"
     parts = re.fullmatch(f"{digits}(?:-{digits}(?:/([0-9]{{1,6}}))?)?", word)
     if not parts:
-        raise Wrong(f"`{shown(word)}` is no file, no channel, and no range as 1-13 or 36-64/4")
+        raise Fault(f"`{shown(word)}` is no file, no channel, and no range as 1-13 or 36-64/4")
     first = int(parts[1])
     last = int(parts[2] or first)
     step = int(parts[3] or 1)
     numbers = range(first, last + 1, step) if step else range(0)
     if not numbers or len(numbers) > MAX_CHANNEL or numbers[-1] != last:
-        raise Wrong(
+        raise Fault(
             f"`{word}` names no channel, or more than {MAX_CHANNEL}, or its last one isn't reached"
         )
     return numbers
@@ -181,7 +181,7 @@ def main(words: list[str]) -> int:
         table = channels_asked(given, given.table, "channels")
         given.stated.check_found()
     except Unsaid as why:
-        raise Wrong(commands_for(why, ["channels"], words)) from None
+        raise Fault(commands_for(why, ["channels"], words)) from None
     text = text_at("-")
     if given.run:
         rows = rows_of_run(text, "the run")

@@ -10,9 +10,9 @@ from collections.abc import Mapping
 from dataclasses import dataclass, field
 from xml.parsers import expat
 
+from lab.faults import Fault, wrong_line
 from lab.networks.fields import shown
 from lab.networks.listing import Where
-from lab.wrong import Wrong, wrong_line
 
 
 # Digits of a whole number in JSON: Python makes a number of more of them in quadratic time, or refuses to.
@@ -50,7 +50,7 @@ class Declared:
         elif "source" in has and "target" in has:
             raise self.wrong(where, f"`{kind}` joins nodes and isn't an edge")
 
-    def wrong(self, where: Where, what: str) -> Wrong:
+    def wrong(self, where: Where, what: str) -> Fault:
         return wrong_line(self.path, where, what)
 
     def checked(self) -> "Declared":
@@ -68,7 +68,7 @@ def in_xml(data: bytes, path: str) -> Declared:
     >>> in_xml(b'<graphml><graph><node id="a"/></graph></graphml>', "net.graphml").nodes
     {'a': 1}
 
-    Raises `Wrong` of what is no XML, of a second graph, and of an end of an edge that isn't declared.
+    Raises `Fault` of what is no XML, of a second graph, and of an end of an edge that isn't declared.
     """
     declared = Declared(path)
     for found in TAG.finditer(data):
@@ -101,7 +101,7 @@ def in_xml(data: bytes, path: str) -> Declared:
     except expat.ExpatError as why:
         raise wrong_line(path, why.lineno, f"no XML: {expat.ErrorString(why.code)}") from None
     except (ValueError, LookupError) as why:
-        raise Wrong(f"{path}: no XML: {why}") from None
+        raise Fault(f"{path}: no XML: {why}") from None
     return declared.checked()
 
 
@@ -111,12 +111,12 @@ def loaded(data: bytes, path: str) -> dict[str, object]:
     def once(pairs: list[tuple[str, object]]) -> dict[str, object]:
         found = dict(pairs)
         if len(found) < len(pairs):
-            raise Wrong(f"{path}: an object has a key twice: {shown(', '.join(found))}")
+            raise Fault(f"{path}: an object has a key twice: {shown(', '.join(found))}")
         return found
 
     def number(digits: str) -> int:
         if len(digits) > MOST_DIGITS:
-            raise Wrong(f"{path}: no JSON: a number of more than {MOST_DIGITS:,} digits")
+            raise Fault(f"{path}: no JSON: a number of more than {MOST_DIGITS:,} digits")
         return int(digits)
 
     try:
@@ -134,13 +134,13 @@ def in_json(data: bytes, path: str) -> Declared:
     >>> in_json(b'{"nodes": [{"id": "a"}], "links": []}', "net.json").nodes
     {'a': 'nodes[0]'}
 
-    Raises `Wrong` of what is no such JSON, and of an end of an edge that isn't declared.
+    Raises `Fault` of what is no such JSON, and of an end of an edge that isn't declared.
     """
     whole = loaded(data, path)
     lists = {key: value for key, value in whole.items() if isinstance(value, list)}
     if sorted(lists) not in (["links", "nodes"], ["edges", "nodes"]):
         what = "a list `nodes`, a list `links` or `edges`, and no other"
-        raise Wrong(f"{path}: no JSON of nodes and links, as networkx writes it: {what}")
+        raise Fault(f"{path}: no JSON of nodes and links, as networkx writes it: {what}")
     declared = Declared(path)
     for key, items in lists.items():
         kind, wanted = ("node", ["id"]) if key == "nodes" else ("edge", ["source", "target"])

@@ -13,6 +13,7 @@ import warnings
 from collections.abc import Callable, Collection, Iterable
 from types import ModuleType
 
+from lab.faults import Fault, wrong_line
 from lab.networks.cross_check import Declared, in_json, in_xml
 from lab.networks.fields import shown
 from lab.networks.gml import in_gml, with_multigraph
@@ -22,7 +23,6 @@ from lab.networks.networkx_graph import Attributes, Graph
 from lab.networks.forms import Stated, decoded
 from lab.networks.table import FARTHEST
 from lab.words import one_line
-from lab.wrong import Wrong, wrong_line
 
 PACKAGE = "apt install python3-networkx, or pip install networkx"
 # How much of the words of networkx is said.
@@ -93,7 +93,7 @@ def read(data: bytes, name: str, form: str, stated: Stated) -> Listed:
     """What networkx reads, if it has all nodes and edges that the text declares."""
     nx = networkx()
     if nx is None:
-        raise Wrong(f"{name}: {form} is read by networkx, which isn't installed ({PACKAGE})")
+        raise Fault(f"{name}: {form} is read by networkx, which isn't installed ({PACKAGE})")
     reader, declares = READERS[form]
     # XML says its encoding itself, if nothing else is stated.
     if declares != in_xml or stated.encoding:
@@ -109,12 +109,12 @@ def read(data: bytes, name: str, form: str, stated: Stated) -> Listed:
         raise
     except Exception as why:
         said = one_line(str(why))[:MOST_SAID] or type(why).__name__
-        raise Wrong(f"{name}: networkx can't read it as {form}: {said}") from None
+        raise Fault(f"{name}: networkx can't read it as {form}: {said}") from None
     if declared:
         there = f"{len(declared.nodes)} nodes and {len(declared.edges)} edges"
         got = f"{graph.number_of_nodes()} nodes and {graph.number_of_edges()} edges"
         if there != got:
-            raise Wrong(f"{name}: the text has {there}, and networkx reads {got}")
+            raise Fault(f"{name}: the text has {there}, and networkx reads {got}")
     found = listed(graph, form, declared or Declared(name))
     found.notes += [f"networkx warns: {one_line(str(one.message))[:MOST_SAID]}" for one in warned]
     return found

@@ -8,7 +8,7 @@ import shlex
 from collections.abc import Sequence
 from dataclasses import dataclass, field
 
-from lab.wrong import Wrong, wrong_line
+from lab.faults import Fault, wrong_line
 
 # The forms, each with the ending of files that states it.
 ENDINGS = {
@@ -72,12 +72,12 @@ class Stated:
         """Refuses what is stated of columns that no table had."""
         for column, title in self.columns.items():
             if column not in self.found:
-                raise Wrong(f"--columns: no table here has {title} as its column {column}")
+                raise Fault(f"--columns: no table here has {title} as its column {column}")
         if not self.has_heading and not self.found:
-            raise Wrong("--no-heading: no table is read here")
+            raise Fault("--no-heading: no table is read here")
 
 
-class Unsaid(Wrong):
+class Unsaid(Fault):
     """A text of which something isn't stated: `choices` has (words of a command line that state it, what they mean).
 
     If a table has none of the columns that are wanted, `titles` are those that it has.
@@ -103,7 +103,7 @@ def form_of(path: str, name: str, stated: Stated = Stated()) -> str:
     >>> form_of("pairs.csv", "pairs.csv"), form_of("-", "standard input")
     ('pairs', 'dimacs')
 
-    Raises `Wrong` of an ending that isn't read, and `Unsaid` of one that says nothing.
+    Raises `Fault` of an ending that isn't read, and `Unsaid` of one that says nothing.
     """
     if stated.form or path == "-":
         return stated.form or "dimacs"
@@ -112,7 +112,7 @@ def form_of(path: str, name: str, stated: Stated = Stated()) -> str:
         if ending in endings:
             return form
     if ending in (".xls", ".xlsx", ".ods"):
-        raise Wrong(f"{name}: a spreadsheet isn't read: save its sheet as CSV")
+        raise Fault(f"{name}: a spreadsheet isn't read: save its sheet as CSV")
     if ending not in OTHERS:
         raise Unsaid(f"{name}: its ending doesn't say what it is", COMMON)
     package, new_ending, words = OTHERS[ending]
@@ -120,7 +120,7 @@ def form_of(path: str, name: str, stated: Stated = Stated()) -> str:
     old = f"./{path}" if path.startswith("-") else path
     new = os.path.splitext(old)[0] + new_ending
     made = shlex.join({"OLD": old, "NEW": new}.get(word, word) for word in words)
-    raise Wrong(
+    raise Fault(
         f"{name}: it isn't read, but what this makes of it is (apt install {package}):\n"
         f"  {made}\n  forestlab network read {shlex.quote(new)}"
     )
@@ -135,10 +135,10 @@ def letters_of(data: bytes, name: str, stated: str | None) -> str:
     >>> letters_of(b"Z\\xfcrich", "sites.csv", "cp1252")
     'Z\\xfcrich'
 
-    Raises `Wrong` of what isn't in a stated encoding, and `Unsaid` of what isn't in UTF-8.
+    Raises `Fault` of what isn't in a stated encoding, and `Unsaid` of what isn't in UTF-8.
     """
     if data.startswith(COMPRESSED):
-        raise Wrong(f"{name}: it is compressed: unpack it by gunzip")
+        raise Fault(f"{name}: it is compressed: unpack it by gunzip")
     encoding = stated or "utf-8"
     for mark, marked in BY_MARK.items():
         if data.startswith(mark):
@@ -149,7 +149,7 @@ def letters_of(data: bytes, name: str, stated: str | None) -> str:
         text.encode()
         return text
     except LookupError:
-        raise Wrong(f"{name}: there is no encoding {encoding}") from None
+        raise Fault(f"{name}: there is no encoding {encoding}") from None
     except UnicodeError as why:
         line = data.count(b"\n", 0, getattr(why, "start", 0)) + 1
         what = wrong_line(name, line, f"it isn't in {encoding.upper()}")
@@ -162,7 +162,7 @@ def decoded(data: bytes, name: str, stated: str | None) -> str:
     >>> decoded(b"a\\r\\nb\\rc", "text", None)
     'a\\nb\\nc'
 
-    Raises `Wrong` and `Unsaid` as `letters_of` does, and `Wrong` of a letter of value zero.
+    Raises `Fault` and `Unsaid` as `letters_of` does, and `Fault` of a letter of value zero.
     """
     text = letters_of(data, name, stated).replace("\r\n", "\n").replace("\r", "\n")
     before, zero, _ = text.partition("\0")

@@ -5,9 +5,9 @@ from collections.abc import Iterator
 from dataclasses import dataclass, field
 from typing import NamedTuple
 
+from lab.faults import Fault, wrong_line
 from lab.networks.cross_check import Declared
 from lab.networks.fields import shown
-from lab.wrong import Wrong, wrong_line
 
 # What is passed over; a text; a bracket, or a quotation mark that opens a text without an end; a key or a number.
 TOKEN = re.compile(
@@ -95,7 +95,7 @@ class Reader:
         if done.key != "graph":
             self.declared.declare(done.key, done.line, done.has)
 
-    def wrong(self, token: Token, what: str) -> Wrong:
+    def wrong(self, token: Token, what: str) -> Fault:
         return self.declared.wrong(token.line, f"no GML: {what}: `{shown(token.word)}`")
 
     def end(self) -> Declared:
@@ -113,7 +113,7 @@ def in_gml(data: bytes, path: str) -> Declared:
     >>> in_gml(b"graph [\\n node [ id 1 ]\\n]\\n", "net.gml").nodes
     {'1': 2}
 
-    Raises `Wrong` of what is no GML, and of an end of an edge that isn't declared.
+    Raises `Fault` of what is no GML, and of an end of an edge that isn't declared.
     """
     reader = Reader(path)
     for token in tokens_of(data.decode(), path):

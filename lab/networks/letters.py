@@ -4,11 +4,11 @@ import re
 from math import isqrt
 from types import ModuleType
 
+from lab.faults import wrong_line
 from lab.networks.fields import shown
 from lab.networks.network_text import MAX_EDGES, MAX_NODES
 from lab.networks.networkx_graph import Graph
 from lab.words import counted
-from lab.wrong import wrong_line
 
 FIRST, LAST = b"?~"
 # What may stand before the letters of a form: the name of the form, and the mark of sparse6.
@@ -24,7 +24,7 @@ def in_graph6(data: bytes, path: str) -> None:
 
     >>> in_graph6(b"A_", "two.g6")
 
-    Raises `Wrong` of another number of letters than the nodes take, and of too many nodes or edges.
+    Raises `Fault` of another number of letters than the nodes take, and of too many nodes or edges.
     """
     nodes, letters = declared("graph6", data, path)
     pairs = nodes * (nodes - 1) // 2
@@ -42,9 +42,9 @@ def in_sparse6(data: bytes, path: str) -> None:
 
     >>> in_sparse6(b"A_", "two.s6")
     Traceback (most recent call last):
-    lab.wrong.Wrong: two.s6 line 1: no sparse6: `A_`
+    lab.faults.Fault: two.s6 line 1: no sparse6: `A_`
 
-    Raises `Wrong` of what doesn't begin as sparse6 does, and of too many nodes or edges.
+    Raises `Fault` of what doesn't begin as sparse6 does, and of too many nodes or edges.
     """
     _, letters = declared("sparse6", data, path)
     if len(letters) > LONGEST_SPARSE:

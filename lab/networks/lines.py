@@ -2,11 +2,11 @@
 before it."""
 import re
 
+from lab.faults import Fault, wrong_line
 from lab.networks.fields import shown
 from lab.networks.listing import Listed, Where, name_of
 from lab.networks.table import NUMBER, TITLES
 from lab.words import counted
-from lab.wrong import Wrong, wrong_line
 
 TABLE = "a table is read --as pairs"
 NO_NAME = re.compile('[,;"]|^#')
@@ -21,7 +21,7 @@ def rows_in(text: str, name: str) -> tuple[list[tuple[int, str]], list[str]]:
     rows = [(line, row.strip(" \t")) for line, row in enumerate(text.split("\n"), 1)]
     found = [(line, row) for line, row in rows if row and not COMMENT.fullmatch(row)]
     if not found:
-        raise Wrong(f"{name}: it has no row")
+        raise Fault(f"{name}: it has no row")
     comments = sum(bool(COMMENT.fullmatch(row)) for _, row in rows)
     said = counted(comments, "line that begins", "lines that begin")
     return found, [f"{said} with # left out"] if comments else []
@@ -48,7 +48,7 @@ def edges(text: str, name: str) -> Listed:
     >>> edges("Ulm Hof\\nHof Aue\\n", "net.edgelist").names()
     ['Ulm', 'Hof', 'Aue']
 
-    Raises `Wrong` of the first line that isn't one of edges.
+    Raises `Fault` of the first line that isn't one of edges.
     """
     rows, notes = rows_in(text, name)
     found = Listed("edges", notes=notes)
@@ -78,7 +78,7 @@ def adjacency(text: str, name: str) -> Listed:
     >>> adjacency("Ulm: Hof\\nHof:\\n", "net.adjlist").edges
     [(1, 'Ulm', 'Hof')]
 
-    Raises `Wrong` of a second line of a node, and of a neighbour without a line.
+    Raises `Fault` of a second line of a node, and of a neighbour without a line.
     """
     rows, notes = rows_in(re.sub(r"\A#", "# ", text), name)
     nodes: dict[str, Where] = {}

@@ -6,8 +6,8 @@ from collections.abc import Collection
 from dataclasses import dataclass, field
 from functools import lru_cache
 
+from lab.faults import wrong_line
 from lab.networks.fields import shown
-from lab.wrong import wrong_line
 
 LONGEST_NAME = 200
 # A letter that is written as a letter with its marks has at most so many of both.
@@ -65,7 +65,7 @@ def name_of(word: str, path: str, where: Where) -> str:
     >>> name_of(" Ulm ", "sites.csv", 2)
     'Ulm'
 
-    Raises `Wrong` of what is no name.
+    Raises `Fault` of what is no name.
     """
     name = composed(word)
     if name is None:
@@ -87,9 +87,9 @@ def check_known(name: str, known: Collection[str], path: str, where: Where, what
 
     >>> check_known("Ulmm", ["Ulm", "Hof"], "pairs.csv", 3, "isn't a site")
     Traceback (most recent call last):
-    lab.wrong.Wrong: pairs.csv line 3: Ulmm isn't a site, is it Ulm?
+    lab.faults.Fault: pairs.csv line 3: Ulmm isn't a site, is it Ulm?
 
-    Raises `Wrong`, which names the known one that is written most alike.
+    Raises `Fault`, which names the known one that is written most alike.
     """
     if name not in known:
         alike = difflib.get_close_matches(name, known, n=1, cutoff=0.7)

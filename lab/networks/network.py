@@ -5,6 +5,7 @@ from argparse import Namespace
 from collections.abc import Iterable
 import sys
 
+from lab.faults import Fault
 from lab.network import Network
 from lab.networks import tables
 from lab.networks.channels import channels_asked
@@ -23,7 +24,6 @@ from lab.networks.forms import Unsaid, decoded
 from lab.networks.tables import MOST_DIGITS
 from lab.networks.texts import text_of
 from lab.words import as_text, one_line, source_of, text_at, write
-from lab.wrong import Wrong
 
 # Kilometres: less than the first no two sites are apart, and numbers of places have no such digits; no two places on
 # the earth are much more than the second apart.
@@ -51,7 +51,7 @@ def made(given: Namespace) -> str:
         chosen["seed"] = source_of(given.seed)
     try:
         network = kind.make(**chosen)
-    except Wrong as why:
+    except Fault as why:
         given.refuse(str(why))
     return text_of(network, [f"Made by forestlab network {given.command} {' '.join(words)}"])
 
@@ -117,10 +117,10 @@ def file_listed(given: Namespace, name: str) -> Listed:
         return listed_of(data, name, form_read(given.file, given.stated), given.stated)
     except Unsaid:
         raise
-    except Wrong as why:
+    except Fault as why:
         if given.file != "-" or given.stated.form:
             raise
-        raise Wrong(f"{why}; standard input is read as DIMACS, unless --as says its form") from None
+        raise Fault(f"{why}; standard input is read as DIMACS, unless --as says its form") from None
 
 
 def was_told(given: Namespace) -> str:
@@ -145,12 +145,12 @@ def was_numbered(given: Namespace) -> str:
 
 def was_named(given: Namespace) -> str:
     if given.file == "-":
-        raise Wrong("names: standard input has the plan, so the network has to be a file")
+        raise Fault("names: standard input has the plan, so the network has to be a file")
     network = network_at(given.file)
     name = "the plan"
     rows = rows_of(text_at("-"), name, 0, 10**MOST_DIGITS)
     if [v for _, v, _ in rows] != list(network.vertices):
-        raise Wrong(f"{name} isn't of this network, whose vertices have a line each, in order")
+        raise Fault(f"{name} isn't of this network, whose vertices have a line each, in order")
     return as_text(f"{network.names.get(v, v)} {channel}" for _, v, channel in rows)
 
 
@@ -162,6 +162,6 @@ def main(words: list[str]) -> int:
     try:
         text = doers[given.command](given) if given.command in doers else made(given)
     except Unsaid as why:
-        raise Wrong(commands_for(why, ["network", words[0]], words[1:])) from None
+        raise Fault(commands_for(why, ["network", words[0]], words[1:])) from None
     write(given, text)
     return 0

@@ -5,9 +5,9 @@ Comment lines may give places (`c at V X Y`) and names (`c name V NAME`); to the
 other."""
 import re
 
+from lab.faults import Fault, wrong_line
 from lab.network import Edge, Network
 from lab.networks.fields import fields_of, shown, whole
-from lab.wrong import Wrong, wrong_line
 
 FORMATS = ("edge", "edges", "col")
 SKIPPED = {"n", "d", "v", "x"}
@@ -65,7 +65,7 @@ class Reading:
         self.identifiers: dict[int, int] = {}
         self.bars: dict[int, set[int]] = {}
 
-    def wrong(self, what: str, code: str) -> Wrong:
+    def wrong(self, what: str, code: str) -> Fault:
         return wrong_line(self.path, self.line, f"{what} ({code})")
 
     def read(self, raw: str) -> None:
@@ -146,7 +146,7 @@ class Reading:
     def count(self) -> int:
         """How many nodes there are, by the `p` line."""
         if self.nodes is None:
-            raise Wrong(f"{self.path}: there is no line `p edge NODES EDGES` (F1)")
+            raise Fault(f"{self.path}: there is no line `p edge NODES EDGES` (F1)")
         return self.nodes
 
     def network(self) -> Network:
@@ -171,7 +171,7 @@ def reading_of(text: str, path: str) -> Reading:
     >>> reading_of("p edge 2 1\\ne 1 2\\ne 2 1\\n", "two.col").edge_lines
     2
 
-    Raises `Wrong` of the first line that is none of a network, and of a text without a `p` line.
+    Raises `Fault` of the first line that is none of a network, and of a text without a `p` line.
     """
     read = Reading(path)
     for raw in text.split("\n"):
@@ -186,16 +186,16 @@ def checked(network: Network, path: str) -> Network:
     >>> checked(Network(2, [(1, 2)]), "two").nodes
     2
 
-    Raises `Wrong` of too many nodes, edges or neighbours, and of an identifier that two vertices have.
+    Raises `Fault` of too many nodes, edges or neighbours, and of an identifier that two vertices have.
     """
     if network.nodes > MAX_NODES:
-        raise Wrong(f"{path}: {network.nodes} nodes, and a network has at most {MAX_NODES}")
+        raise Fault(f"{path}: {network.nodes} nodes, and a network has at most {MAX_NODES}")
     if len(network.edges) > MAX_EDGES:
-        raise Wrong(f"{path}: more than {MAX_EDGES} edges, the most that a network has")
+        raise Fault(f"{path}: more than {MAX_EDGES} edges, the most that a network has")
     for v in network.vertices:
         if len(network.neighbours[v]) > MAX_DEGREE:
             name = f" ({shown(network.names[v])})" if v in network.names else ""
-            raise Wrong(
+            raise Fault(
                 f"{path}: vertex {v}{name} has {len(network.neighbours[v])} neighbours, more than {MAX_DEGREE} "
                 "(N1)"
             )
@@ -204,7 +204,7 @@ def checked(network: Network, path: str) -> Network:
         alike.setdefault(number, []).append(v)
     same = min((found for found in alike.values() if len(found) > 1), default=None)
     if same:
-        raise Wrong(f"{path}: vertices {same[0]} and {same[1]} have one identifier (N2)")
+        raise Fault(f"{path}: vertices {same[0]} and {same[1]} have one identifier (N2)")
     return network
 
 
@@ -215,9 +215,9 @@ def read_network(text: str, path: str) -> Network:
     {1: [2], 2: [1, 3], 3: [2]}
     >>> read_network("p edge 3 1\\ne 1 4\\n", "path.col")
     Traceback (most recent call last):
-    lab.wrong.Wrong: path.col line 2: there is no vertex 4: there are 3, from 1 on (F5)
+    lab.faults.Fault: path.col line 2: there is no vertex 4: there are 3, from 1 on (F5)
 
-    Raises `Wrong` of the text's first fault, which has the code that the programs report.
+    Raises `Fault` of the text's first fault, which has the code that the programs report.
     """
     return reading_of(text, path).network()
 

@@ -43,7 +43,7 @@ def renumbered(network: Network, seed: str | int) -> Network:
     >>> sorted(renumbered(Network(3, [(1, 2)]), "seed").names.values())
     ['1', '2', '3']
 
-    Raises `Wrong` if an identifier that a line gives is the new number of another vertex.
+    Raises `Fault` if an identifier that a line gives is the new number of another vertex.
     """
     order = shuffled(random.Random(seed), network.vertices)
     return checked(

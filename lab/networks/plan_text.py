@@ -1,9 +1,9 @@
 """The plan of a text, beside its network."""
 from collections.abc import Iterator
 
+from lab.faults import Fault, wrong_line
 from lab.network import Edge, Network
 from lab.networks.fields import fields_of, shown, whole
-from lab.wrong import Wrong, wrong_line
 
 
 # The line, the vertex and the channel.
@@ -16,7 +16,7 @@ def rows_of(text: str, name: str, least: int = 1, below: int = 2**32) -> list[Pl
     >>> rows_of("plan\\n1 3\\n", "the plan")
     [(2, 1, 3)]
 
-    Raises `Wrong` of the first line that is no line of a plan.
+    Raises `Fault` of the first line that is no line of a plan.
     """
     rows = fields_by_line(text)
     line, fields = next(rows, (1, []))
@@ -46,7 +46,7 @@ def read_plan(text: str, name: str, network: Network) -> dict[int, int]:
     >>> read_plan("plan\\n1 2\\n2 1\\n", "the plan", Network(2, [(1, 2)]))
     {1: 2, 2: 1}
 
-    Raises `Wrong` of the first fault that the programs would report, but for neighbours that share a channel.
+    Raises `Fault` of the first fault that the programs would report, but for neighbours that share a channel.
     """
     plan = {}
     for line, vertex, channel in rows_of(text, name):
@@ -68,7 +68,7 @@ def read_plan(text: str, name: str, network: Network) -> dict[int, int]:
         plan[vertex] = channel
     for vertex in network.vertices:
         if vertex not in plan:
-            raise Wrong(f"{name}: vertex {vertex} has no line (C1)")
+            raise Fault(f"{name}: vertex {vertex} has no line (C1)")
     return plan
 
 

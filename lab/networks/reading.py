@@ -1,4 +1,5 @@
 """`forestlab network read`: a text of another form as a network, and what of it isn't read."""
+from lab.faults import Fault
 from lab.network import Edge, Network
 from lab.networks import foreign, lines, tables
 from lab.networks.fields import whole
@@ -7,7 +8,6 @@ from lab.networks.sources import path_of
 from lab.networks.network_text import checked, network_of, read_network, stem
 from lab.networks.forms import Stated, decoded, form_of, letters_of
 from lab.words import counted, one_line
-from lab.wrong import Wrong
 
 
 def listed_of(data: bytes, name: str, form: str, stated: Stated) -> Listed:
@@ -16,7 +16,7 @@ def listed_of(data: bytes, name: str, form: str, stated: Stated) -> Listed:
     >>> listed_of(b"source,target\\nUlm,Hof\\n", "pairs.csv", "pairs", Stated()).names()
     ['Ulm', 'Hof']
 
-    Raises `Wrong` of the text's first fault, and `Unsaid` of what the user has to state.
+    Raises `Fault` of the text's first fault, and `Unsaid` of what the user has to state.
     """
     if form in foreign.READERS:
         return foreign.read(data, name, form, stated)
@@ -37,7 +37,7 @@ def listed_in(network: Network, path: str) -> Listed:
     vertices = {own: v for v, own in names.items()}
     for v, own in names.items():
         if vertices[own] != v:
-            raise Wrong(f"{path}: vertices {v} and {vertices[own]} are both called {own}")
+            raise Fault(f"{path}: vertices {v} and {vertices[own]} are both called {own}")
     return Listed(
         "dimacs",
         edges=[(f"vertex {v}", names[v], names[w]) for v, w in network.edges],
@@ -55,7 +55,7 @@ def made_of(found: Listed, name: str) -> tuple[Network, list[str]]:
     >>> network.names, notes[0].partition(";")[0]
     ({1: 'Ulm', 2: 'Hof'}, 'pairs')
 
-    Raises `Wrong` of a network above the limits.
+    Raises `Fault` of a network above the limits.
     """
     names, by = numbered(found.names())
     number = {node: v for v, node in enumerate(names, 1)}
@@ -125,7 +125,7 @@ def read_any(data: bytes, name: str, form: str, stated: Stated) -> tuple[Network
     >>> network.edges, notes
     ([(1, 2)], [])
 
-    Raises `Wrong` of the text's first fault, and `Unsaid` of what the user has to state.
+    Raises `Fault` of the text's first fault, and `Unsaid` of what the user has to state.
     """
     if form == "dimacs":
         return network_of(data, name), []

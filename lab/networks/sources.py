@@ -2,13 +2,13 @@
 import os
 import re
 
+from lab.faults import Fault
 from lab.network import Network
 from lab.networks.kinds import KINDS
 from lab.networks.network_text import network_of
 from lab.networks.texts import text_of
 from lab.programs import TOP
 from lab.words import bytes_at, text_name
-from lab.wrong import Wrong
 
 # Why no file of a network is longer than `MOST_BYTES`.
 TOO_LONG = "and no network within the limits is so long"
@@ -53,7 +53,7 @@ def network_bytes(name: str) -> bytes:
     >>> network_bytes("path2").splitlines()[-1]
     b'e 1 2'
 
-    Raises `Wrong` of a name that means none, and of a file that can't be read.
+    Raises `Fault` of a name that means none, and of a file that can't be read.
     """
     path = path_of(name)
     if path is not None:
@@ -63,13 +63,13 @@ def network_bytes(name: str) -> bytes:
         kind, sizes = found
         return text_of(KINDS[kind].make(*sizes)).encode()
     if not MADE.fullmatch(name):
-        raise Wrong(f"{text_name(name)}: No such file or directory")
+        raise Fault(f"{text_name(name)}: No such file or directory")
     made = [
         kind + ("N" if len(of.sizes) == 1 else "RxC")
         for kind, of in KINDS.items()
         if not of.is_by_chance
     ]
-    raise Wrong(
+    raise Fault(
         f"{name}: there is no such file or example, and no network of this name is made, as {', '.join(made)} are"
     )
 
@@ -80,7 +80,7 @@ def network_at(name: str) -> Network:
     >>> network_at("grid2x2").edges
     [(1, 2), (1, 3), (2, 4), (3, 4)]
 
-    Raises `Wrong` of a name that means none, and of the first fault of its text.
+    Raises `Fault` of a name that means none, and of the first fault of its text.
     """
     network = network_of(network_bytes(name), text_name(name))
     if name == "-":

@@ -6,11 +6,11 @@ from collections import Counter
 from collections.abc import Iterator
 from itertools import islice
 
+from lab.faults import Fault, wrong_line
 from lab.networks.fields import shown
 from lab.networks.listing import not_read
 from lab.networks.forms import Stated, Unsaid
 from lab.words import counted, in_words
-from lab.wrong import Wrong, wrong_line
 
 # The standard titles of each column, in small letters. A column of places has its unit in its title.
 TITLES = {
@@ -88,7 +88,7 @@ class Table:
     def read(self, text: str) -> "Table":
         """Reads a text, and returns this table.
 
-        Raises `Wrong` of its first fault, and `Unsaid` of columns that the user has to state."""
+        Raises `Fault` of its first fault, and `Unsaid` of columns that the user has to state."""
         self.line, self.titles, mark = self.begin(text)
         found = {column: self.place_of(column) for column in (*self.wanted, *self.others)}
         self.columns = {column: at for column, at in found.items() if at is not None}
@@ -103,7 +103,7 @@ class Table:
             raise self.wrong(self.line, "it has no row below its heading")
         return self
 
-    def wrong(self, line: int, what: str) -> Wrong:
+    def wrong(self, line: int, what: str) -> Fault:
         return wrong_line(self.name, line, what)
 
     def begin(self, text: str) -> Begin:
@@ -123,12 +123,12 @@ class Table:
         if first_line.startswith("sep="):
             raise self.wrong(1, f"`{shown(first_line)}` is for Excel alone: delete this line")
         found = []
-        fault = Wrong(f"{self.name}: it has no row")
+        fault = Fault(f"{self.name}: it has no row")
         for mark in [mark for mark in MARKS if mark in first_line] or [","]:
             try:
                 for line, first in islice(rows_of(text, self.name, mark), 1):
                     found.append((line, self.titles_of(line, first), mark))
-            except Wrong as why:
+            except Fault as why:
                 fault = why
         if not found:
             raise fault
@@ -161,7 +161,7 @@ class Table:
             raise self.wrong(self.line, f"{titles} may each be the column {column}: rename one")
         return places[0] if places else None
 
-    def unsaid(self, line: int, first: list[str]) -> Wrong:
+    def unsaid(self, line: int, first: list[str]) -> Fault:
         """The refusal of a first row that doesn't have all wanted columns."""
         columns = in_words(self.named.get(column, column) for column in self.wanted)
         kind = "heading" if self.has_heading else "row"

@@ -1,6 +1,7 @@
 """Tables of pairs, of sites with places, of barred channels, and of the channels of a licence."""
 import re
 
+from lab.faults import Fault
 from lab.networks.fields import shown, whole
 from lab.networks.listing import Listed, Where, check_known, name_of
 from lab.networks.network_text import IDENTIFIERS, MAX_BARS, MAX_CHANNEL, MAX_EDGES, MAX_NODES
@@ -8,7 +9,6 @@ from lab.networks.places import Place, across_of, near, on_ground, on_map
 from lab.networks.forms import Stated
 from lab.networks.table import Table
 from lab.words import counted
-from lab.wrong import Wrong
 
 # How many digits a real number of a channel has at most, as a frequency in kHz.
 MOST_DIGITS = 12
@@ -24,7 +24,7 @@ def pairs(text: str, name: str, stated: Stated) -> Listed:
     >>> pairs("source,target\\nUlm,Hof\\n", "pairs.csv", Stated()).edges
     [(2, 'Ulm', 'Hof')]
 
-    Raises `Wrong` of the table's first fault, and `Unsaid` of columns that the user has to state.
+    Raises `Fault` of the table's first fault, and `Unsaid` of columns that the user has to state.
     """
     table = Table(name, stated, ("source", "target")).read(text)
     found = Listed("pairs", notes=table.notes())
@@ -40,7 +40,7 @@ def licence_of(text: str, name: str, stated: Stated) -> tuple[list[int], list[st
     >>> licence_of("channel\\n36\\n40\\n", "licence.csv", Stated())
     ([36, 40], [])
 
-    Raises `Wrong` of the table's first fault, and `Unsaid` of a column that the user has to state.
+    Raises `Fault` of the table's first fault, and `Unsaid` of a column that the user has to state.
     """
     table = Table(name, stated, ("channel",)).read(text)
     return [real_channel(table, line, row) for line, row in table.rows], table.notes()
@@ -76,7 +76,7 @@ class Sites:
     def read(self, text: str) -> "Sites":
         """Reads a text, and returns these sites.
 
-        Raises `Wrong` of its first fault, and `Unsaid` of columns that the user has to state."""
+        Raises `Fault` of its first fault, and `Unsaid` of columns that the user has to state."""
         self.table.read(text)
         there = self.table.columns
         self.columns = next((pair for pair in UNITS if there.keys() >= set(pair)), None)
@@ -158,7 +158,7 @@ def join_near(found: Listed, sites: Sites, reach: float) -> None:
         if frozenset(ends) not in there:
             found.edges.append((sites.lines[names[at]], *ends))
         if len(found.edges) > before + MAX_EDGES:
-            raise Wrong(f"{table.name}: more than {MAX_EDGES} edges within {reach:g} km")
+            raise Fault(f"{table.name}: more than {MAX_EDGES} edges within {reach:g} km")
     joined = counted(len(found.edges) - before, "pair")
     without = counted(len(sites.lines) - len(names), "site")
     found.notes.append(

@@ -1,11 +1,11 @@
 """The bit lens: one node above its parent, digit by digit, over the four bit steps."""
 from lab.definitions.nodes import bit_step
 from lab.definitions.rounds import Rounds
+from lab.faults import Fault
 from lab.pictures.marks import colour_square
 from lab.pictures.palette import INK, PAPER, digits
 from lab.pictures.svg import Svg
 from lab.words import counted
-from lab.wrong import Wrong
 
 RING = "#D55E00"
 FIRST, LAST = 2, 6
@@ -22,7 +22,7 @@ def child_asked(rounds: Rounds, forest: int, vertex: int | None) -> int:
         return children[0]
     if vertex not in children:
         whom = f"node {vertex}" if vertex else "any node"
-        raise Wrong(f"{network.name}: forest {forest} gives no parent to {whom}")
+        raise Fault(f"{network.name}: forest {forest} gives no parent to {whom}")
     return vertex
 
 

@@ -4,6 +4,7 @@ shows it as an image. A reader whose browser asks for less motion sees its end."
 from collections.abc import Iterator, Mapping
 
 from lab.definitions.rounds import FIRST_MERGE, Pulse, Rounds
+from lab.faults import Fault
 from lab.network import Network
 from lab.pictures.map_picture import EDGE, Vertex, begun, draw_map
 from lab.pictures.marks import Map, short_name
@@ -12,7 +13,6 @@ from lab.pictures.places import Point
 from lab.pictures.player_page import caption
 from lab.pictures.svg import Svg, text_width, wrapped
 from lab.words import counted
-from lab.wrong import Wrong
 
 # Seconds of a round, and of the end; the part of a round after which its messages have arrived.
 ROUND, END, ARRIVED = 1.6, 5.0, 0.8
@@ -118,7 +118,7 @@ def draw(rounds: Rounds) -> str:
     network = rounds.network
     messages = sum(len(pulse.puts) for pulse in rounds.pulses)
     if messages > MOST_MESSAGES:
-        raise Wrong(
+        raise Fault(
             f"{network.name}: a film has at most {MOST_MESSAGES:,} messages, and these rounds have {messages:,}: use "
             "the kind player"
         )

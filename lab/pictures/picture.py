@@ -17,6 +17,7 @@ from lab.definitions.nodes import COLOURING
 from lab.definitions.program import Program
 from lab.definitions.programs import add_program, program_asked, program_words
 from lab.definitions.rounds import Rounds
+from lab.faults import Fault, at_most
 from lab.network import Network
 from lab.networks.sources import network_bytes
 from lab.networks.network_text import network_of, stem
@@ -60,7 +61,6 @@ from lab.words import (
     text_name,
     write,
 )
-from lab.wrong import Wrong, at_most
 
 
 # A run of more wires has too long a text to be asked for.
@@ -91,7 +91,7 @@ class Source:
         if self.texts:
             return self.texts[0]
         if not self.written:
-            raise Wrong(f"there is no {form} to draw")
+            raise Fault(f"there is no {form} to draw")
         return Text(self.network.name, self.written(form))
 
     def plan(self) -> dict[int, int]:
@@ -116,14 +116,14 @@ def draw_rounds(of: Source, forests: tuple[int, int] | None, pulses: tuple[int, 
     if isinstance(rounds, Rounds):
         return rounds_picture.draw(rounds, forests)
     if forests:
-        raise Wrong(f"{of.program.name} has no forests")
+        raise Fault(f"{of.program.name} has no forests")
     return program_picture.draw(rounds, pulses)
 
 
 def draw_why(of: Source, vertex: int | None, in_words: bool | None) -> str:
     rounds = of.rounds()
     if not isinstance(rounds, Rounds):
-        raise Wrong(f"{of.program.name} has no channels")
+        raise Fault(f"{of.program.name} has no channels")
     cone = why_picture.Cone(rounds, vertex)
     return why_picture.text(cone) if in_words else why_picture.draw(cone)
 
@@ -418,10 +418,10 @@ def command_line() -> Parser:
 
 def drawing(kind: str, of: Source, **options: object) -> str:
     """The picture of a kind: SVG, a page or words, of a source, with those of these options that the kind has. No file
-    is read, and nothing said: a fault raises `Wrong`."""
+    is read, and nothing said: a fault raises `Fault`."""
     if of.network is not None:
         if of.network.nodes == 0:
-            raise Wrong(f"{of.network.name}: no node, so nothing to draw")
+            raise Fault(f"{of.network.name}: no node, so nothing to draw")
         most = KINDS[kind].most
         if most:
             limit, instead = most
@@ -451,7 +451,7 @@ def run_text(kind: str, network: Network, network_text: bytes, program: Program)
     """The transcript of a run: by threads of a proved program, by seed of one from a file."""
     wires = least_wires(network, program)
     if wires > MOST_WIRES:
-        raise Wrong(
+        raise Fault(
             f"{kind} draws a run of at most {MOST_WIRES:,} wires, and one of {network.name} has more than {wires:,}"
         )
     if is_own(program):
@@ -470,9 +470,9 @@ def drawn(given: Namespace) -> str:
     """The picture that the command line asks for."""
     stored = given.stored or []
     if given.kind == "watch" and len(stored) > 2:
-        raise Wrong("a page has room for two runs")
+        raise Fault("a page has room for two runs")
     if [given.network, *stored].count("-") > 1:
-        raise Wrong("standard input has one text: name a file for each other one")
+        raise Fault("standard input has one text: name a file for each other one")
     of = Source(title=given.title, progress=progress if sys.stderr.isatty() else None)
     if given.network is None:
         of.program = program_asked("picture", given)

@@ -1,10 +1,10 @@
 """The plan on the map: who has which channel."""
+from lab.faults import Fault
 from lab.network import Network
 from lab.networks.plan_text import clashes
 from lab.pictures.map_picture import Vertex, begun, draw_map
 from lab.pictures.marks import SMALL, short_name
 from lab.words import counted
-from lab.wrong import Wrong
 
 LARGEST_NUMBERED = 100
 
@@ -27,7 +27,7 @@ def draw(network: Network, plan: dict[int, int]) -> str:
     clash = clashes(network, plan)
     if clash:
         v, w = clash[0]
-        raise Wrong(f"the plan is not proper: neighbours {v} and {w} share channel {plan[v]} (C4)")
+        raise Fault(f"the plan is not proper: neighbours {v} and {w} share channel {plan[v]} (C4)")
     vertices = {v: Planned(network, v, plan[v]) for v in network.vertices}
     used = f"In the circles are the channels: {len(set(plan.values()))} of the {network.channels} allowed"
     svg, box = begun(

@@ -1,10 +1,10 @@
 """The rounds of any program: a row for each node, a column for each pulse at which something happens; what a node has
 found, as soon as it changes, and the messages."""
 from lab.definitions.rounds import Pulse
+from lab.faults import at_most
 from lab.pictures.palette import BAND, BORDER, INK, PULSE, SOFT, WIRES
 from lab.pictures.program_rounds import ProgramRounds
 from lab.pictures.svg import Svg, text_width
-from lab.wrong import at_most
 
 MOST_COLUMNS = 60
 LEFT, TOP, ROW, SIZE = 64, 112, 46, 11

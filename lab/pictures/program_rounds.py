@@ -5,8 +5,8 @@ from lab.definitions.nodes import COLOURING
 from lab.definitions.own_program import check_repeats, what_is_wrong
 from lab.definitions.program import DrawnNode, Program, synchronous_pulses
 from lab.definitions.rounds import Pulse, Rounds, puts_of
+from lab.faults import Fault
 from lab.network import Network
-from lab.wrong import Wrong
 
 # Rounds of more steps of nodes than this take minutes to work out.
 MOST_STEPS = 2_000_000
@@ -24,7 +24,7 @@ class ProgramRounds:
         self.network, self.program = network, program
         self.last = program.last_pulse(network)
         if self.last * network.nodes > MOST_STEPS:
-            raise Wrong(
+            raise Fault(
                 f"{network.name}: {self.last} pulses of {network.nodes} nodes are too many to be drawn"
             )
         check_repeats(network, program)

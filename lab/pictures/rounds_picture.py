@@ -4,12 +4,12 @@ from collections.abc import Callable
 from typing import TYPE_CHECKING
 
 from lab.definitions.rounds import LAST_COLOUR, Pulse, Rounds
+from lab.faults import at_most
 from lab.network import Network
 from lab.pictures.marks import alone_chip, bar_row, bars_width, channel_circle, colour_square
 from lab.pictures.palette import FOREST_COLOURS, INK, PAPER, SOFT, channel_hue, short
 from lab.pictures.places import Point
 from lab.pictures.svg import Svg, text_width
-from lab.wrong import at_most
 
 if TYPE_CHECKING:
     from lab.pictures.why_picture import Cone

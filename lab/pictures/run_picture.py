@@ -6,6 +6,7 @@ counted in words.
 A pale bar goes from where a payload is taken to the tick at which it is read, and that tick is p + 1's."""
 import math
 
+from lab.faults import Fault, at_most
 from lab.pictures.marks import dash_of, short_name, wire_arrow
 from lab.pictures.palette import BAND, BORDER, INK, PAPER, PULSE, WIRES, WRONG
 from lab.pictures.places import Point
@@ -13,7 +14,6 @@ from lab.pictures.svg import Svg, text_width, wrapped
 from lab.pictures.transcripts import Run, Wire
 from lab.pictures.wrong_run import draw_wrong, said_of
 from lab.words import counted
-from lab.wrong import Wrong, at_most
 
 LEFT, TOP, WIDTH = 64, 136, 1214
 KINDS = ("payload", "ack", "safe", "close")
@@ -44,7 +44,7 @@ class Window:
         ]
         self.left = LEFT + max(names, default=-6) + 6
         if not any(self.first in ticks for ticks in run.ticks.values()):
-            raise Wrong(f"{run.name}: no node begins pulse {self.first}")
+            raise Fault(f"{run.name}: no node begins pulse {self.first}")
         self.ends = {
             v: ticks.get(self.last + 1, run.reached[v] + 1) for v, ticks in run.ticks.items()
         }

@@ -6,6 +6,7 @@ from itertools import accumulate
 from statistics import mean
 
 from lab.definitions.events import Event, Kind
+from lab.faults import at_most
 from lab.network import Network
 from lab.pictures.palette import BAND, BORDER, INK, PAPER, PULSE, WIRES, WRONG
 from lab.pictures.schedules_space import fault_words, left_out_words
@@ -13,7 +14,6 @@ from lab.pictures.svg import Svg, text_width, wrapped
 from lab.pictures.transcripts import window_of
 from lab.schedules.explore import events_words, rounded
 from lab.schedules.alpha_space import AlphaSpace, Status
-from lab.wrong import at_most
 
 # Where a step ends: at a state, or at (state, number of the step) if it is refused there.
 End = int | tuple[int, int]

@@ -4,11 +4,11 @@ import re
 
 from lab.definitions.nodes import COLOURING
 from lab.definitions.program import Program
+from lab.faults import Fault
 from lab.network import Network
 from lab.schedules.alpha_space import AlphaSpace
 from lab.schedules.rules import ALL
 from lab.schedules.space import Place, Progress
-from lab.wrong import Wrong
 
 MAX_STATES = 200_000
 
@@ -23,7 +23,7 @@ def space_of(
     and events there are so far."""
     space = AlphaSpace(network, without, MAX_STATES, program=program).search(progress)
     if space.is_cut:
-        raise Wrong(
+        raise Fault(
             f"schedules draws at most {MAX_STATES:,} states, and {network.name} has more: leave out an edge or a node"
         )
     return space

@@ -7,10 +7,10 @@ from typing import NamedTuple
 
 from lab.definitions.events import Entry, Kind, Message
 from lab.definitions.program import Program
+from lab.faults import Fault, wrong_line
 from lab.network import Edge, Network
 from lab.transcripts.check import Found, find_order
-from lab.transcripts.reading import Wrong as WrongEntry, read_to_fault
-from lab.wrong import Wrong, wrong_line
+from lab.transcripts.reading import WrongEntry, read_to_fault
 
 # How many steps of time a pulse of the rounds takes.
 OF_ROUND = 100
@@ -110,7 +110,7 @@ def window_of(
     ones."""
     first, last = asked or (0, min(greatest, usual - 1))
     if not 0 <= first <= last <= greatest:
-        raise Wrong(f"{name}: {what} {first} to {last} are not among 0 to {greatest}")
+        raise Fault(f"{name}: {what} {first} to {last} are not among 0 to {greatest}")
     return first, last
 
 
@@ -139,7 +139,7 @@ def ordered(
     try:
         head, read, fault = read_to_fault(text.encode(), program.name)
     except WrongEntry as why:
-        raise Wrong(f"{name} {why}") from None
+        raise Fault(f"{name} {why}") from None
     if head.nodes != network.nodes:
         raise wrong_line(
             name, head.line, f"{head.nodes} nodes, and {network.name} has {network.nodes} (Nodes)"
@@ -148,7 +148,7 @@ def ordered(
     wrong = order.wrong(fault)
     is_drawn = is_wrong_drawn and order.first_refused() is not None
     if wrong and not (is_drawn and wrong.code not in ("X1", "NoSuch")):
-        raise Wrong(f"{name} {wrong}")
+        raise Fault(f"{name} {wrong}")
     order.made.sort(key=lambda entry: (entry.stamp, entry.node))
     first = order.first_refused()
     return order, (first, wrong) if wrong and first else None

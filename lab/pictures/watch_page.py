@@ -12,12 +12,12 @@ from lab.definitions.machine import NetState, make
 from lab.definitions.nodes import COLOURING, AlphaNode, Colouring, alpha_start, lacks_of
 from lab.definitions.program import Program
 from lab.definitions.rounds import FIRST_MERGE
+from lab.faults import Fault
 from lab.network import Edge, Network
 from lab.pictures.page_data import Look, Row, RunTable, WatchData, WireRow
 from lab.pictures.pages import net_of, page
 from lab.pictures.transcripts import ordered, stamp_of, window_of
 from lab.transcripts.reading import words
-from lab.wrong import Wrong
 
 MOST_ENTRIES = 20_000
 ORDER = (
@@ -174,7 +174,7 @@ class Run:
         ]
         first, end = (shown[0], shown[-1] + 1) if shown else (0, 0)
         if end - first > MOST_ENTRIES:
-            raise Wrong(
+            raise Fault(
                 f"{self.name}: pulses {self.pulses[0]} to {self.pulses[1]} have {end - first:,} entries, and a "
                 f"page shows at most {MOST_ENTRIES:,}: name fewer with --pulses"
             )

@@ -8,10 +8,10 @@ from collections.abc import Iterable, Iterator
 
 from lab.definitions.nodes import DROPPED
 from lab.definitions.rounds import LAST_COLOUR, Rounds, SEED
+from lab.faults import Fault, at_most
 from lab.pictures.layout import distances
 from lab.pictures.rounds_picture import MOST_ROWS, draw_strips
 from lab.words import as_text, counted, in_words
-from lab.wrong import Wrong, at_most
 
 
 # A kind, and the numbers that it is of.
@@ -29,7 +29,7 @@ class Cone:
     def __init__(self, rounds: Rounds, vertex: int | None) -> None:
         self.rounds, self.network = rounds, rounds.network
         if vertex is None or vertex not in self.network.vertices:
-            raise Wrong(f"{self.network.name} has no vertex {vertex}")
+            raise Fault(f"{self.network.name} has no vertex {vertex}")
         self.vertex = vertex
         # The pulse, from, to, and what was said.
         self.messages: set[tuple[int, int, int, str]] = set()
@@ -196,7 +196,7 @@ def draw(cone: Cone) -> str:
     rounds, network = cone.rounds, cone.network
     forests = cone.forests()
     if not forests:
-        raise Wrong(
+        raise Fault(
             f"node {cone.vertex} of {network.name} is in no forest, so no message decided its channel"
         )
     at_most("why", len(forests) * network.nodes, "rows", MOST_ROWS, "--text, which has no limit")

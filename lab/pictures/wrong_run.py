@@ -4,10 +4,10 @@ from collections.abc import Collection
 from typing import TYPE_CHECKING
 
 from lab.definitions.events import Entry, Kind
+from lab.faults import Fault
 from lab.pictures.palette import WIRES, WRONG
 from lab.pictures.svg import Svg
 from lab.pictures.transcripts import Run
-from lab.wrong import Wrong
 
 # How long the arrow of a wire that nobody took is: a part of the way to the neighbour's row, and steps of time.
 PART_OF_ROW, STEPS = 0.55, 2.2
@@ -21,7 +21,7 @@ def said_of(run: Run, stopped: int | None) -> str:
     """What is wrong with a run, if something is. Of one that isn't whole `stopped` may say at which vertex it
     stopped."""
     if stopped is not None and stopped not in run.network.vertices:
-        raise Wrong(f"{run.network.name} has no vertex {stopped}")
+        raise Fault(f"{run.network.name} has no vertex {stopped}")
     if run.wrong:
         return f"Red: {run.wrong[1]}."
     where = "" if stopped is None else f": it stops at node {stopped}"

@@ -13,6 +13,7 @@ from lab.definitions.events import Event, Kind
 from lab.definitions.own_program import AGAIN, OwnNode, check_repeats, has_verdict, wrong_end
 from lab.definitions.program import Program
 from lab.definitions.programs import add_program, program_asked
+from lab.faults import Fault
 from lab.network import Network
 from lab.networks.sources import network_at
 from lab.schedules.alpha_space import AlphaSpace, Status
@@ -20,7 +21,6 @@ from lab.schedules.own_rounds import verdict_of, verdict_on_many
 from lab.schedules.ruled_rounds import looked_at
 from lab.schedules.rules import ALL, OF_SCHEDULES, program_of, table, unknown_to
 from lab.words import add_output, add_seed, as_text, count, counted, parser_of, write
-from lab.wrong import Wrong
 
 MOST_NODES, LIMIT, BYTES_A_STATE = 4, 1_000_000, 420
 # The most networks by chance.
@@ -219,7 +219,7 @@ def networks_found(given: Namespace) -> Found:
     """Whether the rounds of a file end right on networks by chance, by its `right`."""
     program = program_asked("explore", given)
     if not has_verdict(program):
-        raise Wrong(
+        raise Fault(
             f"--networks is for a file with a function `right`, and {given.program} has none"
         )
     is_right, words = verdict_on_many(program, given.networks, given.seed, given.connected)
@@ -237,7 +237,7 @@ def schedules_found(given: Namespace) -> Found:
         return found
     if net.nodes > MOST_NODES:
         asks = " (of more the rounds are, if the file has a function `right`)"
-        raise Wrong(
+        raise Fault(
             f"{net.name} has {net.nodes} nodes, and every schedule is played of at most {MOST_NODES}"
             + (asks if program.file is not None else "")
         )
@@ -286,7 +286,7 @@ def searched(given: Namespace, net: Network, program: Program) -> AlphaSpace:
             sys.stderr.write("\r\033[K")
     if space.is_cut:
         can_reduce = not given.reduce and not set(given.without) & {"safes", "fifo"}
-        raise Wrong(
+        raise Fault(
             f"there are more than {given.limit:,} states: "
             + ("--reduce leaves most of them out, " if can_reduce else "")
             + f"--limit allows more, at some {BYTES_A_STATE} bytes each"
@@ -353,7 +353,7 @@ def broken_text(given: Namespace, space: AlphaSpace, listed: list[Event]) -> str
     if (
         s not in space.broken and not given.without
     ):  # the synchroniser keeps all its rules, so it is the file
-        raise Wrong(
+        raise Fault(
             f"{given.program} does something else in another order of events: {AGAIN} ({what})"
         )
     fewest = ", maybe not the fewest" if space.reduce else ""

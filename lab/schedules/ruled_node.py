@@ -17,9 +17,9 @@ from lab.definitions.own_program import OwnNode
 from lab.definitions.program import Payload, Program, RoundsNode, Slot, synchronous_pulses
 from lab.definitions.sequel import Sequel
 from lab.definitions.values import frozen
+from lab.faults import Fault
 from lab.network import Network
 from lab.schedules.space import SearchedNode
-from lab.wrong import Wrong
 
 
 class RuledNode(AlphaNode, SearchedNode):
@@ -132,7 +132,7 @@ def kept(function: Callable[[RoundsNode], Made], node: RoundsNode) -> Made:
     except Exception as why:
         if not isinstance(node, OwnNode):
             raise
-        raise Wrong(
+        raise Fault(
             f"{node.of_file.path}: what `me` keeps can't be copied and compared, as each order of events needs it "
             f"({why}): keep plain values there"
         ) from None

@@ -16,6 +16,7 @@ from lab.definitions.nodes import COLOURING, AlphaNode, alpha_start
 from lab.definitions.own_program import check_repeats, wrong_end
 from lab.definitions.program import Program
 from lab.definitions.programs import add_program, program_asked
+from lab.faults import Fault, wrong_line
 from lab.network import Edge, Network
 from lab.networks.fields import shown
 from lab.networks.sources import network_at
@@ -25,7 +26,6 @@ from lab.transcripts.fields import first_line
 from lab.transcripts.reading import line_of
 from lab.transcripts.stamps import Clock, unfinished
 from lab.words import add_output, add_seed, as_text, parser_of, text_at, text_name, write
-from lab.wrong import Wrong, wrong_line
 
 HELP = """\
 Writes the transcript of a run without a clock that no thread made: step by step, a
@@ -270,10 +270,10 @@ def check_names(net: Network, given: Namespace) -> None:
     """Refuses edges and nodes that the network hasn't."""
     for v, w in given.slow:
         if frozenset((v, w)) not in net.number:
-            raise Wrong(f"{net.name} has no edge {v}-{w}")
+            raise Fault(f"{net.name} has no edge {v}-{w}")
     for v in given.lazy:
         if v not in net.neighbours:
-            raise Wrong(f"{net.name} has no node {v}: its nodes are 1 to {net.nodes}")
+            raise Fault(f"{net.name} has no node {v}: its nodes are 1 to {net.nodes}")
 
 
 def run_asked(net: Network, given: Namespace, program: Program) -> list[Entry]:

@@ -11,11 +11,11 @@ from lab.definitions.events import PULSE, PUT, TAKE, Event, Kind
 from lab.definitions.machine import Refused
 from lab.definitions.nodes import COLOURING
 from lab.definitions.program import Program
+from lab.faults import Fault, wrong_line
 from lab.network import Edge, Network
 from lab.schedules.policies import Step
 from lab.schedules.ruled_node import Rounds, RuledNode
 from lab.schedules.simulate import AlphaPlayer, events_of
-from lab.wrong import Wrong, wrong_line
 
 
 class Stepwise(AlphaPlayer):
@@ -64,7 +64,7 @@ class Stepwise(AlphaPlayer):
             fields = re.fullmatch("([0-9]{1,5})(?:-([0-9]{1,5}))?(?:-([0-9]{1,5}))?", step)
             v, w, place = (int(field or 0) for field in fields.groups()) if fields else (0, 0, 0)
             if not self.makes(TAKE if w else PULSE, v, w, place):
-                raise Wrong(f"step {number} of the list, {step}, isn't possible there")
+                raise Fault(f"step {number} of the list, {step}, isn't possible there")
 
     def follow_list(self, text: str) -> None:
         """The events of a list. Puts make themselves as soon as they can, so one of the list has been made before."""

@@ -10,6 +10,7 @@ from typing import get_args
 
 from lab.definitions.nodes import COLOURING
 from lab.definitions.programs import MAX_PASSES, OPTIONS, PROGRAMS
+from lab.faults import Fault
 from lab.networks.fields import shown
 from lab.schedules.policies import POLICIES
 from lab.schedules.rules import OF_PROGRAMS, OF_SCHEDULES
@@ -18,7 +19,6 @@ from lab.studio.asked import MOST_STEPS, OPENED
 from lab.studio.dares import DARES
 from lab.studio.drawn import decoded
 from lab.studio.lessons import PLACES
-from lab.wrong import Wrong
 
 # Letters of an address: browsers take no longer one. And how many faults of one are named.
 MOST_LETTERS, MOST_NAMED = 2 << 20, 5
@@ -36,32 +36,32 @@ class Here:
     def node(self, said: str) -> int:
         v = whole(said)
         if not 1 <= v <= self.nodes:
-            raise Wrong(f"there is no node {v}: there are {self.nodes}, from 1 on")
+            raise Fault(f"there is no node {v}: there are {self.nodes}, from 1 on")
         return v
 
     def edge(self, said: str) -> tuple[int, int]:
         v, _, w = said.partition("-")
         found = min(whole(v), whole(w)), max(whole(v), whole(w))
         if found not in self.edges:
-            raise Wrong(f"there is no link {shown(said)}")
+            raise Fault(f"there is no link {shown(said)}")
         return found
 
 
 def whole(said: str) -> int:
     if not re.fullmatch("[0-9]{1,6}", said):
-        raise Wrong(f"`{shown(said)}` is no whole number of at most six digits")
+        raise Fault(f"`{shown(said)}` is no whole number of at most six digits")
     return int(said)
 
 
 def within(said: str, low: int, high: int) -> int:
     if not low <= whole(said) <= high:
-        raise Wrong(f"it is a number from {low} to {high:,}")
+        raise Fault(f"it is a number from {low} to {high:,}")
     return whole(said)
 
 
 def time_of(said: str, _here: Here) -> float:
     if not re.fullmatch(r"[0-9]{1,9}(\.[0-9]{1,9})?", said):
-        raise Wrong("it is a number from 0 on")
+        raise Fault("it is a number from 0 on")
     return float(said)
 
 
@@ -72,21 +72,21 @@ def items(said: str) -> list[str]:
 
 def step_of(said: str) -> str:
     if not re.fullmatch("[0-9]{1,5}(-[0-9]{1,5}){0,2}", said):
-        raise Wrong(f"`{shown(said)}` is no step, as 3, 2-1 or 2-1-4")
+        raise Fault(f"`{shown(said)}` is no step, as 3, 2-1 or 2-1-4")
     return said
 
 
 def steps_of(said: str, _here: Here) -> list[str]:
     found = list(map(step_of, items(said)))
     if len(found) > MOST_STEPS:
-        raise Wrong(f"it has {len(found):,} steps, and at most {MOST_STEPS:,} are made by hand")
+        raise Fault(f"it has {len(found):,} steps, and at most {MOST_STEPS:,} are made by hand")
     return found
 
 
 def plan_of(said: str, here: Here) -> list[int]:
     found = [within(one, 0, MOST_CHANNEL) for one in items(said)]
     if len(found) > here.nodes:
-        raise Wrong(f"it has {len(found):,} channels, and there are {here.nodes} nodes")
+        raise Fault(f"it has {len(found):,} channels, and there are {here.nodes} nodes")
     return found
 
 
@@ -95,7 +95,7 @@ def rules_of(said: str, rules: Collection[str]) -> str:
     unknown = [name for name in names if name not in rules]
     if unknown or len(set(names)) < len(names):
         why = f"there is no rule {shown(unknown[0])}" if unknown else "a rule is there twice"
-        raise Wrong(f"{why}: there are {', '.join(rules) or 'none'}")
+        raise Fault(f"{why}: there are {', '.join(rules) or 'none'}")
     return said
 
 
@@ -107,7 +107,7 @@ def other_run(said: str, here: Here) -> Order:
 def among(names: Collection[str]) -> Callable[[str, Here], str]:
     def parse(said: str, _here: Here) -> str:
         if said not in names:
-            raise Wrong(f"there are {', '.join(names)}")
+            raise Fault(f"there are {', '.join(names)}")
         return said
 
     return parse
@@ -169,7 +169,7 @@ class Address:
     def refuse(self) -> None:
         """Refuses an address of which anything can't be read."""
         if self.unread:
-            raise Wrong(self.faults())
+            raise Fault(self.faults())
 
     def faults(self) -> str:
         """What can't be read, in one line."""
@@ -182,7 +182,7 @@ def pairs_of(place: str) -> tuple[dict[str, str], dict[str, str]]:
     """The values of an address as they are written, by their names; and what is no name, or is there twice. A name
     without a value is as good as none, but for the seed: it is any text."""
     if len(place) > MOST_LETTERS:
-        raise Wrong(f"an address has at most {MOST_LETTERS:,} letters, and this has {len(place):,}")
+        raise Fault(f"an address has at most {MOST_LETTERS:,} letters, and this has {len(place):,}")
     found: dict[str, str] = {}
     unread: dict[str, str] = {}
     for part in filter(None, place.split("&")):
@@ -212,7 +212,7 @@ def read_values(pairs: dict[str, str], unread: dict[str, str], here: Here) -> Ad
         said = pairs[name]
         try:
             values[name] = NAMES[name].takes(said if name == "net" else decoded(said), here)
-        except Wrong as why:
+        except Fault as why:
             unread[shown(f"{name}={said}")] = str(why)
         if name == "program":
             here = Here(here.nodes, here.edges, str(values.get("program", COLOURING.name)))

@@ -7,11 +7,11 @@ from typing import Protocol
 from lab.definitions.nodes import COLOURING
 from lab.definitions.program import Program
 from lab.definitions.programs import MAX_PASSES, PROGRAMS, program_at
+from lab.faults import Fault
 from lab.network import Network
 from lab.networks.network_text import read_network
 from lab.pictures.page_data import Net
 from lab.studio.messages import OfNetwork, OfProgram, WithoutRules
-from lab.wrong import Wrong
 
 
 @dataclass
@@ -59,11 +59,11 @@ class OfVertex(Protocol):
 def network_asked(asked: OfNetwork, most: int = MOST_DRAWN) -> Network:
     try:
         network = read_network(asked.network, "the network")
-    except Wrong as why:
+    except Fault as why:
         same = re.fullmatch(
             r"the network: vertices (\d+) and (\d+) have one identifier \(N2\)", str(why)
         )
-        raise Wrong(
+        raise Fault(
             "nodes {} and {} have one identifier now: give one of them another".format(
                 *same.groups()
             )
@@ -72,9 +72,9 @@ def network_asked(asked: OfNetwork, most: int = MOST_DRAWN) -> Network:
         ) from None
     network.name = (asked.name or "this network")[:60]
     if network.nodes == 0:
-        raise Wrong("no node yet")
+        raise Fault("no node yet")
     if network.nodes > most:
-        raise Wrong(unshown(most, network.nodes))
+        raise Fault(unshown(most, network.nodes))
     return network
 
 
@@ -84,9 +84,9 @@ def program_asked(asked: OfProgram, network: Network) -> Program:
     name, option, value = said.groups() if said else ("?", None, None)
     options: dict[str, int] = {str(option): int(value)} if value else {}
     if not 1 <= options.get("passes", 1) <= MAX_PASSES:
-        raise Wrong(f"there are 1 to {MAX_PASSES} passes")
+        raise Fault(f"there are 1 to {MAX_PASSES} passes")
     if options.get("root", 1) not in network.vertices:
-        raise Wrong(f"there is no node {options['root']} that could be the root")
+        raise Fault(f"there is no node {options['root']} that could be the root")
     if name not in (*PROGRAMS, *OPENED.own):
         name = "?"
     return program_at(
@@ -98,11 +98,11 @@ def rules_asked(asked: WithoutRules, among: Collection[str]) -> tuple[str, ...]:
     """The rules to be left out, if they are among those that can be."""
     rules = tuple(asked.without.split(",")) if asked.without else ()
     if not set(rules) <= set(among):
-        raise Wrong("there is no such rule")
+        raise Fault("there is no such rule")
     return rules
 
 
 def vertex_asked(asked: OfVertex, network: Network) -> int:
     if asked.vertex is None or asked.vertex not in network.vertices:
-        raise Wrong(f"the field vertex: there is no node {asked.vertex}")
+        raise Fault(f"the field vertex: there is no node {asked.vertex}")
     return asked.vertex

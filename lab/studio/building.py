@@ -8,12 +8,12 @@ import subprocess
 import sys
 import time
 
+from lab.faults import Fault
 from lab.programs import TOP, built
 from lab.studio.asked import OPENED
 from lab.studio.answers import Build
 from lab.studio.messages import BuildCall, BuiltCall
 from lab.studio.telling import Tell
-from lab.wrong import Wrong
 
 PROGRAMS = ("forestplan", "forestplay")
 # Of the log its last bytes are looked at.
@@ -85,11 +85,11 @@ def begin(_call: BuildCall, _tell: Tell) -> Build:
     """Asks for the build, and waits until it has begun."""
     log = OPENED.log
     if shutil.which("rt") is None:
-        raise Wrong(
+        raise Fault(
             "the toolchain's command rt is not on the PATH, and without it nothing can be proved"
         )
     if log is None:
-        raise Wrong("nothing is built without the studio's server")
+        raise Fault("nothing is built without the studio's server")
     if build_so_far().ended:
         os.unlink(log)
     os.kill(os.getppid(), WANTED)

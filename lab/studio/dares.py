@@ -3,6 +3,7 @@ from collections.abc import Collection, Iterable
 
 from lab.definitions.program import Program
 from lab.definitions.rounds import Rounds
+from lab.faults import Fault
 from lab.network import Edge, Network
 from lab.pictures.layout import distances
 from lab.pictures.program_rounds import is_own, rounds_of
@@ -10,7 +11,6 @@ from lab.pictures.watch_page import look_of
 from lab.schedules.stepwise import Stepwise
 from lab.studio.answers import DareJudged
 from lab.words import counted
-from lab.wrong import Wrong
 
 # In words that go on a sentence which begins with "I dare you to".
 DARES = {
@@ -41,7 +41,7 @@ def judged(
 ) -> DareJudged:
     """Whether steps win the dare, and how far they come."""
     if dare not in DARES:
-        raise Wrong(f"there is no dare {dare}")
+        raise Fault(f"there is no dare {dare}")
     player = Stepwise(network, program, without)
     pairs, least = goal(network, dare)
     most = 0
@@ -67,7 +67,7 @@ def goal(network: Network, dare: str) -> tuple[Collection[Edge], int]:
     ways = {v: distances(network.neighbours, v) for v in network.vertices}
     pairs = [(v, w) for v in ways for w in sorted(ways[v]) if v < w]
     if not pairs:
-        raise Wrong("no two nodes are joined")
+        raise Fault("no two nodes are joined")
     v, w = max(pairs, key=lambda pair: ways[pair[0]][pair[1]])
     return [(v, w)], ways[v][w]
 

@@ -7,11 +7,11 @@ from collections.abc import Callable, Iterator
 from dataclasses import dataclass, field
 from urllib.parse import unquote_to_bytes
 
+from lab.faults import Fault
 from lab.networks.fields import shown
 from lab.networks.network_text import MAX_CHANNEL
 from lab.pictures.page_data import Net, NetNode
 from lab.pictures.places import page_bends
-from lab.wrong import Wrong
 
 PLACE = re.compile(r"(-?[0-9]{1,6})\.(-?[0-9]{1,6})")
 # A node by its number, and what is said of it.
@@ -59,7 +59,7 @@ def decoded(said: str) -> str:
             raise ValueError
         return unquote_to_bytes(said.encode()).decode()
     except ValueError:
-        raise Wrong(f"the % in `{shown(said)}` stands for no letter") from None
+        raise Fault(f"the % in `{shown(said)}` stands for no letter") from None
 
 
 def listed(said: str) -> list[str]:
@@ -77,7 +77,7 @@ def drawn_of(code: str) -> Drawn:
         kind = part[:1]
         if kind not in ADDS or kind in kinds:
             said = "are there twice" if kind in kinds else "mean nothing"
-            raise Wrong(f"the network has a part `{shown(part)}`, and such parts {said}")
+            raise Fault(f"the network has a part `{shown(part)}`, and such parts {said}")
         kinds.add(kind)
         for v, what in of_nodes(part[1:], len(nodes)):
             ADDS[kind](nodes[v - 1], v, what)
@@ -87,7 +87,7 @@ def drawn_of(code: str) -> Drawn:
 def node_at(place: str) -> Node:
     found = PLACE.fullmatch(place)
     if not found:
-        raise Wrong(f"the network has a node at `{shown(place)}`, and a place is X.Y")
+        raise Fault(f"the network has a node at `{shown(place)}`, and a place is X.Y")
     return Node(int(found[1]), int(found[2]))
 
 
@@ -96,7 +96,7 @@ def of_nodes(said: str, nodes: int) -> Iterator[tuple[int, str]]:
     for pair in listed(said):
         found = OF_NODE.fullmatch(pair)
         if not found or not 1 <= int(found[1]) <= nodes:
-            raise Wrong(f"the network says `{shown(pair)}`, which is of none of its {nodes} nodes")
+            raise Fault(f"the network says `{shown(pair)}`, which is of none of its {nodes} nodes")
         yield int(found[1]), found[2]
 
 
@@ -106,34 +106,34 @@ def edges_of(said: str, nodes: int) -> set[tuple[int, int]]:
         w = int(other) if NUMBER.fullmatch(other) else 0
         edge = min(v, w), max(v, w)
         if not 1 <= edge[0] < edge[1] <= nodes:
-            raise Wrong(f"the network has a wrong edge, `{shown(f'{v}-{other}')}`")
+            raise Fault(f"the network has a wrong edge, `{shown(f'{v}-{other}')}`")
         if edge in found:
-            raise Wrong(f"the network has the edge `{v}-{other}` twice")
+            raise Fault(f"the network has the edge `{v}-{other}` twice")
         found.add(edge)
     return found
 
 
 def add_identifier(node: Node, v: int, said: str) -> None:
     if not IDENTIFIER.fullmatch(said):
-        raise Wrong(f"the identifier of node {v} is `{shown(said)}`, and has to be a whole number")
+        raise Fault(f"the identifier of node {v} is `{shown(said)}`, and has to be a whole number")
     if node.id:
-        raise Wrong(f"node {v} has two identifiers")
+        raise Fault(f"node {v} has two identifiers")
     node.id = said
 
 
 def add_bar(node: Node, v: int, said: str) -> None:
     if not CHANNEL.fullmatch(said) or not 1 <= int(said) <= MAX_CHANNEL:
-        raise Wrong(
+        raise Fault(
             f"the channel `{shown(said)}` is barred at node {v}, and channels are 1 to {MAX_CHANNEL}"
         )
     if int(said) in node.bars:
-        raise Wrong(f"the channel {int(said)} is barred twice at node {v}")
+        raise Fault(f"the channel {int(said)} is barred twice at node {v}")
     node.bars.append(int(said))
 
 
 def add_name(node: Node, v: int, said: str) -> None:
     if node.name:
-        raise Wrong(f"node {v} has two names")
+        raise Fault(f"node {v} has two names")
     node.name = decoded(said)
 
 

@@ -13,11 +13,11 @@ from functools import cache
 from types import NoneType, UnionType
 from typing import Annotated, Literal, TypeVar, Union, get_args, get_origin, get_type_hints
 
+from lab.faults import Fault
 from lab.networks.fields import shown
-from lab.wrong import Wrong
 
 Asked = TypeVar("Asked")
-# The value of a field, or what it has to be, as `Wrong` says it.
+# The value of a field, or what it has to be, as `Fault` says it.
 Parse = Callable[[object], object]
 # A number of a call is no larger: no node, pulse or seed is.
 MOST_NUMBER = 10**9
@@ -34,23 +34,23 @@ class Field:
 
 def text(value: object) -> str:
     if not isinstance(value, str):
-        raise Wrong("a text is asked for")
+        raise Fault("a text is asked for")
     if not value.isascii() and re.search("[\ud800-\udfff]", value):
-        raise Wrong("a text of whole letters is asked for, and this has half of one")
+        raise Fault("a text of whole letters is asked for, and this has half of one")
     return value
 
 
 def number(value: object) -> int:
     if isinstance(value, bool) or not isinstance(value, int):
-        raise Wrong("a whole number is asked for")
+        raise Fault("a whole number is asked for")
     if abs(value) > MOST_NUMBER:
-        raise Wrong(f"a whole number of at most {MOST_NUMBER:,} is asked for")
+        raise Fault(f"a whole number of at most {MOST_NUMBER:,} is asked for")
     return value
 
 
 def truth(value: object) -> bool:
     if not isinstance(value, bool):
-        raise Wrong("true or false is asked for")
+        raise Fault("true or false is asked for")
     return value
 
 
@@ -64,14 +64,14 @@ def data(value: object) -> bytes:
     try:
         return base64.b64decode(text(value), validate=True)
     except (binascii.Error, ValueError):
-        raise Wrong("bytes in base 64 are asked for") from None
+        raise Fault("bytes in base 64 are asked for") from None
 
 
 def list_of(parse: Parse, length: int | None = None) -> Parse:
     def parse_list(value: object) -> tuple[object, ...]:
         if not isinstance(value, list) or length not in (None, len(value)):
             what = "a list" if length is None else f"a list of {length}"
-            raise Wrong(f"{what} is asked for")
+            raise Fault(f"{what} is asked for")
         return tuple(map(parse, value))
 
     return parse_list
@@ -80,7 +80,7 @@ def list_of(parse: Parse, length: int | None = None) -> Parse:
 def words_by_name(value: object) -> dict[str, str]:
     """An object of texts or numbers."""
     if not isinstance(value, dict):
-        raise Wrong("an object is asked for")
+        raise Fault("an object is asked for")
     return {name: word(one) for name, one in value.items()}
 
 
@@ -88,7 +88,7 @@ def among(names: Collection[str]) -> Parse:
     def parse_name(value: object) -> str:
         name = text(value)
         if name not in names:
-            raise Wrong(f"there is no {shown(name)}: there are {', '.join(names)}")
+            raise Fault(f"there is no {shown(name)}: there are {', '.join(names)}")
         return name
 
     return parse_name
@@ -138,7 +138,7 @@ def parsed_call(kind: type[Asked], body: Mapping[str, object]) -> Asked:
     known = fields_of(of)
     for name in body:
         if name not in known:
-            raise Wrong(f"the call has no field {shown(name)}: it has {', '.join(known) or 'none'}")
+            raise Fault(f"the call has no field {shown(name)}: it has {', '.join(known) or 'none'}")
     make: Callable[..., Asked] = kind
     return make(**{name: value_of(name, body.get(name), field) for name, field in known.items()})
 
@@ -147,11 +147,11 @@ def value_of(name: str, value: object, field: Field) -> object:
     if value is None:
         if field.may_lack:
             return field.default
-        raise Wrong(f"the call lacks its field {name}")
+        raise Fault(f"the call lacks its field {name}")
     try:
         return field.takes(value)
-    except Wrong as why:
-        raise Wrong(f"the field {name} of the call: {why}") from None
+    except Fault as why:
+        raise Fault(f"the field {name} of the call: {why}") from None
 
 
 def object_of(body: bytes) -> dict[str, object]:
@@ -161,7 +161,7 @@ def object_of(body: bytes) -> dict[str, object]:
     except (ValueError, RecursionError):
         found = None
     if not isinstance(found, dict):
-        raise Wrong("a call is an object in JSON")
+        raise Fault("a call is an object in JSON")
     return found
 
 
@@ -170,6 +170,6 @@ def once_each(pairs: list[tuple[str, object]]) -> dict[str, object]:
     found: dict[str, object] = {}
     for name, value in pairs:
         if name in found:
-            raise Wrong(f"the call has its field {shown(name)} twice")
+            raise Fault(f"the call has its field {shown(name)} twice")
         found[name] = value
     return found

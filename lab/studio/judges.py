@@ -10,6 +10,7 @@ from lab.definitions.nodes import alpha_start
 from lab.definitions.program import Program
 from lab.definitions.programs import program_words
 from lab.definitions.rounds import Rounds
+from lab.faults import Fault
 from lab.network import Network
 from lab.networks.plan_text import clashes
 from lab.pictures.program_rounds import is_own
@@ -17,9 +18,8 @@ from lab.programs import called
 from lab.studio.asked import OPENED
 from lab.studio.answers import Judged, Replayed
 from lab.transcripts.check import whole_run
-from lab.transcripts.reading import Wrong as WrongEntry, read
+from lab.transcripts.reading import WrongEntry, read
 from lab.words import as_text
-from lab.wrong import Wrong
 
 MOST_TEXT = 64 << 20
 MACHINE, PYTHON = "The proved machine", "Python (not proved)"
@@ -29,14 +29,14 @@ def said_by(name: str, words: list[str], *texts: str) -> tuple[int, str, str]:
     """(status, output, what is said on standard error) of a program, as texts."""
     done = called(name, words, "".join(texts).encode())
     if len(done.stdout) > MOST_TEXT:
-        raise Wrong(f"{name} wrote {len(done.stdout):,} bytes, more than a page can show")
+        raise Fault(f"{name} wrote {len(done.stdout):,} bytes, more than a page can show")
     return done.returncode, done.stdout.decode(), done.stderr.decode().strip()
 
 
 def text_from(name: str, words: list[str], network_text: str) -> str:
     status, output, said = said_by(name, words, network_text)
     if status:
-        raise Wrong(said or f"{name} ended with status {status}")
+        raise Fault(said or f"{name} ended with status {status}")
     return output
 
 
@@ -51,7 +51,7 @@ def rounds_of(network: Network, text: str) -> Rounds:
     """The rounds of the colouring, which those of the proved program have to be."""
     rounds = Rounds(network)
     if OPENED.is_proved and text_from("forestplay", ["rounds"], text) != as_text(rounds.lines()):
-        raise Wrong("the rounds of forestplay aren't those of the definitions")
+        raise Fault("the rounds of forestplay aren't those of the definitions")
     return rounds
 
 

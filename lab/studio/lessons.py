@@ -3,9 +3,9 @@ title, its question and its text are those of the page."""
 import os
 import re
 
+from lab.faults import Fault
 from lab.programs import TOP
 from lab.studio.answers import LecturePlace, Lesson
-from lab.wrong import Wrong
 
 # Of a lesson's exercises those that are predictions, each with its place.
 QUESTIONS = {
@@ -92,7 +92,7 @@ def lesson_of(number: int) -> tuple[str, str, str]:
     head, text, _ = page_of(f"LESSON_{number}.md").split("\n\n---\n\n")
     found = re.match(r"# \d\. ([^\n]*)\n\n\*(.*?)\*", head, re.S)
     if found is None:
-        raise Wrong(f"the page of lesson {number} has no title with its question")
+        raise Fault(f"the page of lesson {number} has no title with its question")
     title, ask = found.groups()
     return title, ask, re.sub(r"\]\(LESSON_(\d)\.md[^)]*\)", r"](#\1-)", text)
 

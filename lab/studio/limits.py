@@ -16,7 +16,7 @@ from dataclasses import asdict, dataclass
 from typing import Literal
 
 from lab.door import PR_SET_PDEATHSIG, STOPS, held
-from lab.wrong import Wrong
+from lab.faults import Fault
 
 # Seconds of the clock, seconds of processor time, and bytes.
 SECONDS, PROCESSOR_SECONDS, MEMORY = 120, 110, 2 << 30
@@ -39,7 +39,7 @@ class Outcome:
 def outcome(work: Callable[[], object]) -> Outcome:
     try:
         return Outcome("answer", work())
-    except Wrong as why:
+    except Fault as why:
         return Outcome("refusal", wrong=str(why))
     except MemoryError:
         return Outcome("limit", wrong=TOO_MUCH)

@@ -2,6 +2,7 @@
 from collections.abc import Iterator
 from functools import partial
 
+from lab.faults import Fault
 from lab.networks.fields import shown
 from lab.studio.address import program_named
 from lab.studio.asked import network_asked, program_asked
@@ -9,7 +10,6 @@ from lab.studio.dares import judged
 from lab.studio.limits import apart
 from lab.studio.messages import OfProgram
 from lab.studio.networks import opened_by
-from lab.wrong import Wrong
 
 
 def judge(lines: list[str]) -> Iterator[tuple[str, bool]]:
@@ -31,14 +31,14 @@ def judged_link(link: str) -> str:
     """What is said of a link."""
     host, mark, place = link.partition("#")
     if not mark:
-        raise Wrong(f"`{shown(host)}` has no #, after which an address says what it shows")
+        raise Fault(f"`{shown(host)}` has no #, after which an address says what it shows")
     opened = opened_by(place)
     opened.address.refuse()
     values = opened.address.values
     if values.dare is None:
-        raise Wrong("it has no dare")
+        raise Fault("it has no dare")
     if opened.text is None:
-        raise Wrong("it has no network")
+        raise Fault("it has no network")
     asked = OfProgram(network=opened.text, program=program_named(values))
     network = network_asked(asked)
     rules = tuple(values.without.split(",")) if values.without else ()

@@ -2,6 +2,7 @@
 definitions find and why."""
 from lab.definitions.nodes import COLOURING
 from lab.definitions.rounds import Rounds, SEED
+from lab.faults import Fault
 from lab.pictures.player_page import SAY
 from lab.pictures.program_rounds import ProgramRounds
 from lab.pictures.watch_page import waits_of
@@ -20,7 +21,6 @@ from lab.studio.answers import Predicted
 from lab.studio.messages import PredictCall, WaitsCall
 from lab.studio.telling import Tell
 from lab.words import in_words
-from lab.wrong import Wrong
 
 # What a node's next pulse needs, by the rule that has it wait; and what it doesn't wait for without the rule.
 NEEDED = {"acks": "its payloads are acknowledged", "safes": "its neighbours are safe"}
@@ -35,7 +35,7 @@ def predict(call: PredictCall, _tell: Tell) -> Predicted:
     program = program_asked(call, network)
     v, pulse, last = vertex_asked(call, network), call.pulse, program.last_pulse(network)
     if not 1 <= pulse <= last:
-        raise Wrong(f"the field pulse: there is no pulse {pulse}, only 1 to {last}")
+        raise Fault(f"the field pulse: there is no pulse {pulse}, only 1 to {last}")
     if program == COLOURING:
         found, why = of_colouring(Rounds(network), v, pulse, call.forest)
     else:
@@ -53,9 +53,9 @@ def of_colouring(rounds: Rounds, v: int, pulse: int, forest: int) -> tuple[str, 
     if now.step:
         return of_merge(rounds, v, pulse, now.step[0])
     if pulse < SEED or not rounds.forests:
-        raise Wrong("no node has a colour yet: go on to pulse 1")
+        raise Fault("no node has a colour yet: go on to pulse 1")
     if forest not in range(rounds.forests):
-        raise Wrong(f"the field forest: there is no forest {forest}")
+        raise Fault(f"the field forest: there is no forest {forest}")
     causes = Cone(rounds, v).causes_of_colour(v, forest, pulse)
     is_root = (v, forest) not in rounds.parents
     why = OF_ROOT if is_root and now.phase == "step" else SAY[now.phase].format(9 - pulse // 2)

@@ -4,6 +4,7 @@ import re
 
 from lab.definitions.nodes import COLOURING, last_pulse
 from lab.definitions.rounds import Rounds
+from lab.faults import Fault
 from lab.networks.codes import code_of
 from lab.networks.plan_text import read_plan
 from lab.pictures import broken_picture, player_page, why_picture
@@ -27,7 +28,6 @@ from lab.studio.messages import (
     WhyCall,
 )
 from lab.studio.telling import Tell
-from lab.wrong import Wrong
 
 
 def plan(call: PlanCall, _tell: Tell) -> PlanFound:
@@ -48,14 +48,14 @@ def check(call: CheckCall, _tell: Tell) -> GoodPlan | BadPlan:
     """The verdict on a plan, whoever made it, and what its code means."""
     network = network_asked(call)
     if len(call.plan) > network.nodes or min(call.plan, default=0) < 0:
-        raise Wrong(f"the field plan: a channel from 0 on is asked for of {network.nodes} nodes")
+        raise Fault(f"the field plan: a channel from 0 on is asked for of {network.nodes} nodes")
     channels = {v: channel for v, channel in zip(network.vertices, call.plan) if channel}
     said = verdict_on(network, call.network, channels)
     if said.startswith("proper"):
         return GoodPlan(said, [])
     found = code_of(said)
     if found is None:
-        raise Wrong(said)
+        raise Fault(said)
     at = [int(n) for n in re.findall(r"\d+", said.partition(" ")[2])]
     return BadPlan(
         said=said,
@@ -107,7 +107,7 @@ def broken(call: BrokenCall, _tell: Tell) -> Broken:
     program = program_asked(call, network)
     without = rules_asked(call, OF_PROGRAMS.get(program.name, {}))
     if not without:
-        raise Wrong("which rule is left out?")
+        raise Fault("which rule is left out?")
     here = ruled(program, network, without)
     if here.clash is not None:
         picture_here = broken_picture.draw(network, without, program)
@@ -128,7 +128,7 @@ def picture(call: PictureCall, _tell: Tell) -> str:
     most = KINDS_OF_PICTURES[call.kind].most
     if most and network.nodes > most[0]:
         # What a command line is told to use instead isn't on the page.
-        raise Wrong(
+        raise Fault(
             f"the picture {call.kind} has room for at most {most[0]} nodes, and this network has {network.nodes}: "
             "the pictures plan and results have room for them"
         )
@@ -136,12 +136,12 @@ def picture(call: PictureCall, _tell: Tell) -> str:
         texts = [Text("the plan", plan_of(network, call.network))]
     if call.kind == "run":
         if call.transcript is None:
-            raise Wrong("the call lacks its field transcript: a picture of a run is of one")
+            raise Fault("the call lacks its field transcript: a picture of a run is of one")
         texts = [Text("the run", call.transcript)]
     if call.vertex is not None:
         vertex_asked(call, network)
     if len(call.pulses) not in (0, 2):
-        raise Wrong("the field pulses: the first and the last one are asked for, or none")
+        raise Fault("the field pulses: the first and the last one are asked for, or none")
     return drawing(
         call.kind,
         Source(network, program_asked(call, network), texts, title=network.name),

@@ -9,6 +9,7 @@ from lab.definitions.events import Event
 from lab.definitions.nodes import COLOURING
 from lab.definitions.program import Program
 from lab.definitions.programs import program_words
+from lab.faults import Fault
 from lab.network import Network
 from lab.pictures.program_rounds import is_own, least_wires, rounds_of
 from lab.pictures.watch_page import MOST_ENTRIES, Run, Steps, draw, look_of, run_of_text
@@ -31,7 +32,6 @@ from lab.studio.judges import PYTHON, beginning_judged, by_definitions, judged, 
 from lab.studio.messages import Held, JudgeCall, ReplayCall, RunCall, RunPageCall, StepsCall
 from lab.studio.telling import Tell
 from lab.transcripts.reading import line_of
-from lab.wrong import Wrong
 
 # More wires than this are played by threads alone: the slow definitions would take minutes.
 MOST_WIRES_PLAYED = 60_000
@@ -46,7 +46,7 @@ def held_of(held: Held, net: Network) -> tuple[set[tuple[int, int]], set[int]]:
     slow = {(min(edge), max(edge)) for edge in held.slow}
     lazy = set(held.lazy)
     if not slow <= set(net.edges) or not lazy <= set(net.neighbours):
-        raise Wrong("the fields slow, lazy: a link or a node that waits isn't in this network")
+        raise Fault("the fields slow, lazy: a link or a node that waits isn't in this network")
     return slow, lazy
 
 
@@ -54,7 +54,7 @@ def played(call: RunCall, network: Network, program: Program, tell: Tell) -> tup
     """(transcript, run) by a seed, which no thread made; steps of somebody's may come first."""
     most = least_wires(network, program)
     if most > MOST_WIRES_PLAYED:
-        raise Wrong(
+        raise Fault(
             f"a run of this network has more than {most:,} messages, and Python plays at most {MOST_WIRES_PLAYED:,}: "
             + (
                 "take the threads, which are quick"
@@ -63,7 +63,7 @@ def played(call: RunCall, network: Network, program: Program, tell: Tell) -> tup
             )
         )
     if call.policy is None:
-        raise Wrong("the call lacks its field policy: a run by a seed has one")
+        raise Fault("the call lacks its field policy: a run by a seed has one")
     policy = Policy(
         call.policy, network.vertices, network.edges, call.seed, *held_of(call, network)
     )
@@ -102,7 +102,7 @@ def run_part(found: Run) -> RunPart:
 
 def by_threads(call: RunCall, program: Program) -> str:
     if not OPENED.is_proved:
-        raise Wrong("threads run the proved programs, which aren't built yet: take a run by a seed")
+        raise Fault("threads run the proved programs, which aren't built yet: take a run by a seed")
     name = "forestplan" if program == COLOURING else "forestplay"
     words = (
         ["transcript"] if program == COLOURING else ["run", "--transcript", *program_words(program)]
@@ -208,7 +208,7 @@ def follow(player: Stepwise, call: StepsCall, held: tuple[set[tuple[int, int]], 
     else:
         player.follow(call.steps.split("_"))
     if len(player.chosen) > MOST_STEPS:
-        raise Wrong(f"at most {MOST_STEPS:,} steps are made by hand; No clock plays the rest")
+        raise Fault(f"at most {MOST_STEPS:,} steps are made by hand; No clock plays the rest")
     if call.by:
         player.by_chance(min(call.by, MOST_BY_CHANCE), call.seed, *held)
     if call.in_step:

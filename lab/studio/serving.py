@@ -24,6 +24,7 @@ import traceback
 from collections.abc import Callable, Iterator
 from typing import Any
 
+from lab.faults import Fault
 from lab.pictures import pages
 from lab.pictures.page_data import as_object
 from lab.programs import TOP
@@ -32,7 +33,6 @@ from lab.studio.building import Building
 from lab.studio.calls import CALLS
 from lab.studio.connections import Connection, Connections, SECONDS_TO_ASK, Said
 from lab.studio.fields import object_of
-from lab.wrong import Wrong
 
 HOST = "127.0.0.1"
 FOLDERS = os.path.join(TOP, "lab/studio/page"), pages.FOLDER
@@ -255,7 +255,7 @@ class Handler(http.server.BaseHTTPRequestHandler):
             return self.refuse(404, "There is no such call.")
         try:
             asked = object_of(body)
-        except Wrong as why:
+        except Fault as why:
             return self.refuse(400, f"{why}.")
         self.headed(200, "application/x-ndjson")
         answer = Answer(self)

@@ -9,6 +9,7 @@ from argparse import Namespace
 from collections.abc import Iterable
 
 from lab.definitions.programs import PROGRAMS, program_at
+from lab.faults import Fault
 from lab.network import Network
 from lab.networks.sources import network_bytes
 from lab.networks.options import commands_for
@@ -20,7 +21,6 @@ from lab.studio.links import judge
 from lab.studio.networks import shown
 from lab.studio.serving import Server
 from lab.words import Parser, one_line, parser_of, text_at, text_name
-from lab.wrong import Wrong
 
 PORT, NEXT_PORTS = 8321, 20
 HELP = """\
@@ -87,7 +87,7 @@ def own_programs(files: Iterable[str]) -> dict[str, str]:
     for file in files:
         program = program_at(file)
         if not file.endswith(".py") or program.name in found or program.name in PROGRAMS:
-            raise Wrong(f"{file}: a file of your own, as NAME.py, of another name than the others")
+            raise Fault(f"{file}: a file of your own, as NAME.py, of another name than the others")
         found[program.name] = file
     return found
 
@@ -98,9 +98,9 @@ def server_at(port: int | None, folder: str) -> Server:
         try:
             return Server(at, secrets.token_urlsafe(24), folder)
         except OSError as why:
-            refused = Wrong(f"port {at}: {why.strerror}")
+            refused = Fault(f"port {at}: {why.strerror}")
         except OverflowError:
-            refused = Wrong(f"there is no port {at}")
+            refused = Fault(f"there is no port {at}")
     raise refused
 
 
@@ -128,7 +128,7 @@ def opened(path: str) -> Network:
         form = form_read(path, Stated())
         return read_any(network_bytes(path), text_name(path), form, Stated())[0]
     except Unsaid as why:
-        raise Wrong(
+        raise Fault(
             commands_for(why, ["network", "read"], [path], " | forestlab studio -")
         ) from None
 
@@ -144,7 +144,7 @@ def main(words: list[str]) -> int:
             OPENED.own = own_programs(given.own)
             OPENED.is_proved = are_built()
             server = server_at(given.port, folder)
-        except Wrong as why:
+        except Fault as why:
             print(f"studio: {why}", file=sys.stderr)
             return 1
         moved = server.server_port != PORT and given.port is None
@@ -163,7 +163,7 @@ def judge_links(given: Namespace) -> int:
         for said, is_judged in judge(text_at(given.links).split("\n")):
             print(one_line(said), flush=True)
             are_judged = are_judged and is_judged
-    except Wrong as why:
+    except Fault as why:
         print(f"studio: {why}", file=sys.stderr)
         return 1
     return 0 if are_judged else 1

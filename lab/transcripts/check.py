@@ -12,7 +12,7 @@ from lab.definitions.nodes import COLOURING, alpha_start
 from lab.definitions.program import Program
 from lab.network import Network
 from lab.transcripts.fields import fields_of
-from lab.transcripts.reading import Wrong, read_to_fault
+from lab.transcripts.reading import WrongEntry, read_to_fault
 from lab.transcripts.stamps import Clock, check_whole, refusal, unfinished
 
 
@@ -64,7 +64,7 @@ class Found:
         """Whether others could still make it possible."""
         return self.refusals[entry.node] == "LinkEmpty" and not self.is_stamped
 
-    def wrong(self, fault: Wrong | None = None) -> Wrong | None:
+    def wrong(self, fault: WrongEntry | None = None) -> WrongEntry | None:
         """What is wrong first, if something is: `fault` is that of a line after the entries, which comes before an
         entry that waits for a neighbour."""
         entry = self.first_refused()
@@ -113,10 +113,10 @@ def find_order(net: Network, entries: list[Entry], program: Program = COLOURING)
 
 def whole_run(net: Network, text: bytes, program: Program = COLOURING) -> tuple[list[int], str]:
     """The lines of the entries in an order that is a run, and the verdict on a transcript of a program on a network; or
-    `Wrong`."""
+    `WrongEntry`."""
     head, entries, fault = read_to_fault(text, program.name)
     if head.nodes != net.nodes:
-        raise Wrong(
+        raise WrongEntry(
             head.line, "Nodes", f"the transcript has {head.nodes} nodes, the network {net.nodes}"
         )
     found = find_order(net, entries, program)

@@ -4,7 +4,7 @@ from collections import deque
 from collections.abc import Iterator
 
 from lab.definitions.events import PUT, TAKE, Entry, Message
-from lab.transcripts.reading import Head, Wrong, read
+from lab.transcripts.reading import Head, WrongEntry, read
 
 Made = list[tuple[Entry, Entry | None]]
 
@@ -13,7 +13,7 @@ def entries_of(text: bytes) -> tuple[Head, Made]:
     """The first line; and (entry, the entry of its put if it is a take), in the order of the text."""
     head, entries = read(text, None)
     if not head.is_stamped:
-        raise Wrong(
+        raise WrongEntry(
             head.line,
             "X1",
             "edition 1 has no order of all entries: only editions 2 and 3 are written in "
@@ -28,7 +28,7 @@ def entries_of(text: bytes) -> tuple[Head, Made]:
         elif entry.kind is TAKE:
             link = links.get((entry.neighbour, entry.node))
             if not link:
-                raise Wrong(
+                raise WrongEntry(
                     entry.line,
                     "LinkEmpty",
                     f"node {entry.node} takes what {entry.neighbour} hasn't put",

@@ -2,8 +2,8 @@
 import re
 from dataclasses import dataclass
 
+from lab.faults import Fault
 from lab.programs import called
-from lab.wrong import Wrong
 
 
 @dataclass
@@ -30,5 +30,5 @@ def verdict_of(network: str, transcript: str, words: list[str]) -> Verdict:
     line = done.stderr.decode("utf-8", "replace").strip()
     found = re.fullmatch(r"forestplay: (\w+) line (\d+)(?:: (.*))?", line)
     if done.returncode != 1 or not found:
-        raise Wrong(f"forestplay replay ends with status {done.returncode}: {line}")
+        raise Fault(f"forestplay replay ends with status {done.returncode}: {line}")
     return Verdict(found[1], int(found[2]) - network.count("\n") - 2, found[3] or "", line)

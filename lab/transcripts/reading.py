@@ -2,8 +2,8 @@
 import contextlib
 from typing import NamedTuple
 
-from lab import wrong
 from lab.definitions.events import PULSE, PUT, TAKE, Entry
+from lab.faults import Fault
 from lab.transcripts.fields import (
     COLOURING,
     NoEntry,
@@ -33,7 +33,7 @@ class Head(NamedTuple):
         return self.edition > 1
 
 
-class Wrong(wrong.Wrong):
+class WrongEntry(Fault):
     """Why a text isn't the transcript of a whole run that is right: its `line`, if it is one line's fault, the `code`
     of the refusal, and `what` is wrong."""
 
@@ -73,7 +73,7 @@ def read(text: bytes, program: str | None = COLOURING) -> tuple[Head, list[Entry
 
 def read_to_fault(
     text: bytes, program: str | None = COLOURING
-) -> tuple[Head, list[Entry], Wrong | None]:
+) -> tuple[Head, list[Entry], WrongEntry | None]:
     """The first line, the entries before the first line that isn't one, and that line's fault, or None."""
     lines, entries = text.split(b"\n"), []
     head = head_of(lines, program)
@@ -84,7 +84,7 @@ def read_to_fault(
                 entries.append(entry_of(line, fields, program, head.is_stamped))
         except NoEntry as why:
             cut = ", and no line feed after it (is the text cut?)" if line == len(lines) else ""
-            return head, entries, Wrong(line, "X1", f"not an entry: {why}{cut}")
+            return head, entries, WrongEntry(line, "X1", f"not an entry: {why}{cut}")
     return head, entries, None
 
 
@@ -96,7 +96,7 @@ def head_of(lines: list[bytes], program: str | None) -> Head:
         named = fields[2].decode("latin-1")
     is_name = name_in_texts(named) == named and named != ""
     if is_name and program is not None and named != name_in_texts(program):
-        raise Wrong(
+        raise WrongEntry(
             line, "WrongProgram", f"a transcript of {named}, not of {program}: --program {named}"
         )
     with contextlib.suppress(NoEntry):
@@ -108,7 +108,7 @@ def head_of(lines: list[bytes], program: str | None) -> Head:
     what = (
         f"neither `transcript 1 N`, `transcript 2 N` nor `transcript 3 NAME N`{advice(fields[0])}"
     )
-    raise Wrong(line, "X1", what)
+    raise WrongEntry(line, "X1", what)
 
 
 def first_with_fields(lines: list[bytes]) -> tuple[int, list[bytes]]:

@@ -5,7 +5,7 @@ from collections.abc import Iterable, Iterator
 from lab.definitions.events import PULSE, PUT, TAKE, Entry, Kind
 from lab.definitions.machine import NetState, Node, event_of
 from lab.definitions.nodes import AlphaNode, lacks_of
-from lab.transcripts.reading import Head, Wrong, words
+from lab.transcripts.reading import Head, WrongEntry, words
 from lab.transcripts.rules import Standing, rule_of, stuck_words
 
 
@@ -38,7 +38,7 @@ def check_whole(state: NetState[AlphaNode], last: Entry | Head) -> None:
             if is_on_its_way
             else stuck_words([(v, standing(state, v)) for v in state.nodes])
         )
-        raise Wrong(last.line, "NotWhole", f"after the last entry {what}")
+        raise WrongEntry(last.line, "NotWhole", f"after the last entry {what}")
 
 
 def standing(state: NetState[AlphaNode], v: int) -> Standing:
@@ -59,12 +59,12 @@ LACKED = {
 
 def refusal(
     state: NetState[AlphaNode], entry: Entry, code: str, entries: list[Entry], clock: Clock
-) -> Wrong:
+) -> WrongEntry:
     """Of an entry that isn't possible: what it lacks or what is due there, and the rule that a pulse or a put
     breaks."""
     said = words(entry) + LACKED.get(code, "")
     if code == "NoSuch":
-        return Wrong(entry.line, code, said)
+        return WrongEntry(entry.line, code, said)
     at = standing(state, entry.node)
     if code == "NotReady" and at.lacks:
         said += f", but it lacks {at.lacks}"
@@ -80,7 +80,7 @@ def refusal(
     if code in ("NotReady", "NothingToPut", "WrongWire") and entry.kind is not TAKE:
         what = "pulse" if entry.kind is PULSE else f"put {entry.neighbour}"
         said += f"; {rule_of(at, f'{what} {entry.what}', says_lacks=False)}"
-    return Wrong(entry.line, code, said)
+    return WrongEntry(entry.line, code, said)
 
 
 def why_link_empty(entry: Entry, entries: list[Entry]) -> str:

@@ -8,12 +8,13 @@ from lab import programs
 from lab.definitions.own_program import wrong_end
 from lab.definitions.program import Program
 from lab.definitions.programs import add_program, program_asked, program_words
+from lab.faults import Fault
 from lab.network import Network
 from lab.networks.sources import network_bytes
 from lab.networks.network_text import network_of
 from lab.transcripts.check import in_order, whole_run
 from lab.transcripts.convert import FORMS, entries_of
-from lab.transcripts.reading import Wrong as WrongEntry
+from lab.transcripts.reading import WrongEntry
 from lab.words import (
     MOST_OF_TRANSCRIPT,
     add_command,
@@ -25,7 +26,6 @@ from lab.words import (
     text_name,
     write,
 )
-from lab.wrong import Wrong
 
 HELP = """\
 Judges a transcript of a run without a clock, whoever wrote it.
@@ -147,7 +147,7 @@ def command_line() -> ArgumentParser:
 def texts_of(given: Namespace) -> tuple[Network, bytes, bytes, Program]:
     """The network, the texts of both, and the program of a command line."""
     if given.network == given.transcript == "-":
-        raise Wrong(
+        raise Fault(
             "standard input has one text: name a file for the network or for the transcript"
         )
     data = network_bytes(given.network)
@@ -169,7 +169,7 @@ def replayed(given: Namespace) -> str:
     """What the proved machine prints of a transcript in the order found."""
     net, network, text, program = texts_of(given)
     if program.file is not None:
-        raise Wrong(f"no proved program runs {program.name}")
+        raise Fault(f"no proved program runs {program.name}")
     made, _ = whole_run(net, text, program)
     # The network may not end in a line feed.
     return programs.text_of(

@@ -14,7 +14,7 @@ import functools
 import os
 import socket
 
-from lab.wrong import Wrong
+from lab.faults import Fault
 
 LIBRARY = "libseccomp.so.2"
 CALLS = """
@@ -91,7 +91,7 @@ def library() -> ctypes.CDLL:
     try:
         found = ctypes.CDLL(LIBRARY)
     except OSError:
-        raise Wrong(
+        raise Fault(
             "what is submitted is graded with a list of calls, for which libseccomp isn't here: "
             "`apt install libseccomp2`"
         ) from None
@@ -126,7 +126,7 @@ class Filter:
 
     def check(self, status: int) -> None:
         if status:
-            raise Wrong(f"libseccomp can't write the list of calls: {os.strerror(-status)}")
+            raise Fault(f"libseccomp can't write the list of calls: {os.strerror(-status)}")
 
     def add(self, action: int, name: str, *words: tuple[int, int, int]) -> None:
         """What becomes of a call with such words; of no call that this library doesn't know."""

@@ -42,7 +42,7 @@ COPIED = (
     "lab/python",
     "lab/version.py",
     "lab/words.py",
-    "lab/wrong.py",
+    "lab/faults.py",
     "lab/networks",
     "lab/workshop",
     "lab/schedules/__init__.py",

@@ -5,6 +5,7 @@ import re
 from abc import ABC, abstractmethod
 from collections.abc import Iterator
 
+from lab.faults import Fault
 from lab.network import Network
 from lab.networks.texts import plain_text
 from lab.workshop.findings import Finding, NoAnswer, first_of, kind_of, listed
@@ -12,7 +13,6 @@ from lab.workshop.nodes import PATIENCE, Answer, Nodes
 from lab.workshop.protocol import COLOURING, fields_of, forms_of, own_data, shown
 from lab.workshop.right_rounds import RightRounds, Rounds, ask
 from lab.workshop.why import Why
-from lab.wrong import Wrong
 
 
 class ClockRun(Rounds, ABC):
@@ -262,7 +262,7 @@ class OpenRun(ClockRun):
             r"forestplan: (C[4568]) (?:vertex|vertices|line) (\d+)(?: (\d+))?", line
         )
         if status != 1 or not found:
-            raise Wrong(f"forestplan check ends with status {status}: {line}")
+            raise Fault(f"forestplan check ends with status {status}: {line}")
         code = found[1]
         v = int(found[2])
         w = found[3]

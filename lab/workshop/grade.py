@@ -8,6 +8,7 @@ import subprocess
 import sys
 import tempfile
 
+from lab.faults import Fault
 from lab.programs import TOP
 from lab.schedules.policies import POLICIES
 from lab.words import as_text, count, parser_of
@@ -19,7 +20,6 @@ from lab.workshop.right_rounds import ask
 from lab.workshop.sandbox import USERS
 from lab.workshop.submissions import EACH, POINTS, RUNS, RUNS_EACH, Part, clean, submissions_of
 from lab.workshop.visible import meets
-from lab.wrong import Wrong
 
 SECONDS = 600
 EDITION = 1
@@ -199,7 +199,7 @@ def main(words: list[str]) -> int:
     given.users = {student: USERS[at % len(USERS)] for at, student in enumerate(submissions)}
     status, _, why = ask("forestplan", "plain", "p edge 0 0\n")
     if status:
-        raise Wrong(f"forestplan plain ends with status {status}: {why}")
+        raise Fault(f"forestplan plain ends with status {status}: {why}")
     shut()
     # No program is looked for in the folder in which the command is called.
     os.environ["PATH"] = ":".join(filter(os.path.isabs, os.environ.get("PATH", "").split(":")))

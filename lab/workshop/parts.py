@@ -14,6 +14,7 @@ from multiprocessing.context import ForkProcess
 from multiprocessing.connection import Connection, wait
 
 from lab.door import held
+from lab.faults import Fault
 from lab.programs import TOP
 from lab.workshop.cases import cases_of
 from lab.workshop.compiling import compiled
@@ -25,7 +26,6 @@ from lab.workshop.report import as_json, report
 from lab.workshop.sandbox import Sandbox
 from lab.workshop.submissions import RUNS, Graded, Part, clean
 from lab.workshop.visible import on_the_path
-from lab.wrong import Wrong
 
 GRACE = 60  # seconds beside those of --seconds, in which a part ends
 # All second plays together take at most so many times the seconds of one part.
@@ -59,7 +59,7 @@ def play(part: Part, given: argparse.Namespace, room: str) -> dict[str, object]:
     options = parsed([part.assignment, *runs, *limits, "--", *command])
     try:
         found = Player(options, guard, time.monotonic() + given.seconds).played(cases_of(options))
-    except Wrong as why:
+    except Fault as why:
         return {"why": str(why)}
     return {"result": as_json(options, *found), "report": report(*found)}
 
@@ -74,7 +74,7 @@ def run(part: Part, given: argparse.Namespace, room: str, to: Connection) -> Non
         control(PARENT_DEATH_SIGNAL, signal.SIGTERM)
         to.send_bytes(json.dumps(play(part, given, room)).encode())
         status = 0
-    except (shutil.Error, OSError, Wrong) as why:
+    except (shutil.Error, OSError, Fault) as why:
         say(part, clean(str(why)))
         status = 1
     finally:

@@ -4,6 +4,7 @@ import sys
 import time
 from argparse import Namespace
 
+from lab.faults import Fault
 from lab.networks.reductions import smaller
 from lab.schedules.policies import Policy
 from lab.workshop.alpha_run import AlphaRun
@@ -15,7 +16,6 @@ from lab.workshop.guard import Guard, Limits
 from lab.workshop.nodes import Nodes
 from lab.workshop.protocol import shown
 from lab.workshop.right_rounds import RightRounds
-from lab.wrong import Wrong
 
 MOST_SHRINKS = 60
 PROGRESS_SECONDS = 10
@@ -59,7 +59,7 @@ class Player:
             with self.nodes(case) as nodes:
                 found = run.play(nodes)
         except NoAnswer as fault:  # a command can't be started
-            raise Wrong(fault.message) from None
+            raise Fault(fault.message) from None
         if isinstance(run, AlphaRun):
             found = finding_of(run)
         else:

@@ -1,10 +1,10 @@
 """The rounds of a network: by port what each node sends in each pulse, and so what comes to its neighbours in the next.
 The right ones are those of `forestplay rounds`, and of the colouring also the plan of `forestplan plain`."""
+from lab.faults import Fault
 from lab.network import Network
 from lab.networks.texts import plain_text
 from lab.programs import called
 from lab.workshop.protocol import COLOURING, SEQUELS
-from lab.wrong import Wrong
 
 
 def words_of(program: str) -> list[str]:
@@ -65,7 +65,7 @@ class RightRounds(Rounds):
     def work_out(self) -> "RightRounds":
         """Has the proved programs work the rounds out, in a process, or in two for the colouring; returns these rounds.
 
-        A network that a program refuses is `Wrong`."""
+        A network that a program refuses is `Fault`."""
         head, *lines = self.asked("forestplay", "rounds", self.program).splitlines()
         self.last = int(head.split()[-1])
         for line in lines:
@@ -86,7 +86,7 @@ class RightRounds(Rounds):
     def asked(self, name: str, command: str, program: str = COLOURING) -> str:
         status, text, why = ask(name, command, plain_text(self.network), program)
         if status:
-            raise Wrong(f"{name} {command} refuses {self.network.name}: {why}")
+            raise Fault(f"{name} {command} refuses {self.network.name}: {why}")
         return text
 
     def read(self, fields: list[str]) -> None:

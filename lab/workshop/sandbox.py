@@ -22,13 +22,13 @@ import subprocess
 from collections.abc import Iterable
 from functools import cached_property
 
+from lab.faults import Fault
 from lab.workshop import visible
 from lab.workshop.calls import filters_of_calls
 from lab.workshop.findings import NoAnswer
 from lab.workshop.guard import MEGABYTE, Guard, Limits, Start
 from lab.workshop.leftovers import Running
 from lab.workshop.memory import memory_of
-from lab.wrong import Wrong
 
 ROOM = "/tmp"
 SHARED = "/dev/shm"
@@ -172,11 +172,11 @@ class Sandbox(Guard):
                 **self.start(Limits(1, 2048, 1), self.tasks()),
             )
         except FileNotFoundError:
-            raise Wrong(
+            raise Fault(
                 f"what is submitted is graded in bubblewrap, which isn't here: `apt install bubblewrap`, or {INSTEAD}"
             ) from None
         if done.returncode:
-            raise Wrong(
+            raise Fault(
                 f"bubblewrap (0.8 or later) can't start here ({done.stderr.strip()}): {INSTEAD}"
             )
 

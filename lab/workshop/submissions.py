@@ -6,9 +6,9 @@ import stat
 from dataclasses import dataclass, field
 from typing import TypedDict
 
+from lab.faults import Fault
 from lab.schedules.policies import POLICIES
 from lab.workshop.protocol import shown
-from lab.wrong import Wrong
 
 # Of each assignment how many runs are played, and the most points. For another scale change these lines.
 RUNS = {"rounds": 100, "alpha": 120, "open": 50}
@@ -109,9 +109,9 @@ def submissions_of(folder: str) -> dict[str, list[Part]]:
     try:
         students = sorted(entry.name for entry in os.scandir(folder) if entry.is_dir())
     except OSError as why:
-        raise Wrong(f"{folder}: {why.strerror}") from None
+        raise Fault(f"{folder}: {why.strerror}") from None
     if not students:
-        raise Wrong(f"{folder} has no folder of a submission in it")
+        raise Fault(f"{folder} has no folder of a submission in it")
     return {
         name: [part_of(name, os.path.join(folder, name), assignment) for assignment in RUNS]
         for name in students
@@ -121,13 +121,13 @@ def submissions_of(folder: str) -> dict[str, list[Part]]:
 def part_of(student: str, folder: str, assignment: str) -> Part:
     try:
         if os.path.islink(folder):
-            raise Wrong("its folder is a link")
+            raise Fault("its folder is a link")
         command = command_of(folder, assignment)
         if not command:
-            raise Wrong("no program")
+            raise Fault("no program")
         check_folder(folder)
         return Part(student, folder, assignment, command)
-    except (Wrong, OSError) as why:
+    except (Fault, OSError) as why:
         return Part(student, folder, assignment, found={"why": str(why)})
 
 
@@ -138,9 +138,9 @@ def command_of(folder: str, assignment: str) -> list[str]:
     names = [name for name in sorted(os.listdir(folder)) if is_program(folder, name, assignment)]
     ways = [way for name in names if (way := way_to_run(folder, name))]
     if len(ways) > 1:
-        raise Wrong(f"{' and '.join(way[-1] for way in ways)}: which one?")
+        raise Fault(f"{' and '.join(way[-1] for way in ways)}: which one?")
     if names and not ways:
-        raise Wrong(f"{names[0]} can't be run: it has to be compiled, or `chmod +x {names[0]}`")
+        raise Fault(f"{names[0]} can't be run: it has to be compiled, or `chmod +x {names[0]}`")
     return ways[0] if ways else []
 
 
@@ -148,19 +148,19 @@ def said_command(folder: str, assignment: str) -> list[str]:
     """The command that the file `commands` says. Its words name programs, options and files of the folder itself."""
     path = os.path.join(folder, "commands")
     if os.path.islink(path):
-        raise Wrong("`commands` is a link")
+        raise Fault("`commands` is a link")
     with open(path, encoding="utf-8", errors="replace") as file:
         lines = [line.partition(":") for line in file.read(1 << 16).splitlines()]
     try:
         said = [shlex.split(words) for name, _, words in lines if name.strip() == assignment]
     except ValueError as why:
-        raise Wrong(f"`commands`: {why}") from None
+        raise Fault(f"`commands`: {why}") from None
     command = said[0] if said else []
     if "--" in command:
-        raise Wrong("`commands`: `--` stands between commands, and one is played")
+        raise Fault("`commands`: `--` stands between commands, and one is played")
     for word in command:
         if OUTSIDE.search(word.removeprefix("./")):
-            raise Wrong(f"`commands`: {clean(word)}: {OF_THE_FOLDER}")
+            raise Fault(f"`commands`: {clean(word)}: {OF_THE_FOLDER}")
     return command
 
 
@@ -185,12 +185,12 @@ def check_folder(folder: str) -> None:
         size += info.st_size
         if size > MOST_BYTES or len(paths) > MOST_FILES or depth > DEEPEST:
             most = f"{MOST_BYTES >> 20} megabytes or {MOST_FILES:,} files"
-            raise Wrong(f"its folder has more than {most}, or is too deep")
+            raise Fault(f"its folder has more than {most}, or is too deep")
         if stat.S_ISDIR(info.st_mode):
             paths += [(os.path.join(path, name), depth + 1) for name in os.listdir(path)]
         elif not stat.S_ISREG(info.st_mode) and not stat.S_ISLNK(info.st_mode):
             name = clean(os.path.basename(path))
-            raise Wrong(f"its folder has a named pipe or a device in it: {name}")
+            raise Fault(f"its folder has a named pipe or a device in it: {name}")
 
 
 def clean(words: str) -> str:

@@ -8,6 +8,7 @@ import sys
 import tempfile
 from argparse import Namespace
 
+from lab.faults import Fault
 from lab.networks.texts import plain_text
 from lab.programs import TOP
 from lab.workshop import class_files, grade
@@ -17,7 +18,6 @@ from lab.workshop.options import parsed
 from lab.workshop.playing import Player
 from lab.workshop.report import as_json, described, report
 from lab.workshop.right_rounds import words_of
-from lab.wrong import Wrong
 
 OTHERS = {"grade": grade.main, "class": class_files.main}
 DOOR = os.path.join(TOP, "bin")
@@ -43,7 +43,7 @@ def main(words: list[str]) -> int:
         cases = cases_of(options)
     try:
         return other(words[1:]) if other else run(options, cases)
-    except (Wrong, OSError) as why:
+    except (Fault, OSError) as why:
         print(f"workshop: {why}", file=sys.stderr)
         return 2
 

@@ -7,7 +7,7 @@ from itertools import product
 from lab.definitions.colours import plan_text
 from lab.networks.network_text import network_of
 from lab.transcripts.check import whole_run
-from lab.transcripts.reading import Wrong
+from lab.transcripts.reading import WrongEntry
 from tests.cases import Case, example, text
 from tests.commands import EDGE
 from tests.commands import TRIANGLE as THREE
@@ -37,7 +37,7 @@ def is_right(command, answer, data=TRIANGLE):
         return output == plan_text(network_of(data))
     try:
         return whole_run(network_of(data), output)[1].startswith("whole run")
-    except Wrong:
+    except WrongEntry:
         return False
 
 

@@ -25,7 +25,7 @@ SEVERAL = {
     ),
     **dict.fromkeys(
         (
-            "Message Node Player Pulse Sites Wrong about among as_json begin below box_of called "
+            "Message Node Player Pulse Sites about among as_json begin below box_of called "
             "checked circle code_of command_of decoded edges_of end head_of in_order is_below "
             "is_own items judge limited loaded made make moved near_order network_of "
             "numbered of_nodes pairs_of place_of places_of plan plan_of plan_text played "

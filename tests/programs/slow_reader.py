@@ -3,9 +3,9 @@ by the definitions. An answer is (status, standard output, standard error)."""
 import re
 
 from lab.definitions.colours import forests_text
+from lab.faults import Fault
 from lab.networks.network_text import read_network
 from lab.networks.plan_text import clashes, read_plan
-from lab.wrong import Wrong
 from tests.cases import found_in
 
 # Only a line feed ends a line, only spaces and tabs separate fields, and one carriage return at the end of a line is no
@@ -13,14 +13,14 @@ from tests.cases import found_in
 PLAN_LINE = re.compile(rb"^[ \t]*plan(?=[ \t]|\r?$)", re.M)
 
 
-class Fault(Exception):
+class Refusal(Exception):
     """A fault of the input, in the words that the program prints after its name."""
 
 
 def answer_to(command, data):
     try:
         return 0, ANSWERS[command](data), b""
-    except Fault as fault:
+    except Refusal as fault:
         return 1, b"", f"forestplan: {fault}\n".encode()
 
 
@@ -28,13 +28,13 @@ def read_by(reader, data, *more):
     """What a reader makes of a text; its fault as the programs print it, without the words."""
     try:
         return reader(data.decode("utf-8", "replace"), "it", *more)
-    except Wrong as why:
+    except Fault as why:
         said = found_in(r"^it(?: line (\d+))?: (.*) \((\w+)\)", str(why))
         line, words, code = said.groups()
     vertices = re.match(r"(vert\w+) (\d+)(?: and (\d+))?", words)
     if vertices and code[0] in "CN":
-        raise Fault(" ".join(filter(None, (code, *vertices.groups()))))
-    raise Fault(f"{code} line {line}" if line else code)
+        raise Refusal(" ".join(filter(None, (code, *vertices.groups()))))
+    raise Refusal(f"{code} line {line}" if line else code)
 
 
 def forests(data):
@@ -47,7 +47,7 @@ def check(data):
     network = read_by(read_network, data[:begin])
     plan = read_by(read_plan, data[begin:], network)
     for edge in clashes(network, plan):
-        raise Fault("C4 vertices %d %d" % edge)
+        raise Refusal("C4 vertices %d %d" % edge)
     return f"proper {max(plan.values(), default=0)}\n".encode()
 
 

@@ -15,6 +15,7 @@ from typing import get_args
 from unittest import mock
 
 from lab.definitions.programs import program_at
+from lab.faults import Fault
 from lab.networks.network_text import read_network
 from lab.pictures.page_data import Net, as_object
 from lab.schedules.policies import POLICIES
@@ -26,7 +27,6 @@ from lab.studio.answers import PictureKind, TabName, Values
 from lab.studio.dares import DARES
 from lab.studio.links import judge, judged_link
 from lab.studio.networks import opened_by
-from lab.wrong import Wrong
 from tests import FORESTLAB, TOP
 from tests.cases import Case, called, example, found_in, said_by, text_in, written_by
 from tests.tools import need
@@ -279,7 +279,7 @@ class Addresses(Case):
                 try:
                     opened_by(place).address.refuse()
                     found = ""
-                except Wrong as why:
+                except Fault as why:
                     found = str(why)
                 self.assertTrue(said in found and (said or not found), found)
                 self.assertLess(len(found), 2000)
@@ -400,5 +400,5 @@ class Links(Case):
             ("#dare=apart", "it has no network"),
             (f"#{TWO}&dare=apart&steps=1", "step 1 of the list, 1, isn't possible there"),
         ):
-            with self.subTest(link), self.assertRaisesRegex(Wrong, re.escape(said)):
+            with self.subTest(link), self.assertRaisesRegex(Fault, re.escape(said)):
                 judged_link(link)

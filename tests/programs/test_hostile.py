@@ -16,7 +16,7 @@ from lab.networks.network_text import network_of
 from lab.schedules.simulate import played, text_of_run
 from lab.transcripts import fields
 from lab.transcripts.check import whole_run
-from lab.transcripts.reading import Wrong, read
+from lab.transcripts.reading import WrongEntry, read
 from tests.cases import Case
 from tests.faults.test_refused_memory import build_front
 from tests.programs.test_plain_networks import networks_by_chance
@@ -137,7 +137,7 @@ def refusal_of(net, data, program):
     try:
         read(data, program.name)
         whole_run(net, data, program)
-    except Wrong as wrong:
+    except WrongEntry as wrong:
         return wrong.code, wrong.line
 
 

@@ -6,7 +6,7 @@ import shutil
 from build.crate_lists import lines_of
 from build.kit import PARTS
 from build.new_program import MODEL, SEQUEL, copy
-from lab.wrong import Wrong
+from lab.faults import Fault
 from tests import TOP
 from tests.cases import Case, text_in
 
@@ -40,5 +40,5 @@ class NewProgram(Case):
 
     def test_names(self):
         for name in ("Echoes", "a-b", "colouring", "x" * 21, ""):
-            with self.subTest(name), self.assertRaisesRegex(Wrong, f"^{name}: "):
+            with self.subTest(name), self.assertRaisesRegex(Fault, f"^{name}: "):
                 copy(name, self.folder)

@@ -1,8 +1,8 @@
 """Which payloads a transcript of each program may have: the words of docs/claim/FORMATS.md (the table of results and
 words), each with a number below a power of two, as wide as the crates' own payloads have it (`Hello(u128)`,
 `Hops(u32)` and so on). tests/programs/test_hostile.py has the same beside a built program."""
+from lab.faults import Fault
 from lab.transcripts.reading import read
-from lab.wrong import Wrong
 from tests.cases import Case
 
 # By word, how many binary digits a number may have; and the words of each program.
@@ -24,7 +24,7 @@ def is_read(program: str, line: str) -> bool:
     """Whether a line is an entry of a transcript of a program."""
     try:
         _, entries = read(f"transcript 1 2\n{line}\n".encode(), program)
-    except Wrong:
+    except Fault:
         return False
     return len(entries) == 1
 

@@ -1,7 +1,7 @@
 """Tests of the files of programs of one's own that Python itself can't read, or not in a time that anyone has: each is
 refused in one line. tests/programs/test_own_algorithms.py has what such a program may do."""
 from lab.definitions.own_program import code_of
-from lab.wrong import Wrong
+from lab.faults import Fault
 from tests.cases import Case
 
 MARK = "\u0300"
@@ -20,7 +20,7 @@ class ProgramFiles(Case):
     def test_refused(self) -> None:
         for text, said in REFUSED:
             path = self.file("own.py", text)
-            with self.subTest(text[:20]), self.assertRaises(Wrong) as found:
+            with self.subTest(text[:20]), self.assertRaises(Fault) as found:
                 code_of(path)
             self.note(f"{text[:20]!r} says why", said in str(found.exception), found.exception)
 

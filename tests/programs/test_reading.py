@@ -2,10 +2,10 @@
 guessed. test_written.py has files of other programs."""
 from unittest import mock
 
+from lab.faults import Fault
 from lab.networks import foreign
 from lab.networks.reading import listed_of, made_of
 from lab.networks.forms import Stated
-from lab.wrong import Wrong
 from tests.cases import Case
 
 
@@ -210,7 +210,7 @@ class Reading(Case):
 
     def test_refused(self):
         for form, text, said in self.readable(REFUSED):
-            with self.subTest(f"{form} {text[:80]!r}"), self.assertRaises(Wrong) as found:
+            with self.subTest(f"{form} {text[:80]!r}"), self.assertRaises(Fault) as found:
                 read(text, form)
             self.note(
                 f"{form} {text[:80]!r} says why", said in str(found.exception), found.exception
@@ -219,7 +219,7 @@ class Reading(Case):
     def test_halves_of_letters(self):
         """What an encoding makes of half a pair of UTF-16 is no letter, and is refused as no text of that encoding."""
         for form, text, encoding in self.readable(HALVES):
-            with self.assertRaisesRegex(Wrong, f"net line 1: it isn't in {encoding.upper()}"):
+            with self.assertRaisesRegex(Fault, f"net line 1: it isn't in {encoding.upper()}"):
                 read(text, form, encoding=encoding)
 
     def test_long_names(self):
@@ -266,5 +266,5 @@ class Reading(Case):
 
     @mock.patch.object(foreign, "networkx", lambda: None)
     def test_without_networkx(self):
-        with self.assertRaisesRegex(Wrong, "python3-networkx"):
+        with self.assertRaisesRegex(Fault, "python3-networkx"):
             read("graph [ ]", "gml")

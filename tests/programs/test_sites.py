@@ -5,10 +5,10 @@ import math
 import random
 import re
 
+from lab.faults import Fault
 from lab.networks import tables
 from lab.networks.network_text import MAX_NODES, network_of
 from lab.networks.forms import Stated
-from lab.wrong import Wrong
 from tests.cases import Case, called, example, said_by
 from tests.programs.test_own_networks import call, edges_of
 from tests.settings import PLAN
@@ -136,7 +136,7 @@ class Sites(Case):
     def test_the_most_sites(self):
         """As many as a network has nodes are read, and the first one above is refused by its line."""
         sites = [f"s{number}" for number in range(1, MAX_NODES + 2)]
-        with self.assertRaisesRegex(Wrong, f"t line {MAX_NODES + 2}: more than {MAX_NODES} sites"):
+        with self.assertRaisesRegex(Fault, f"t line {MAX_NODES + 2}: more than {MAX_NODES} sites"):
             tables.Sites("t", Stated()).read("\n".join(["site", *sites]))
         found = tables.Sites("t", Stated()).read("\n".join(["site", *sites[:-1]]))
         self.assertEqual(list(found.lines), sites[:-1])

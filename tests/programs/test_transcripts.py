@@ -15,7 +15,7 @@ from lab.definitions.nodes import COLOURING
 from lab.networks.network_text import network_of
 from lab.schedules.simulate import played, text_of_run
 from lab.transcripts.check import find_order, whole_run
-from lab.transcripts.reading import Wrong, read
+from lab.transcripts.reading import WrongEntry, read
 from tests import FORESTLAB, TOP
 from tests.cases import Case, called, forestlab, text, text_in, wait_until
 from tests.programs.made_transcripts import transcript_text
@@ -82,7 +82,7 @@ def said_of(net, data, program=COLOURING):
     """The verdict, or the refusal's line and code, and what it says in words."""
     try:
         return whole_run(net, data, program)[1], ""
-    except Wrong as wrong:
+    except WrongEntry as wrong:
         line, code, words = wrong.line, wrong.code, wrong.what
         return f"line {line}: {code}", words
 

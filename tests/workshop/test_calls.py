@@ -8,9 +8,9 @@ import operator
 import struct
 from unittest import mock
 
+from lab.faults import Fault
 from lab.workshop import calls, grade
 from lab.workshop.calls import filters_of_calls
-from lab.wrong import Wrong
 from tests.cases import Case
 from tests.tools import need
 from tests.workshop.submitted import ZERO
@@ -202,12 +202,12 @@ class Calls(Case):
             mock.patch.object(grade, "shut", lambda: None),
             mock.patch.object(grade, "grade", mock.Mock(side_effect=AssertionError)),
             mock.patch.dict("os.environ", TMPDIR=self.folder),
-            self.assertRaises(Wrong) as why,
+            self.assertRaises(Fault) as why,
         ):
             grade.main([f"{self.folder}/submissions"])
         self.assertRegex(str(why.exception), "libseccomp isn't here: `apt install libseccomp2`")
         self.same("lines", len(str(why.exception).splitlines()), 1)
 
     def test_a_library_that_fails(self) -> None:
-        with self.assertRaisesRegex(Wrong, "can't write the list of calls: Invalid argument"):
+        with self.assertRaisesRegex(Fault, "can't write the list of calls: Invalid argument"):
             calls.Filter(mock.Mock(), 0, "").check(-errno.EINVAL)

@@ -11,9 +11,9 @@ import shutil
 import subprocess
 from unittest import mock
 
+from lab.faults import Fault
 from lab.schedules.policies import POLICIES
 from lab.workshop import grade, parts, submissions
-from lab.wrong import Wrong
 from tests.cases import Case, text_in, tool_at, wait_until
 from tests.tools import need, needs
 from tests.workshop.base import DOOR, LIMIT, call
@@ -214,7 +214,7 @@ class Grades(Submitted):
         self.submit("anna", open_node_py=ZERO)
         with mock.patch.object(grade, "ask", lambda *_: (1, "", "it isn't there")):
             with self.assertRaisesRegex(
-                Wrong, "forestplan plain ends with status 1: it isn't there"
+                Fault, "forestplan plain ends with status 1: it isn't there"
             ):
                 grade.main([self.subs])
 

@@ -8,13 +8,13 @@ import socket
 import subprocess
 from unittest import mock
 
+from lab.faults import Fault
 from lab.workshop.compiling import compiled, unpack
 from lab.workshop.findings import NoAnswer
 from lab.workshop.guard import OPEN_FILES, Limits
 from lab.workshop.leftovers import end_all, shut
 from lab.workshop.processes import Process
 from lab.workshop.sandbox import Sandbox
-from lab.wrong import Wrong
 from tests.cases import remove, wait_until
 from tests.tools import need
 from tests.workshop.base import JAVA, LIMIT
@@ -262,7 +262,7 @@ class Sandboxed(Contained):
         """One sentence, which says what to do. Where it isn't installed: test_grade.py."""
         guard, _ = self.guards()
         guard.words_before += ["--no-such-word"]
-        with self.assertRaises(Wrong) as why:
+        with self.assertRaises(Fault) as why:
             guard.try_out()
         self.assertRegex(
             str(why.exception), "can't start here .*no-such-word.*docker run --privileged"
