@@ -12,6 +12,7 @@ class Kind(Enum):
     """The kinds of events, each with its word."""
 
     PULSE = "pulse"
+    ACT = "act"
     PUT = "put"
     TAKE = "take"
 
@@ -21,6 +22,7 @@ class Kind(Enum):
 
 # Before Python 3.12 `Kind.PUT` is looked up slowly, so what is called for each event uses these names.
 PULSE = Kind.PULSE
+ACT = Kind.ACT
 PUT = Kind.PUT
 TAKE = Kind.TAKE
 
@@ -54,9 +56,9 @@ def safe(pulse: int) -> Message:
 
 @dataclass(frozen=True, slots=True)
 class Event:
-    """What the node `node` does: it makes its next pulse, and then `port` is None; or it puts a message on its link by
-    a port, or takes one from there. `message` is that message, where it is said. A take may overtake `place` messages,
-    if links don't keep their order."""
+    """What the node `node` does: it makes its next pulse, or another step of its own (`act`), and then `port` is None;
+    or it puts a message on its link by a port, or takes one from there. `message` is that message, where it is said. A
+    take may overtake `place` messages, if links don't keep their order."""
 
     kind: Kind
     node: int
@@ -73,9 +75,9 @@ class Event:
 
 @dataclass(frozen=True, slots=True)
 class Entry:
-    """What a transcript says of an event, in one line: `what` is the number of the pulse, or the message that is put or
-    taken, and `neighbour` the node at the other end of its link; a pulse has none. Edition 1 has no `stamp`, until an
-    order is found."""
+    """What a transcript says of an event, in one line: `what` is the number of the node's own step, or the message that
+    is put or taken, and `neighbour` the node at the other end of its link; a step of its own has none. Edition 1 has no
+    `stamp`, until an order is found."""
 
     line: int
     node: int

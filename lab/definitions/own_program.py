@@ -56,22 +56,41 @@ MOST_BYTES = 1 << 20
 MOST_MARKS = 30
 
 
-def own_program(path: str, lots: str = "1") -> Program:
-    """The program of a file; `lots` is the seed of `me.random`."""
+def file_at(path: str, lots: str = "1") -> ProgramFile:
+    """The file of a program of one's own; `lots` is the seed of `me.random`."""
     code = code_of(path)
-    found = loaded(path, code)
-    functions = {name: value for name, value in found.items() if callable(value)}
-    missing = [
-        " or ".join(names) for names in NEEDED if not any(name in functions for name in names)
-    ]
-    missing += [name for name in MAY_BE if name in found and name not in functions]
-    if missing:
-        raise Fault(f"{path} has no function {' and no function '.join(missing)}")
-    file = ProgramFile(path, functions, code, lots)
-    name = os.path.splitext(os.path.basename(path))[0]
+    values = loaded(path, code)
+    functions = {name: value for name, value in values.items() if callable(value)}
+    return ProgramFile(path, functions, code, lots, frozenset(values) - frozenset(functions))
+
+
+def own_program(file: ProgramFile) -> Program:
+    """The program by rounds of a file."""
+    check_functions(file, NEEDED, MAY_BE)
     return Program(
-        name, partial(OwnNode, file=file), partial(OwnNode.last_pulse, file=file), file=file
+        program_name(file),
+        partial(OwnNode, file=file),
+        partial(OwnNode.last_pulse, file=file),
+        file=file,
     )
+
+
+def check_functions(
+    file: ProgramFile, needed: Iterable[tuple[str, ...]], may_be: Iterable[str]
+) -> None:
+    """Refuses a file that lacks a function, or whose value of that name is none."""
+    functions = file.functions
+    missing = [
+        " or ".join(names) for names in needed if not any(name in functions for name in names)
+    ]
+    missing += [name for name in may_be if name in file.others]
+    if missing:
+        raise Fault(f"{file.path} has no function {' and no function '.join(missing)}")
+
+
+def program_name(file: ProgramFile) -> str:
+    """What the program of a file is called."""
+    return os.path.splitext(os.path.basename(file.path))[0]
 
 
 def code_of(path: str) -> CodeType:
@@ -111,6 +130,10 @@ class TooLong(BaseException):
     """A call that doesn't end. The file's own handlers of exceptions don't catch it."""
 
 
+class Misuse(BaseException):
+    """What a file may not do with `me`. Its own handlers of exceptions don't catch it."""
+
+
 def end_call(*_: object) -> None:
     raise TooLong(f"it hasn't ended after {LONGEST} seconds")
 
@@ -139,13 +162,13 @@ def call(path: str, where: str, function: Callable[..., Returned], *values: obje
     try:
         with contextlib.redirect_stdout(sys.stderr), limited():
             return function(*values)
-    except (Exception, SystemExit, TooLong) as why:
+    except (Exception, SystemExit, TooLong, Misuse) as why:
         lines = [
             frame.lineno
             for frame in traceback.extract_tb(why.__traceback__)
             if frame.filename == path
         ]
-        kind = "" if isinstance(why, TooLong) else type(why).__name__
+        kind = "" if isinstance(why, (TooLong, Misuse)) else type(why).__name__
         said = ": ".join(filter(None, [kind, str(why)])) + (f", in {where}" if where else "")
         raise (
             wrong_line(path, lines[-1] or 1, said) if lines else Fault(f"{path}: {said}")
@@ -184,11 +207,8 @@ class LoadedFile:
         self.path = file.path
         self.values = loaded(file.path, file.code)
         self.variables = variables_of(self.values)
-        self.greeting = self.needed("greet")
-        self.stepping = self.needed("step", "next")
         self.finding = self.needed("result")
         self.drawing = self.function("drawn")
-        self.stepping_name = "step" if self.function("step") else "next"
 
     def function(self, *names: str) -> Callable[..., object] | None:
         """The function of the first of these names that the file has."""
@@ -213,22 +233,37 @@ class LoadedFile:
         return LoadedFile, ()
 
 
+class RoundsFile(LoadedFile):
+    """The file of a program by rounds."""
+
+    def __init__(self, file: ProgramFile) -> None:
+        super().__init__(file)
+        self.greeting = self.needed("greet")
+        self.stepping = self.needed("step", "next")
+        self.stepping_name = "step" if self.function("step") else "next"
+
+
+def known(net: Network, v: int, seed: str) -> dict[str, object]:
+    """What a node of a file knows of itself and of the network."""
+    return {
+        "id": net.identifiers[v],
+        "degree": len(net.neighbours[v]),
+        "nodes": net.nodes,
+        "greatest_degree": net.greatest_degree,
+        "forests": net.forest_count,
+        "greatest_bars": net.greatest_bars,
+        "barred": tuple(colour + 1 for colour in sorted(net.barred[v])),
+        "_lots": f"{seed} {net.identifiers[v]}",
+    }
+
+
 class OwnNode:
     """A node of such a program: `me` is what the file's functions keep and change."""
 
     def __init__(self, net: Network, v: int, file: ProgramFile) -> None:
-        self.of_file = LoadedFile(file)
+        self.of_file = RoundsFile(file)
         self.last = self.last_pulse(net, file)
-        self.me = Me(
-            id=net.identifiers[v],
-            degree=len(net.neighbours[v]),
-            nodes=net.nodes,
-            greatest_degree=net.greatest_degree,
-            forests=net.forest_count,
-            greatest_bars=net.greatest_bars,
-            barred=tuple(colour + 1 for colour in sorted(net.barred[v])),
-            _lots=f"{file.seed} {net.identifiers[v]}",
-        )
+        self.me = Me(**known(net, v, file.seed))
         self.id: int = net.identifiers[v]
         self.degree = len(net.neighbours[v])
 
@@ -278,12 +313,7 @@ class OwnNode:
         return slots
 
     def result(self) -> str:
-        path = self.of_file.path
-        where = f"`result` of the node of identifier {self.id}"
-        words = call(path, where, self.of_file.finding, self.me)
-        if not isinstance(words, str) or "\n" in words:
-            raise Fault(f"{path}: `result` returns {words!r}: it must be words on one line")
-        return words
+        return found_by(self.of_file, self.me, self.id)
 
     def drawn(self) -> tuple[int | None, int | None]:
         """Colour and port for pictures, if the file says them."""
@@ -300,6 +330,14 @@ class OwnNode:
             f"{path}: `drawn` returns {pair!r} at the node of identifier {self.id}: it must be a "
             f"pair, a colour below {COLOURS} or None, and a port or None"
         )
+
+
+def found_by(file: LoadedFile, me: Me, identifier: int) -> str:
+    """What a node of a file has found so far, in words."""
+    words = call(file.path, f"`result` of the node of identifier {identifier}", file.finding, me)
+    if not isinstance(words, str) or "\n" in words:
+        raise Fault(f"{file.path}: `result` returns {words!r}: it must be words on one line")
+    return words
 
 
 def takes(function: object, count: int) -> bool:
@@ -395,12 +433,22 @@ def kept_by(node: OwnNode) -> Hashable:
         return None
 
 
+# A message under way: sender and receiver by identifier, and what the file knows of it.
+UnderWay = tuple[int, int, tuple[int | str, ...]]
+
+
+def placed_among(message: UnderWay) -> tuple[int, int, list[tuple[bool, int | str]]]:
+    """What messages are sorted by. Numbers and words can't be compared, so numbers come first."""
+    v, w, fields = message
+    return v, w, [(isinstance(field, str), field) for field in fields]
+
+
 def what_is_wrong(
     net: Network,
     file: ProgramFile | None,
     found: dict[int, str],
     function: str = "right",
-    messages: Iterable[tuple[int, int, tuple[int | str, ...]]] = (),
+    messages: Iterable[UnderWay] = (),
 ) -> str:
     """What the `right` or `always` of a program's file says of what nodes have found, in words; nothing if that is
     right, or if there is no such function."""

@@ -51,12 +51,14 @@ class DrawnNode(Protocol):
 @dataclass(frozen=True, eq=False)
 class ProgramFile:
     """The file of a program of one's own: its path; its `functions` by name, as they are after it is run; its `code`,
-    which is run again for each node; and the `seed` of its nodes' chance."""
+    which is run again for each node; the `seed` of its nodes' chance; and the names of all `others` that it defines.
+    """
 
     path: str
     functions: Mapping[str, Callable[..., object]]
     code: CodeType
     seed: str
+    others: frozenset[str] = frozenset()
 
 
 @dataclass(frozen=True)

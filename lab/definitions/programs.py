@@ -10,8 +10,9 @@ from lab.definitions.layers import layers
 from lab.definitions.leader import LEADER
 from lab.definitions.matching import MATCHING
 from lab.definitions.nodes import COLOURING
-from lab.definitions.own_program import own_program
+from lab.definitions.own_program import file_at, own_program
 from lab.definitions.program import Program
+from lab.definitions.reacting import AnyProgram, Reacting, reacting_program, reacts, words_taken
 from lab.definitions.recolouring import recolouring
 from lab.faults import Fault
 from lab.network import Network
@@ -29,12 +30,28 @@ OPTIONS: dict[str, tuple[str, Callable[[int], Program]]] = {
 }
 # How often recolouring may choose anew.
 MAX_PASSES = 64
+# What takes a file whose nodes react to messages, too.
+TAKE_BOTH = "only `explore` takes such a file"
 HELP = f"what the nodes run: {', '.join(PROGRAMS)}, or a file of your own, as NAME.py; default: colouring"
 
 
 def program_at(name: str, lots: str = "1", **options: int | None) -> Program:
-    """The program of a name, or of a file whose name ends in `.py`; `lots` is the seed of its nodes' chance, `root` the
-    vertex that is the root of the layers, `passes` how often recolouring chooses anew."""
+    """The program by rounds of a name, or of a file whose name ends in `.py`; `lots` is the seed of its nodes' chance,
+    `root` the vertex that is the root of the layers, `passes` how often recolouring chooses anew.
+    """
+    return by_rounds(any_program_at(name, lots, **options))
+
+
+def by_rounds(program: AnyProgram) -> Program:
+    """A program, if its nodes make rounds."""
+    if isinstance(program, Reacting):
+        path, word = program.file.path, words_taken(program.file)[0]
+        raise Fault(f"{path} has a function `on_{word}`, so its nodes make no rounds: {TAKE_BOTH}")
+    return program
+
+
+def any_program_at(name: str, lots: str = "1", **options: int | None) -> AnyProgram:
+    """The same, or a program of nodes that react to messages, from a file."""
     given = {option: value for option, value in options.items() if value is not None}
     for option in given:
         of, _ = OPTIONS[option]
@@ -47,7 +64,8 @@ def program_at(name: str, lots: str = "1", **options: int | None) -> Program:
     if name in PROGRAMS:
         return PROGRAMS[name]
     if name.endswith(".py"):
-        return own_program(name, lots)
+        file = file_at(name, lots)
+        return reacting_program(file) if reacts(file) else own_program(file)
     raise Fault(
         f"there is no program {name}: there are {', '.join(PROGRAMS)}, and a file of your own, as {name}.py"
         if os.sep not in name
@@ -68,12 +86,19 @@ def program_words(program: Program) -> list[str]:
 
 
 def program_asked(command: str, given: Namespace, network: Network | None = None) -> Program:
-    """The program of a command line, which may lack options. A root that is no node of the network is refused, and if
-    the program ignores the network's bars, that is said on standard error."""
+    """The program by rounds of a command line, which may lack options. A root that is no node of the network is
+    refused, and if the program ignores the network's bars, that is said on standard error."""
+    return by_rounds(any_program_asked(command, given, network))
+
+
+def any_program_asked(command: str, given: Namespace, network: Network | None = None) -> AnyProgram:
+    """The same, or a program of nodes that react to messages."""
     options = {option: getattr(given, option, None) for option in OPTIONS}
-    program = program_at(
+    program = any_program_at(
         getattr(given, "program", COLOURING.name), getattr(given, "lots", "1"), **options
     )
+    if isinstance(program, Reacting):
+        return program
     if network and options["root"] not in (None, *network.vertices):
         raise Fault(
             f"there is no node {program.root} that could be the root: the network has {network.nodes}"

@@ -23,10 +23,11 @@ from typing import NamedTuple
 
 from lab.definitions.events import Message
 from lab.definitions.nodes import COLOURING, Colouring
+from lab.definitions.own_program import UnderWay
 from lab.definitions.program import Program
 from lab.network import Network
 from lab.schedules.ruled_node import Rounds, RuledNode
-from lab.schedules.space import REFUSED, Move, Progress, Space, State, UnderWay
+from lab.schedules.space import REFUSED, Move, Progress, Space, State
 
 
 class Status(NamedTuple):

@@ -5,26 +5,32 @@ import argparse
 import json
 import sys
 from collections import Counter
-from collections.abc import Collection, Iterator
+from collections.abc import Collection, Iterable, Iterator
 from functools import partial
 from typing import NamedTuple
 
 from lab.definitions.events import Event, Kind
 from lab.definitions.own_program import AGAIN, OwnNode, check_repeats, has_verdict, wrong_end
-from lab.definitions.program import Program
-from lab.definitions.programs import add_program, program_asked
+from lab.definitions.program import Program, RoundsNode
+from lab.definitions.programs import add_program, any_program_asked, program_asked
+from lab.definitions.reacting import Reacting, ReactingNode, check_reactions
 from lab.faults import Fault
 from lab.network import Network
 from lab.networks.sources import network_at
+from lab.schedules import reacting_words
 from lab.schedules.alpha_space import AlphaSpace, Status
 from lab.schedules.own_rounds import verdict_of, verdict_on_many
+from lab.schedules.reacting_runs import Runs
+from lab.schedules.reacting_space import ReactingSpace
 from lab.schedules.ruled_rounds import looked_at
 from lab.schedules.rules import ALL, OF_SCHEDULES, program_of, table, unknown_to
+from lab.schedules.space import AnySearched, Space
 from lab.words import add_output, add_seed, as_text, count, counted, parser_of, write
 
 MOST_NODES, LIMIT, BYTES_A_STATE = 4, 1_000_000, 420
 # The most networks by chance.
 MOST_NETWORKS = 10_000
+MOST_RUNS = 100_000
 # What is said after the rounds of a network that is too large for all schedules.
 ROUNDS_ALONE = f"""the rounds alone: every schedule is played of at most {MOST_NODES} nodes; in each of them
 a node finds what it finds in the rounds, if the file keeps everything in `me`
@@ -42,6 +48,13 @@ Of a file of your own whose `right` says that the rounds already end wrong, it w
 these rounds, pulse by pulse, and of a larger network how the rounds end. With
 --networks it plays the rounds on random networks, and writes a smallest one on
 which they end wrong.
+
+A file with a function `on_WORD` has nodes that react to each message, without rounds
+and without a synchroniser. Of such a file it plays every schedule of any network that
+has few enough states. It writes how many messages a schedule has, at least and at most,
+what the nodes have found at each end, whether some schedules never end, and a shortest
+list of events after which `right` or `always` isn't true, or a function of the file
+fails. With --runs it plays random runs of a larger network instead.
 
 With --without it leaves rules out, and writes a list of events that goes wrong, with
 as few takes and pulses as there can be, or `not broken`. For a rule of the rounds it
@@ -74,6 +87,8 @@ Examples:
       forestplay events
   forestlab explore --without digit
   forestlab explore --program mine.py --networks 100 --seed 3
+  forestlab explore triangle --program examples/algorithms/exclusion.py
+  forestlab explore petersen --program examples/algorithms/echo.py --runs 100
 
 Status: 0 nothing goes wrong, 1 something does, or it can't be searched (one line on
 standard error says why), 2 the command line is refused.
@@ -135,7 +150,13 @@ def command_line() -> ArgumentParser:
     words.add_argument(
         "--connected", action="store_true", help="of --networks, connected networks alone"
     )
-    add_seed(words, "the networks of --networks come from it")
+    words.add_argument(
+        "--runs",
+        type=partial(count, most=MOST_RUNS),
+        metavar="N",
+        help="play N runs, and not every schedule, of a file whose nodes react to messages",
+    )
+    add_seed(words, "the networks of --networks and the runs of --runs come from it")
     add_program(words)
     add_output(words)
     return words
@@ -231,7 +252,13 @@ def networks_found(given: Namespace) -> Found:
 
 def schedules_found(given: Namespace) -> Found:
     net = network_at(given.network)
-    program = program_asked("explore", given, net)
+    program = any_program_asked("explore", given, net)
+    if isinstance(program, Reacting):
+        return reacting_found(given, net, program)
+    if given.runs:
+        raise Fault(
+            f"--runs is for a file whose nodes react to messages, and {given.program} has rounds"
+        )
     check_repeats(net, program)
     if (found := found_by_rounds(given, net, program)) is not None:
         return found
@@ -241,7 +268,8 @@ def schedules_found(given: Namespace) -> Found:
             f"{net.name} has {net.nodes} nodes, and every schedule is played of at most {MOST_NODES}"
             + (asks if program.file is not None else "")
         )
-    space = searched(given, net, program)
+    space = AlphaSpace(net, given.without, given.limit, given.reduce, program)
+    search(given, space)
     events = space.with_puts(space.path_to_fault() if space.faults else space.path(space.ends[0]))
     if given.list:
         text = as_text(events)
@@ -264,7 +292,46 @@ def found_by_rounds(given: Namespace, net: Network, program: Program) -> Found |
     return Found(not is_right, words + (ROUNDS_ALONE if is_large else ""))
 
 
-def searched(given: Namespace, net: Network, program: Program) -> AlphaSpace:
+def reacting_found(given: Namespace, net: Network, program: Reacting) -> Found:
+    """What is found of nodes that react to messages: there are no rounds to compare them with."""
+    if set(given.without) - {"fifo"}:
+        raise Fault(f"{given.program} has no synchroniser: of its rules only fifo can be left out")
+    if given.reduce:
+        raise Fault(f"--reduce is for nodes under the synchroniser, and {given.program} has none")
+    check_reactions(net, program)
+    if given.runs:
+        return runs_found(given, Runs(net, program, given.runs, given.seed).play())
+    space = ReactingSpace(net, program, given.without, given.limit)
+    search(given, space)
+    if space.faults:
+        events = space.with_puts(space.path_to_fault())
+        what = space.faults[space.first_fault()]
+        lines = [f"broken after {events_words(events, own_step(program))}: {what}"]
+        lines += reacting_words.lines_of_list(net, program, events)
+    else:
+        events = space.with_puts(space.path(space.ends[0])) if space.ends else []
+        lines = list(reacting_words.whole_words(space, rounded))
+        lines += draws_words(given, [node for own in space.locals for node in own])
+    listed = list(map(str, events))
+    text = as_text(listed if given.list else lines)
+    return Found(bool(space.faults), text, listed, space.count, len(space.target))
+
+
+def runs_found(given: Namespace, runs: Runs) -> Found:
+    """What is found in runs by a seed."""
+    lines = list(reacting_words.runs_words(runs))
+    if runs.wrong:
+        fewest = ", maybe not the fewest" if runs.events else ""
+        lines = [
+            f"broken in {runs.wrong_count:,} of {counted(runs.count, 'run')}; in a shortest of these after "
+            f"{events_words(runs.events, own_step(runs.program))}{fewest}: {runs.wrong}",
+            *reacting_words.lines_of_list(runs.net, runs.program, runs.events),
+        ]
+    listed = list(map(str, runs.events))
+    return Found(bool(runs.wrong), as_text(listed if given.list else lines), listed)
+
+
+def search(given: Namespace, space: Space[AnySearched]) -> None:
     """The search, with a line of progress if somebody looks on."""
     show = sys.stderr.isatty()
     if show:
@@ -279,19 +346,19 @@ def searched(given: Namespace, net: Network, program: Program) -> AlphaSpace:
         sys.stderr.flush()
 
     try:
-        space = AlphaSpace(net, given.without, given.limit, given.reduce, program)
         space.search(progress if show else None)
     finally:
         if show:
             sys.stderr.write("\r\033[K")
     if space.is_cut:
         can_reduce = not given.reduce and not set(given.without) & {"safes", "fifo"}
+        instead = "--reduce leaves most of them out, " if can_reduce else ""
+        if not isinstance(space, AlphaSpace):
+            instead = "--runs 100 plays a hundred runs instead, and "
         raise Fault(
-            f"there are more than {given.limit:,} states: "
-            + ("--reduce leaves most of them out, " if can_reduce else "")
-            + f"--limit allows more, at some {BYTES_A_STATE} bytes each"
+            f"there are more than {given.limit:,} states: {instead}--limit allows more, at some {BYTES_A_STATE} bytes "
+            "each"
         )
-    return space
 
 
 def whole_text(given: Namespace, name: str, space: AlphaSpace) -> str:
@@ -319,15 +386,22 @@ def whole_text(given: Namespace, name: str, space: AlphaSpace) -> str:
             "each pulse had the round's inbox, and something was possible until all was done",
             REDUCED if space.reduce else distances,
             f"{ends}: {' or '.join(dict.fromkeys(found))}",
-            *([f"all this of the draws of --lots {given.lots} alone"] if has_drawn(space) else []),
+            *draws_words(given, nodes_at_end(space)),
         ]
     ) + refused_words(given.without)
 
 
-def has_drawn(space: AlphaSpace) -> bool:
-    """Whether a node of a file has asked for chance."""
-    nodes = [own[at].simulated for own, at in zip(space.locals, space.states[space.ends[0]])]
-    return any("random" in vars(node.me) for node in nodes if isinstance(node, OwnNode))
+def nodes_at_end(space: AlphaSpace) -> list[RoundsNode]:
+    """The nodes that are simulated, as they are at an end."""
+    return [own[at].simulated for own, at in zip(space.locals, space.states[space.ends[0]])]
+
+
+def draws_words(given: Namespace, nodes: Iterable[object]) -> list[str]:
+    """What is said if a node of a file has asked for chance."""
+    own = [node for node in nodes if isinstance(node, (OwnNode, ReactingNode))]
+    if not any("random" in vars(node.me) for node in own):
+        return []
+    return [f"all this of the draws of --lots {given.lots} alone"]
 
 
 def results_words(nodes: dict[int, Status]) -> str:
@@ -361,10 +435,16 @@ def broken_text(given: Namespace, space: AlphaSpace, listed: list[Event]) -> str
     return "".join([first, *event_lines(listed, space.ports), refused_words(given.without)])
 
 
-def events_words(listed: list[Event]) -> str:
+def events_words(listed: list[Event], own: str = "pulse") -> str:
     """How many events a list has, puts among them: `8 events (5 takes and pulses)`."""
     rest = sum(event.kind is not Kind.PUT for event in listed)
-    return f"{counted(len(listed), 'event')} ({counted(rest, 'take or pulse', 'takes and pulses')})"
+    one, many = (f"take or {own}", f"takes and {own}s") if own else ("take", "takes")
+    return f"{counted(len(listed), 'event')} ({counted(rest, one, many)})"
+
+
+def own_step(program: Reacting) -> str:
+    """What a node's own step is called, if the nodes of a file have some."""
+    return "act" if "act" in program.file.functions else ""
 
 
 def event_lines(listed: list[Event], neighbours: dict[int, list[int]]) -> Iterator[str]:

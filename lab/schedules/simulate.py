@@ -77,8 +77,8 @@ Waiting = tuple[Kind, int, int]
 
 class Player(Generic[AnyNode]):
     """A run on its way, whose entries are `made`, of the machine at its start, `state`. `steps[v]` are the steps that
-    are possible at v; `since[kind, v, w]` has for each wire that can be put or taken, and for a node's own step, how many
-    entries were made when it came there."""
+    are possible at v; `since[kind, v, w]` has for each wire that can be put or taken, and for a node's own step, how
+    many entries were made when it came there."""
 
     def __init__(self, state: NetState[AnyNode]) -> None:
         self.state = state
@@ -136,10 +136,14 @@ class Player(Generic[AnyNode]):
                     name, line, f"`{event}` isn't possible there{missing} ({refused})"
                 ) from None
 
+    def next_steps(self) -> list[Step]:
+        """All steps that are possible now."""
+        return [step for own in self.steps.values() for step in own]
+
     def entries(self, policy: Policy) -> Iterator[Entry]:
         """The entries from here until nothing is possible, each as soon as it is made: so a caller can look at the
         state between them, report how far the run is, or stop."""
-        while steps := [step for own in self.steps.values() for step in own]:
+        while steps := self.next_steps():
             yield self.make(self.event_of(policy.choose(steps)))
 
 

@@ -35,7 +35,7 @@ from typing import Generic, NamedTuple, Protocol, TypeVar
 
 from lab.definitions.events import Event, Kind, Message
 from lab.definitions.machine import Node, Refused
-from lab.definitions.own_program import asks_for_messages, what_is_wrong
+from lab.definitions.own_program import UnderWay, asks_for_messages, placed_among, what_is_wrong
 from lab.definitions.program import ProgramFile
 from lab.network import Edge, Network
 
@@ -51,8 +51,6 @@ After = tuple[int | None, Gone, str | None]
 Progress = Callable[[int, int], None]
 # The key of a fault: a state, and the number of the event in it, if it is one event's fault.
 Place = tuple[int, int | None]
-# Of the messages under way: sender, receiver, and what the file of a program knows of it.
-UnderWay = tuple[int, int, tuple[int | str, ...]]
 
 
 class Move(NamedTuple):
@@ -395,9 +393,3 @@ class Space(Generic[AnySearched]):
         a = self.vertices.index(event.node)
         move = next(move for move in self.moves_in(state, a)[0] if self.events[move.event] == event)
         return state if move.value is None else self.moved(state, a, move.value, move), move.gone
-
-
-def placed_among(message: UnderWay) -> tuple[int, int, list[tuple[bool, int | str]]]:
-    """What messages are sorted by, since numbers and words can't be compared: numbers come first."""
-    v, w, fields = message
-    return v, w, [(isinstance(field, str), field) for field in fields]

@@ -1,0 +1,514 @@
+"""Tests of programs of one's own without rounds, whose nodes react to messages, and of the samples.
+
+Expected counts are formulas of the published algorithms, worked by hand, or come from a search written here, which
+plays every list of events on the machine of lab/definitions/machine.py one by one, without states in common."""
+import copy
+import json
+import os
+from collections.abc import Iterator
+
+from lab.definitions.events import PUT, TAKE, Event
+from lab.definitions.leader import LEADER
+from lab.definitions.machine import NetState
+from lab.definitions.programs import any_program_at
+from lab.definitions.reacting import Reacting, ReactingNode, results_in
+from lab.networks.sources import network_at
+from lab.schedules.alpha_space import AlphaSpace
+from lab.schedules.extent import endless, extent_of
+from lab.schedules.reacting_space import ReactingSpace
+from tests import TOP
+from tests.cases import Case, said_by, text_in
+
+SAMPLES = "echo ring_leader ring_phases exclusion async_layers snapshot alpha".split()
+# A token that goes round a ring for ever.
+TOKEN = """\
+def start(me):
+    me.has = me.id == 1
+    if me.has:
+        me.send(0, "token")
+def on_token(me, port):
+    me.send(1 - port, "token")
+def result(me):
+    return f"has {me.has}"
+"""
+# One node may begin; then nothing ends any more.
+TRAP = """\
+def start(me):
+    me.left = 1 if me.id == 1 else 0
+def may_act(me):
+    return me.left > 0
+def act(me):
+    me.left = 0
+    me.send(0, "WORD")
+def on_stop(me, port):
+    me.send(port, "stop")
+def on_end(me, port):
+    pass
+def result(me):
+    return f"left {me.left}"
+"""
+PING = """\
+def start(me):
+    me.got = []
+    if me.id == 1:
+        me.send_all("ping", 7, "a")
+def on_ping(me, port, number, letter):
+    me.got.append((number, letter))
+def result(me):
+    return f"got {me.got}"
+"""
+
+
+def sample(name: str) -> str:
+    return os.path.join(TOP, "examples", "algorithms", f"{name}.py")
+
+
+def program(path: str) -> Reacting:
+    found = any_program_at(path)
+    assert isinstance(found, Reacting)
+    return found
+
+
+def put_all(state: NetState[ReactingNode]) -> None:
+    """Each message on its link as soon as it is there."""
+    while puts := [event for event in state.possible() if event.kind is PUT]:
+        state.step(puts[0])
+
+
+def ends_of(
+    state: NetState[ReactingNode], messages: int = 0, acts: int = 0
+) -> Iterator[tuple[int, int, tuple[str, ...]]]:
+    """Of each list of events that has an end: how many messages and acts it has, and what nodes have found there."""
+    put_all(state)
+    events = list(state.possible())
+    if not events:
+        yield messages, acts, tuple(results_in(state).values())
+    for event in events:
+        after = copy.copy(state)
+        after.nodes = {v: node.copied() for v, node in state.nodes.items()}
+        after.link = {link: list(held) for link, held in state.link.items()}
+        after.step(event)
+        is_take = event.kind is TAKE
+        yield from ends_of(after, messages + is_take, acts + (not is_take))
+
+
+class Machine(Case):
+    def test_alpha_is_an_instance(self) -> None:
+        """Alpha as a file has the states, steps and schedules of alpha that is built in."""
+        for name in ("two", "path3", "triangle"):
+            net = network_at(name)
+            own = ReactingSpace(net, program(sample("alpha"))).search()
+            built_in = AlphaSpace(net, program=LEADER).search()
+            extent = extent_of(own)
+            self.same(
+                f"alpha.py on {name}",
+                (own.count, len(own.target), extent and extent.schedules),
+                (built_in.count, len(built_in.target), built_in.schedules),
+            )
+            pulses = sum(node.pulse for node in built_in.nodes(built_in.ends[0]).values())
+            messages = built_in.depth[built_in.ends[0]] - pulses
+            lengths = extent and (extent.messages, extent.acts)
+            self.same(f"its length on {name}", lengths, ((messages,) * 2, (pulses,) * 2))
+
+    def test_every_list(self) -> None:
+        """The schedules, their lengths and their ends, list by list."""
+        for name, network in (
+            ("echo", "two"),
+            ("echo", "path3"),
+            ("echo", "triangle"),
+            ("ring_leader", "ring3"),
+            ("exclusion", "two"),
+            ("async_layers", "path3"),
+            ("snapshot", "two"),
+            ("alpha", "two"),
+        ):
+            net, of = network_at(network), program(sample(name))
+            lists = list(ends_of(of.start(net)))
+            space = ReactingSpace(net, of).search()
+            extent = extent_of(space)
+            self.same(f"{name} on {network}: schedules", extent and extent.schedules, len(lists))
+            for kind, at in (("messages", 0), ("acts", 1)):
+                counts = [one[at] for one in lists]
+                span = extent and getattr(extent, kind)
+                self.same(f"{name} on {network}: {kind}", span, (min(counts), max(counts)))
+            found = {tuple(space.results(s).values()) for s in space.ends}
+            self.same(f"{name} on {network}: ends", found, {results for _, _, results in lists})
+            self.same(f"{name} on {network}: no end is out of reach", endless(space), [])
+
+    def test_without_end(self) -> None:
+        """The token that goes round by hand: a link holds it or the next does, three states. A trap that is gone into
+        never ends, and one that isn't does."""
+        path = self.file("token.py", TOKEN)
+        status, text, fault = said_by("explore", "ring3", "--program", path)
+        self.same(
+            "a token",
+            (status, text.splitlines()[:1], fault),
+            (0, ["every schedule of ring3: 3 states, 3 steps"], ""),
+        )
+        self.note("a token has no end", "some schedules never end: there is no end;" in text, text)
+        for word, said in (
+            ("end", "each has 1 message and 1 act"),
+            ("stop", "some schedules never end: there is no end"),
+        ):
+            path = self.file("trap.py", TRAP.replace("WORD", word))
+            done = said_by("explore", "two", "--program", path)
+            self.note(f"a trap with {word}", done[0] == 0 and said in done[1], done)
+        choice = TRAP.replace('me.send(0, "WORD")', "me.send(0, me.word)").replace(
+            "    me.left = 1", "    me.word = 'end'\n    me.left = 1"
+        )
+        # Node 1 may act before a word comes from node 2, or after it: it ends only before.
+        choice += "def on_word(me, port):\n    me.word = 'stop'\n"
+        choice = choice.replace(
+            "def may_act", "    if me.id == 2:\n        me.send(0, 'word')\ndef may_act"
+        )
+        done = said_by("explore", "two", "--program", self.file("choice.py", choice))
+        self.note(
+            "from some states", "never end: from 3 states no end can be reached;" in done[1], done
+        )
+
+
+class Samples(Case):
+    def counts(self, name: str, network: str) -> tuple[str, ...]:
+        """What `explore` says of a sample that is right."""
+        status, text, fault = said_by("explore", network, "--program", sample(name))
+        self.same(f"{name} on {network}", (status, fault), (0, ""))
+        return tuple(text.splitlines())
+
+    def test_published_counts(self) -> None:
+        """Two messages an edge of the echo (Chang); of the ring 1 + 2 + .. + n for the identifiers, since each goes as
+        far as the next greater one, and n to tell it (Chang and Roberts' worst case); 2(n - 1) for each entry of Ricart
+        and Agrawala; of Dijkstra and Scholten's an answer for each message; of Chandy and Lamport's a marker for each
+        direction of an edge, besides the payments."""
+        for name, network, messages in (
+            ("echo", "triangle", "6"),
+            ("echo", "ring8", "16"),
+            ("echo", "complete4", "12"),
+            ("ring_leader", "ring3", str(1 + 2 + 3 + 3)),
+            ("ring_leader", "ring5", str(1 + 2 + 3 + 4 + 5 + 5)),
+            ("exclusion", "two", str(2 * 2 * 1)),
+            ("exclusion", "triangle", str(3 * 2 * 2)),
+            # Each of three tells two, and node 2 or 3 may be told the longer way first, and then tells two again.
+            ("async_layers", "triangle", f"{2 * 6} to {2 * 8}"),
+            ("snapshot", "triangle", str(3 + 6)),
+            ("snapshot", "ring4", str(4 + 8)),
+        ):
+            lines = self.counts(name, network)
+            self.note(f"{name} on {network}", f"each has {messages} messages" in lines[1], lines)
+
+    def test_few_messages(self) -> None:
+        """Hirschberg and Sinclair's bound: at most 4 * 2^k messages for each of n / (2^(k-1) + 1) nodes in phase k, so
+        below 8 n (1 + log n), and n to tell it."""
+        for n, log in ((3, 2), (4, 2), (5, 3), (6, 3)):
+            extent = extent_of(
+                ReactingSpace(network_at(f"ring{n}"), program(sample("ring_phases"))).search()
+            )
+            bound = 8 * n * (1 + log) + n
+            self.note(f"ring{n}", extent and extent.messages[1] <= bound, (extent, bound))
+
+    def test_ends(self) -> None:
+        """By hand: a ring of n has n spanning trees, by the edge on which the waves meet; a tree has one. In a snapshot
+        all coins are there."""
+        for network, ends in (("ring5", 5), ("ring8", 8), ("path5", 1), ("star4", 1)):
+            lines = self.counts("echo", network)
+            said = "one end:" if ends == 1 else f"{ends} ends:"
+            self.note(f"the trees of {network}", said in lines, lines)
+        space = ReactingSpace(network_at("triangle"), program(sample("snapshot"))).search()
+        coins = {
+            sum(int(words.split()[1]) for words in space.results(s).values()) for s in space.ends
+        }
+        self.same("all coins are noted", coins, {30})
+
+    def test_planted_mistakes(self) -> None:
+        """Each is one line that a smaller network doesn't show and a larger one does."""
+        for name, old, new, right, wrong, said in (
+            ("echo", "is None and me.id != 1:", "is None:", "path3", "triangle", "node 1 counts 2"),
+            (
+                "exclusion",
+                "    me.time = max(me.time, time)\n",
+                "",
+                "two",
+                "triangle",
+                "the nodes [1, 2] are inside",
+            ),
+            (
+                "async_layers",
+                "is None or layer < me.layer:",
+                "is None:",
+                "path3",
+                "triangle",
+                "3 has layer 2, and is in layer 1",
+            ),
+            (
+                "snapshot",
+                "me.open.discard(port)",
+                "me.open.clear()",
+                "two",
+                "path3",
+                "27 coins are noted of 30",
+            ),
+            ("alpha", "me.last and me.said and", "me.last and", "two", "path3", "not all know"),
+        ):
+            text = text_in("examples", "algorithms", f"{name}.py")
+            self.same(f"{name} has the line", text.count(old), 1)
+            path = self.file(f"{name}.py", text.replace(old, new))
+            done = said_by("explore", right, "--program", path)
+            self.note(
+                f"{name} on {right}", done[0] == 0 and done[1].startswith("every schedule of"), done
+            )
+            done = said_by("explore", wrong, "--program", path)
+            first = done[1].split("\n")[0]
+            good = done[0] == 1 and first.startswith("broken after ") and said in first
+            self.note(f"{name} on {wrong}", good, done)
+
+    def test_links_without_order(self) -> None:
+        """Ricart and Agrawala need no order of the messages of a link, and Chandy and Lamport do."""
+        for name, status in (("exclusion", 0), ("snapshot", 1)):
+            done = said_by("explore", "two", "--without", "fifo", "--program", sample(name))
+            said = "not broken without fifo: two has " if status == 0 else "broken after "
+            self.note(name, done[0] == status and done[1].startswith(said), done)
+
+    def test_runs(self) -> None:
+        """Runs of a network that is too large for all schedules: two messages an edge, of which petersen has 15; and
+        what is wrong in some of them."""
+        done = said_by("explore", "petersen", "--program", sample("echo"), "--runs", "40")
+        first = "40 runs of petersen, and not every schedule: each has 30 messages"
+        self.same("the echo", (done[0], done[1].split("\n")[0]), (0, first))
+        text = text_in("examples", "algorithms", "exclusion.py")
+        path = self.file("late.py", text.replace("    me.time = max(me.time, time)\n", ""))
+        done = said_by("explore", "triangle", "--program", path, "--runs", "300")
+        good = done[0] == 1 and " of 300 runs; in a shortest of these after " in done[1]
+        self.note("a mistake that runs show", good and "are inside\n" in done[1], done)
+        again = said_by("explore", "triangle", "--program", path, "--runs", "300", "--seed", "1")
+        self.same("the same seed has the same runs", again, done)
+
+
+class Lists(Case):
+    def test_a_list_leads_there(self) -> None:
+        """The list of events that goes wrong, played here one by one: each is possible, and it is wrong at the end."""
+        text = text_in("examples", "algorithms", "exclusion.py")
+        path = self.file("late.py", text.replace("    me.time = max(me.time, time)\n", ""))
+        words = ["explore", "triangle", "--program", path]
+        found = json.loads(said_by(*words, "--json")[1])
+        self.same(
+            "--list writes it", said_by(*words, "--list")[1].split("\n")[:-1], found["events"]
+        )
+        net = network_at("triangle")
+        state = program(path).start(net)
+        kinds = {kind.value: kind for kind, _, _ in state.events}
+        for line in found["events"]:
+            kind, *numbers = line.split()
+            v, *port = map(int, numbers)
+            state.step(Event(kinds[kind], v, port[0] if port else None))
+        inside = [v for v, words in results_in(state).items() if words == "inside"]
+        self.same("two are inside", len(inside), 2)
+
+    def test_messages(self) -> None:
+        """What `always` is given, by hand: (sender, receiver, message) by identifier, ascending; and what a node has
+        once it has taken one."""
+        text = PING + (
+            "def always(results, neighbours, messages):\n"
+            "    return results[1] != 'got []' or f'{results} {neighbours} {messages}'\n"
+        )
+        net = "p edge 3 2\ne 1 2\ne 1 3\ni 1 9\ni 2 1\ni 3 4\n"
+        words = ["explore", self.file("net.col", net), "--program"]
+        done = said_by(*words, self.file("ping.py", text))
+        told = "{9: 'got []', 1: 'got []', 4: 'got []'} {9: [1, 4], 1: [9], 4: [9]} "
+        first = f"broken after 0 events (0 takes): {told}[(1, 9, ('ping', 7, 'a'))]"
+        self.same("one is sent", done[1].split("\n")[0], first)
+        text = text.replace("me.id == 1", "me.id == 9")
+        done = said_by(*words, self.file("ping.py", text))
+        told += "[(9, 1, ('ping', 7, 'a')), (9, 4, ('ping', 7, 'a'))]"
+        self.note("two are sent", f": {told}\n" in done[1], done)
+        taken = PING + (
+            "def always(results, neighbours):\n    return results[2] == 'got []' or results[2]\n"
+        )
+        done = said_by("explore", "path3", "--program", self.file("taken.py", taken))
+        lines = [
+            "broken after 2 events (1 take): got [(7, 'a')]",
+            "  at first 1 got [], 2 got [], 3 got []",
+            "put 1 0: ping 7 a for 2",
+            "take 2 0: ping 7 a from 1; has got [(7, 'a')]",
+        ]
+        self.same("one is taken", done[1].split("\n")[:-1], lines)
+
+
+ECHO = text_in("examples", "algorithms", "echo.py")
+
+
+def echo(*pairs: str) -> str:
+    """The sample with words changed."""
+    text = ECHO
+    for old, new in zip(pairs[::2], pairs[1::2]):
+        assert old in text, old
+        text = text.replace(old, new, 1)
+    return text
+
+
+ACTS = "def act(me):\n    pass\n\n\ndef result"
+
+
+def line_of(words: str) -> int:
+    """The line of the sample that has these words."""
+    return 1 + ECHO[: ECHO.index(words)].count("\n")
+
+
+# The lines that are changed.
+LINES = {
+    "start": line_of('send_all("wave")'),
+    "start_more": line_of('send_all("wave")') + 1,
+    "sends": line_of("send(me.parent"),
+    "hears": line_of("me.waits -= 1"),
+    "parent": line_of("if me.parent is"),
+    "result": line_of("    return f"),
+}
+# What the file has, and parts of the first line that is said.
+WRONG: list[tuple[str, ...]] = [
+    (
+        echo('send_all("wave")', 'send_all("wav")'),
+        " line {start}: `wav` is sent, and the file has no function `on_wav`, in `start` of the node of identifier 1",
+    ),
+    (
+        echo('send_all("wave")', 'send("wave")'),
+        " line {start}: `me.send` has 'wave' as its port: the node's ports are 0 to 1, in `start`",
+    ),
+    (
+        echo("send(me.parent", "send(7"),
+        "broken after 6 events (3 takes): ",
+        " line {sends}: `me.send` has 7 as its port: the node's ports are 0 to 1, in `on_wave`",
+    ),
+    (
+        echo('"echo", me.count', '"echo", me.count / 2'),
+        " line {sends}: `echo` is sent with 0.5: after the word come numbers from 0, below 2^128, and words",
+    ),
+    (echo('"echo", me.count', '"echo", True'), " line {sends}: `echo` is sent with True: "),
+    (echo('"echo", me.count', '"echo", 2**128'), " line {sends}: `echo` is sent with 3402823"),
+    (echo('"echo", me.count', '"echo", "Two"'), " line {sends}: `echo` is sent with 'Two': "),
+    (
+        echo('"echo", me.count', '"echo"'),
+        " line {sends}: `echo` is sent with 0 fields, and its function is `on_echo(me, port, count)`, in `on_",
+    ),
+    (
+        echo('"echo", me.count', "1"),
+        " line {sends}: a message begins with a word of small letters, and 1 is none",
+    ),
+    (
+        echo(', "echo", me.count', ""),
+        " line {sends}: a message begins with a word, and here is none",
+    ),
+    (
+        echo("heard(me, 0)", 'return "wave"'),
+        ": `on_wave` of the node of identifier 2 returns 'wave': it returns nothing, and sends with `me.send`",
+    ),
+    (
+        echo("    return f", '    me.send_all("wave")\n    return f'),
+        " line {result}: `me.send` is called here, and only `start`, `act` and the functions `on_WORD` may send",
+    ),
+    (
+        echo("    return f", "    me.waits += 1\n    return f"),
+        ": `result` of the node of identifier 1 changes `me`",
+    ),
+    (
+        echo("def start", "def begin"),
+        " has no function start; it has `on_wave`, so its nodes react to messages",
+    ),
+    (echo("def result", "def results"), " has no function result; it has `on_wave`"),
+    (echo("def result", ACTS), " has no function may_act; it has `on_wave`"),
+    (
+        echo("def result", f"def may_act(me):\n    me.count > 3\n\n\n{ACTS}"),
+        ": `may_act` returns None: it must be True or False",
+    ),
+    (
+        echo("def result", f"def may_act(me):\n    me.count += 1\n    return False\n\n\n{ACTS}"),
+        ": `may_act` of the node of identifier 1 changes `me`",
+    ),
+    (
+        echo("def result", "def on_Big(me, port):\n    pass\n\n\ndef result"),
+        ": the function `on_Big` is of no word: a word has small letters alone",
+    ),
+    (
+        echo("me.parent, me", "me.chance = __import__('random').random()\n    me.parent, me"),
+        ": the node of identifier 1 does something else the second time: does it use chance other than `me.random`",
+    ),
+    (
+        echo(
+            "def heard(me, count):",
+            "total = 0\n\n\ndef heard(me, count):\n    global total\n    total += 1",
+        ),
+        ": `on_wave` of the node of identifier 2 changes the variable `total` outside `me`: keep everything in `me`",
+    ),
+    (
+        echo("me.parent, me", "me.kept = (n for n in [1])\n    me.parent, me"),
+        ": what `me` keeps can't be copied and compared",
+    ),
+    (
+        echo('me.send_all("wave")', 'while True:\n            me.send_all("wave")'),
+        " line {start_more}: more than 10,000 messages are sent in one call, in `start`",
+    ),
+    (
+        echo("    me.waits -= 1", "    me.waits -= {0: 1, 1: 1}[count]"),
+        "broken after ",
+        " line {hears}: KeyError: 2, in `on_echo` of the node of identifier",
+    ),
+    (
+        echo("if me.parent is", "if me.parrent is"),
+        "broken after 2 events (1 take): ",
+        " line {parent}: AttributeError: `me` has no `parrent`, in `on_wave` of the node of identifier 2",
+    ),
+    (
+        echo("    return right(", "    right("),
+        ": `always` returns None: it must be True, False, or what isn't",
+    ),
+]
+
+
+class Refused(Case):
+    def test_misuses(self) -> None:
+        for number, (text, *said) in enumerate(WRONG):
+            parts = [words.format(**LINES) for words in said]
+            path = self.file(f"wrong{number}.py", text)
+            status, out, fault = said_by("explore", "triangle", "--program", path)
+            first = (out or fault).split("\n")[0]
+            lines = (out or fault).count("\n")
+            good = status == 1 and all(part in first for part in parts) and "Traceback" not in fault
+            self.note(parts[-1], good and (out or lines == 1), (status, out, fault))
+
+    def test_commands(self) -> None:
+        """What needs rounds or the synchroniser refuses such a file in one line."""
+        path = sample("echo")
+        react = "has a function `on_wave`, so its nodes make no rounds"
+        for line, said in (
+            ("picture rounds triangle", react),
+            ("picture results triangle", react),
+            ("picture player triangle", react),
+            ("picture schedules triangle", react),
+            ("explore --networks 5", react),
+            ("explore triangle --reduce", "--reduce is for nodes under the synchroniser"),
+            ("explore triangle --without safes", "of its rules only fifo can be left out"),
+            (
+                "explore complete5 --limit 50",
+                "there are more than 50 states: --runs 100 plays a hundred runs instead, and --limit allows more",
+            ),
+        ):
+            self.refusal(line, said_by(*line.split(), "--program", path), 1, said)
+        done = said_by("explore", "two", "--program", "leader", "--runs", "3")
+        said = "--runs is for a file whose nodes react to messages, and leader has rounds"
+        self.refusal("--runs of rounds", done, 1, said)
+
+    def test_a_run_without_end(self) -> None:
+        path = self.file("token.py", TOKEN)
+        done = said_by("explore", "ring3", "--program", path, "--runs", "1")
+        self.refusal(
+            "a run", done, 1, "a run under the policy random hasn't ended after 100,000 events"
+        )
+
+    def test_own_chance(self) -> None:
+        """Of chance by `me.random` it is said which seed that is."""
+        text = echo("me.parent, me", "me.kept = me.random.randrange(3)\n    me.parent, me")
+        path = self.file("draws.py", text)
+        done = said_by("explore", "two", "--program", path, "--lots", "4")
+        self.same("--lots", done[1].split("\n")[-2], "all this of the draws of --lots 4 alone")
+        self.same("none in the sample", self_said("echo"), False)
+
+
+def self_said(name: str) -> bool:
+    return "--lots" in said_by("explore", "two", "--program", sample(name))[1]
