@@ -5,7 +5,7 @@ address has it read here: the page by the call `address`, a class's links by `st
 named with the reason; nothing of it is guessed."""
 import re
 from collections.abc import Callable, Collection
-from dataclasses import dataclass, field
+from dataclasses import dataclass, field, replace
 from typing import get_args
 
 from lab.definitions.nodes import COLOURING
@@ -18,7 +18,7 @@ from lab.studio.answers import Order, PictureKind, TabName, Values, Written
 from lab.studio.asked import MOST_STEPS, OPENED
 from lab.studio.dares import DARES
 from lab.studio.drawn import decoded
-from lab.studio.lessons import PLACES
+from lab.studio.lessons import LECTURE, LESSONS, place_of, steps_in
 
 # Letters of an address: browsers take no longer one. And how many faults of one are named.
 MOST_LETTERS, MOST_NAMED = 2 << 20, 5
@@ -27,11 +27,12 @@ MOST_CHANNEL = 9999
 
 @dataclass(frozen=True)
 class Here:
-    """What the other values of an address are of: the network that it has, and the program."""
+    """What the other values of an address are of: the network that it has, the program and the lesson."""
 
     nodes: int = 0
     edges: Collection[tuple[int, int]] = ()
     program: str = COLOURING.name
+    lesson: int | None = None
 
     def node(self, said: str) -> int:
         v = whole(said)
@@ -117,6 +118,12 @@ def program_of(said: str, here: Here) -> str:
     return among([*PROGRAMS, *OPENED.own])(said, here)
 
 
+def lesson_step_of(said: str, here: Here) -> int:
+    if here.lesson is None:
+        raise Fault("it is a step of a lesson, and no lesson is named")
+    return within(said, 1, len(steps_in(here.lesson)))
+
+
 def flag_of(said: str, here: Here) -> bool:
     return among(("0", "1"))(said, here) == "1"
 
@@ -155,7 +162,9 @@ NAMES: dict[str, Name] = {
     "dare": Name("word", among(DARES)),
     "plan": Name("list", plan_of),
     "kind": Name("word", among(get_args(PictureKind))),
-    "lesson": Name("number", lambda said, _: within(said, 1, len(PLACES))),
+    "lesson": Name("number", lambda said, _: within(said, 1, len(LESSONS))),
+    "step": Name("number", lesson_step_of),
+    "lecture": Name("number", lambda said, _: within(said, 1, len(LECTURE))),
 }
 
 
@@ -196,12 +205,16 @@ def pairs_of(place: str) -> tuple[dict[str, str], dict[str, str]]:
     return {name: value for name, value in found.items() if name not in unread}, unread
 
 
-def lesson_opened(pairs: dict[str, str]) -> dict[str, str]:
-    """A lesson alone opens the lesson's place; with a tab it is only named."""
-    if "lesson" not in pairs or "tab" in pairs:
+def place_opened(pairs: dict[str, str]) -> dict[str, str]:
+    """A lesson or the lecture without a tab opens its place; with a tab it is only named."""
+    if "tab" in pairs or "lesson" not in pairs and "lecture" not in pairs:
         return pairs
-    number = within(pairs["lesson"], 1, len(PLACES))
-    return pairs_of(PLACES[number - 1][0])[0] | {"lesson": pairs["lesson"]}
+    if "lecture" in pairs:
+        place = LECTURE[within(pairs["lecture"], 1, len(LECTURE)) - 1].place
+        return pairs_of(place)[0] | {"lecture": pairs["lecture"]}
+    lesson = within(pairs["lesson"], 1, len(LESSONS))
+    step = within(pairs.get("step", "1"), 1, len(steps_in(lesson)))
+    return pairs_of(place_of(lesson, step))[0] | {"lesson": str(lesson), "step": str(step)}
 
 
 def read_values(pairs: dict[str, str], unread: dict[str, str], here: Here) -> Address:
@@ -215,7 +228,9 @@ def read_values(pairs: dict[str, str], unread: dict[str, str], here: Here) -> Ad
         except Fault as why:
             unread[shown(f"{name}={said}")] = str(why)
         if name == "program":
-            here = Here(here.nodes, here.edges, str(values.get("program", COLOURING.name)))
+            here = replace(here, program=str(values.get("program", COLOURING.name)))
+        if name == "lesson" and "lesson" in values:
+            here = replace(here, lesson=int(pairs["lesson"]))
     make: Callable[..., Values] = Values
     return Address(make(**values), unread)
 

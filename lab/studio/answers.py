@@ -40,21 +40,46 @@ class RulesSaid:
     rounds: Mapping[str, Mapping[str, RuleSaid]]
 
 
+# How an exercise is judged: by an answer that is said, by what the page shows, or by the question of the tab itself.
+ExerciseKind = Literal["said", "seen", "predicted"]
+
+
+@dataclass(frozen=True)
+class Exercise:
+    """An exercise of a step: its name in the lesson, the question if it has one of its own, and answers to pick; a hint
+    and the answer. One that is predicted is of a node and a pulse; a pulse of 0 stands for what the node waits for.
+    """
+
+    name: str
+    kind: ExerciseKind
+    asks: str
+    picks: Sequence[str]
+    hint: str
+    answer: str
+    node: int = 0
+    pulse: int = 0
+
+
+@dataclass(frozen=True)
+class LessonStep:
+    """A step of a lesson: its place in the studio, or nothing if it goes on where the one before has led to; the tab;
+    one instruction, in Markdown."""
+
+    place: str
+    tab: TabName
+    do: str
+    exercise: Exercise | None
+
+
 @dataclass(frozen=True)
 class Lesson:
-    """A lesson: where it begins in the studio, what to see there and what to do; its text in Markdown; and its
-    exercises that are predictions, each with its place."""
+    """A lesson: its question, its steps, and its whole text in Markdown."""
 
     number: int
     title: str
     ask: str
-    open: str
-    see: str
-    do: str
+    steps: Sequence[LessonStep]
     text: str
-    hint: str
-    answer: str
-    questions: Sequence[tuple[str, str]]
 
 
 @dataclass(frozen=True)
@@ -63,7 +88,7 @@ class LecturePlace:
 
     minutes: str
     title: str
-    open: str
+    place: str
     say: str
 
 
@@ -123,6 +148,8 @@ class Values:
     plan: Sequence[int] | None = None
     kind: PictureKind | None = None
     lesson: int | None = None
+    step: int | None = None
+    lecture: int | None = None
 
 
 @dataclass(frozen=True)
@@ -307,6 +334,14 @@ class Predicted:
     right: bool
     found: str
     why: str
+
+
+@dataclass(frozen=True)
+class ExerciseJudged:
+    """Whether an exercise is done, and how far it is."""
+
+    done: bool
+    said: str
 
 
 @dataclass(frozen=True)

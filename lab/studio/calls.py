@@ -3,7 +3,7 @@ from collections.abc import Callable, Mapping
 from dataclasses import dataclass
 from typing import TypeVar
 
-from lab.studio import building, messages, networks, predictions, rounds, runs
+from lab.studio import building, exercises, messages, networks, predictions, rounds, runs
 from lab.studio.fields import parsed_call
 from lab.studio.telling import Tell
 
@@ -51,6 +51,7 @@ CALLS = {
     "steps": answered(messages.StepsCall, runs.steps),
     "predict": answered(messages.PredictCall, predictions.predict),
     "waits": answered(messages.WaitsCall, predictions.waits),
+    "exercise": answered(messages.ExerciseCall, exercises.judged),
     "build": answered(messages.BuildCall, building.begin),
     "built": answered(messages.BuiltCall, building.so_far),
 }

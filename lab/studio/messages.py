@@ -213,6 +213,17 @@ class WaitsCall(AfterSteps, WithoutRules, OfProgram):
 
 
 @dataclass(frozen=True, kw_only=True)
+class ExerciseCall(AfterSteps, WithoutRules, OfProgram):
+    """Asks whether the exercise of a lesson's step is done: by what a student has said, or by the network, the typed
+    plan and the steps of the page."""
+
+    lesson: int
+    step: int
+    said: Word = ""
+    plan: tuple[int, ...] = ()
+
+
+@dataclass(frozen=True, kw_only=True)
 class BuildCall:
     """Asks for the proof and the build of the programs."""
 

@@ -21,7 +21,7 @@ from lab.pictures.places import page_bends, places_of
 from lab.programs import TOP
 from lab.schedules.policies import POLICIES
 from lab.schedules.rules import OF_PROGRAMS, OF_SCHEDULES, Rule
-from lab.studio.address import Address, Here, NAMES, lesson_opened, pairs_of, read_values
+from lab.studio.address import Address, Here, NAMES, pairs_of, place_opened, read_values
 from lab.studio.answers import (
     Bends,
     Choice,
@@ -36,7 +36,7 @@ from lab.studio.answers import (
 from lab.studio.asked import MOST_DRAWN, OPENED, network_asked
 from lab.studio.dares import DARES
 from lab.studio.drawn import drawn_of
-from lab.studio.lessons import lecture, lessons
+from lab.studio.lessons import LECTURE, lessons
 from lab.studio.messages import (
     BendsCall,
     AddressCall,
@@ -82,7 +82,7 @@ def hello(_call: HelloCall, _tell: Tell) -> Hello:
             rounds={name: said_of(of) for name, of in OF_PROGRAMS.items()},
         ),
         lessons=lessons(),
-        lecture=lecture(),
+        lecture=LECTURE,
         dares=DARES,
         # How the page writes what an address has, by its name.
         address={name: of.written for name, of in NAMES.items()},
@@ -117,7 +117,7 @@ class Place:
 def opened_by(place: str, before: Here = Here()) -> Place:
     """What an address opens, after the `#`; refused if its network can't be read."""
     pairs, unread = pairs_of(place)
-    pairs = lesson_opened(pairs)
+    pairs = place_opened(pairs)
     text = network = None
     if "example" in pairs and "net" in pairs:
         raise Fault("the address has an example and a network: one of them")

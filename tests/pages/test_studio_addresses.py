@@ -11,12 +11,12 @@ from lab.studio.answers import TabName
 from tests.pages.test_studio_page import Page
 from tests.programs.test_addresses import TWO, random_state, rounded, stored
 
-STATES, SEED = 24, 7
+STATES, SEED = 24, 5
 # What the page shows, and what is in its fields.
 STATE = """(() => { const {net, seen, run, rounds, check, steps} = studio, by = id => document.getElementById(id);
-  const {tab, program, passes, root, slow, lazy, node, lesson} = seen, isRun = tab === "run";
+  const {tab, program, passes, root, slow, lazy, node, lesson, lecture} = seen, isRun = tab === "run";
   const kind = document.querySelector("[data-kind][aria-pressed=true]");
-  return {tab, program, passes, root, slow, lazy, node, lesson, nodes: net.nodes, edges: net.edges,
+  return {tab, program, passes, root, slow, lazy, node, lesson, lecture, step: lesson && seen.step, nodes: net.nodes, edges: net.edges,
     broken: rounds.without, without: steps.without,
     predict: tab === "adversary" ? steps.predicts : rounds.predicts,
     dare: steps.dare, steps: isRun ? run.steps : steps.made, other: run.other, how: by("made").value,
@@ -29,7 +29,7 @@ WRITE = """(s => { const {net, seen, time, run, rounds, check, steps} = studio, 
   if (s.tab === "pictures") document.querySelector(`[data-kind=${s.kind}]`).click();
   Object.assign(net, {name: "", nodes: s.nodes || net.nodes, edges: s.edges || net.edges, example: s.example || ""});
   Object.assign(seen, {tab: s.tab, program: s.program, passes: s.passes, root: s.root, slow: s.slow, lazy: s.lazy,
-    node: s.node, lesson: s.lesson});
+    node: s.node, lesson: s.lesson, step: s.step, lecture: s.lecture});
   time.at = s.at;
   Object.assign(rounds, {forest: s.forest, without: s.broken, predicts: s.predict});
   Object.assign(steps, {made: s.steps, without: s.without, predicts: s.predict, dare: s.dare});
@@ -42,7 +42,7 @@ WRITE = """(s => { const {net, seen, time, run, rounds, check, steps} = studio, 
   by("copy").onclick();
   return location.hash; })"""
 # What a tab says, besides what all say; the rest of a state isn't in its address.
-ALL = ("tab", "program", "lesson", "nodes", "edges")
+ALL = ("tab", "program", "lesson", "step", "lecture", "nodes", "edges")
 SAID = {
     "draw": (),
     "rounds": ("node", "broken", "predict"),
@@ -53,7 +53,8 @@ SAID = {
 }
 # What a state has that says nothing.
 NOTHING: dict[str, object] = {
-    **{"passes": 1, "root": None, "slow": [], "lazy": [], "node": None, "lesson": None, "at": 0},
+    **{"passes": 1, "root": None, "slow": [], "lazy": [], "node": None, "at": 0},
+    **{"lesson": None, "step": None, "lecture": None},
     **{"forest": 0, "broken": "", "predict": False, "without": "", "dare": "", "steps": []},
     **{"other": None, "how": "seed", "policy": "random", "seed": "1", "beside": False},
     **{"plan": [], "kind": "plan"},
@@ -66,6 +67,7 @@ def whole_state(state):
     found = NOTHING | state | {"nodes": network["nodes"], "edges": network["edges"]}
     if found["how"] == "threads":
         found |= {"policy": "random", "seed": "1"}
+    found["step"] = found["lesson"] and (found["step"] or 1)
     found["plan"] = [0] * len(network["nodes"]) if found["tab"] == "check" else []
     if found["tab"] == "check":
         given = state.get("plan", [])
@@ -111,7 +113,7 @@ class StudioAddresses(Page):
 
     def test_written_before(self):
         for place, state in stored()[1]:
-            self.follow(place, NOTHING | state)
+            self.follow(place, NOTHING | {"step": 1 if state.get("lesson") else None} | state)
 
     def test_written_alike(self):
         """Of each state that is stored the page writes the address that it wrote."""

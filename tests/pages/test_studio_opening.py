@@ -277,9 +277,8 @@ class Opening(Page):
 
     def test_lesson_2(self) -> None:
         """The exercise leads to where it can be done."""
-        self.go_to("lesson=2")
-        self.sees("the lesson", "studio.seen.lesson === 2 && document.querySelector('#lesson a')")
-        self.value("document.querySelector('#lesson a').click()")
+        self.go_to("lesson=2&step=4")
+        self.sees("the lesson", "studio.seen.lesson === 2 && studio.seen.step === 4")
         field = "Array.from(document.querySelectorAll('#chosen label')).find(one => /identifier/.test(one.textContent))"
         self.sees(
             "the centre is chosen, with its identifier", f"{field} && studio.net.name === 'star'"

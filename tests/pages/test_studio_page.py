@@ -94,6 +94,8 @@ class Repeated(Case):
             here = dict(re.findall(r"--(\w+):(#\w+)", variables))
             grounds, _ = [here.pop("paper"), here.pop("panel")], here.pop("hair")
             rows += [(here["ink"], here.pop("chosen"), 4.5)]
+            card = here.pop("card")
+            rows += [(here[name], card, 4.5) for name in ("ink", "soft", "wrong", "good", "accent")]
             rows += [
                 (hue, ground, 4.5 if name in ("ink", "soft", "wrong", "good") else 3)
                 for name, hue in here.items()
@@ -388,25 +390,6 @@ class Drawn(Page):
                 self.reads(f"{words} at {wide}", UNSEEN, [])
                 shown = self.value("document.documentElement.scrollWidth")
                 self.note(f"{words} at {wide}: no wider", shown <= wide, shown)
-
-    def test_lessons(self):
-        """Each lesson has its text with its pictures, a hint and an answer; the lecture its places."""
-        parts = "document.querySelectorAll('#lesson details details')"
-        for number in range(1, 8):
-            self.go_to(f"lesson={number}")
-            self.sees(
-                f"lesson {number}", f"studio.seen.lesson === {number} && {parts}.length === 3"
-            )
-            self.value(f"{parts}.forEach(part => {{ part.open = true; }})")
-            self.sees("opened", f"Array.from({parts}).every(part => part.children.length > 1)")
-            said = self.page.text("lesson")
-            left = [mark for mark in ("](", "**", "    $", "\n|") if mark in said]
-            self.note(f"lesson {number} has no marks of its source", not left, left)
-            pictures = "Array.from(document.querySelectorAll('#lesson img'))"
-            self.sees("its pictures", f"{pictures}.every(one => one.naturalWidth)")
-        self.page.choose("lecture", "4")
-        self.sees("minute 12", "studio.time.at === 13 && studio.rounds.film")
-        self.sees("what to ask", "lesson.textContent.includes('which nodes choose now, and why?')")
 
     def test_token(self):
         """A token counts when the server has taken it: a link with a wrong one harms no later one."""

@@ -126,11 +126,17 @@ def random_state(source):
         "plan": [source.randint(0, 9999) for _ in range(source.randint(0, nodes))],
         "kind": source.choice(get_args(PictureKind)),
         "lesson": source.randint(1, 7),
+        # Each lesson has as many steps; the first one needn't be said.
+        "step": source.randint(2, 4),
+        "lecture": source.randint(1, 7),
     }
     always = ("net", "tab", "program")
-    return {
+    found = {
         name: value for name, value in values.items() if name in always or source.random() < 0.6
     }
+    if "lesson" not in found:
+        found.pop("step", None)
+    return found
 
 
 def rounded(network):
@@ -291,7 +297,7 @@ class Addresses(Case):
         wanted = Values(tab="run", slow=[(1, 2)], node=2)
         self.same("its network is kept", (found.network, found.address.values), (None, wanted))
         self.same("an empty one", opened_by("net=~", here).network, Net("", [], [], []))
-        values = opened_by("lesson=6").address.values
+        values = opened_by("lesson=6&step=3").address.values
         self.same("a lesson's place", (values.tab, values.without), ("adversary", "safes"))
         values = opened_by(f"{TWO}&tab=check&lesson=6").address.values
         self.same("another place", (values.tab, values.without), ("check", None))

@@ -1,8 +1,10 @@
 // Calls of the server. A later call of the same key ends the one before: the server ends its process then.
-const KEPT = "studio-token";
-const given = new URLSearchParams(location.search).get("token"), kept = localStorage.getItem(KEPT) || "";
+import {keep, kept} from "./kept.js";
+
+const KEPT = "studio-token", before = kept(KEPT);
+const given = new URLSearchParams(location.search).get("token");
 if (given) history.replaceState(null, "", location.pathname + location.hash);
-export let token = given || kept;
+export let token = given || before;
 /** @type {Map<string, AbortController>} */
 const running = new Map();
 
@@ -70,10 +72,10 @@ export async function call(name, asked, {key = name, progress, part} = {}) {
 // that was kept.
 export async function hello() {
   const got = await call("hello", {}).catch(fault => {
-    if (!kept || token === kept) throw fault;
-    token = kept;
+    if (!before || token === before) throw fault;
+    token = before;
     return call("hello", {});
   });
-  if (got) localStorage.setItem(KEPT, token);
+  if (got) keep(KEPT, token);
   return got;
 }

@@ -13,7 +13,7 @@ export const inputs = words => Array.from(document.querySelectorAll(words));
 // What is seen. `hello` is what there is to choose from, `program` what the nodes run; `slow` and `lazy` are the links
 // and the nodes that wait, `without` the rule of the synchroniser that is left out.
 /** @type {Seen} */
-export const seen = {tab: "draw", node: null, edge: null, lesson: null, hello: null, program: "colouring", passes: 1,
+export const seen = {tab: "draw", node: null, edge: null, lesson: null, step: null, lecture: null, hello: null, program: "colouring", passes: 1,
   root: null, slow: [], lazy: []};
 // What there is to choose from, which is asked for before anything else.
 export function hello() {

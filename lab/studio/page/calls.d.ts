@@ -21,23 +21,38 @@ interface RulesSaid {
   rounds: Record<string, Record<string, RuleSaid>>;
 }
 
+type ExerciseKind = "said" | "seen" | "predicted";
+
+interface Exercise {
+  name: string;
+  kind: ExerciseKind;
+  asks: string;
+  picks: string[];
+  hint: string;
+  answer: string;
+  node: number;
+  pulse: number;
+}
+
+interface LessonStep {
+  place: string;
+  tab: TabName;
+  do: string;
+  exercise: Exercise | null;
+}
+
 interface Lesson {
   number: number;
   title: string;
   ask: string;
-  open: string;
-  see: string;
-  do: string;
+  steps: LessonStep[];
   text: string;
-  hint: string;
-  answer: string;
-  questions: [string, string][];
 }
 
 interface LecturePlace {
   minutes: string;
   title: string;
-  open: string;
+  place: string;
   say: string;
 }
 
@@ -88,6 +103,8 @@ interface Values {
   plan?: number[];
   kind?: PictureKind;
   lesson?: number;
+  step?: number;
+  lecture?: number;
 }
 
 interface FoundAddress {
@@ -216,6 +233,11 @@ interface Predicted {
   why: string;
 }
 
+interface ExerciseJudged {
+  done: boolean;
+  said: string;
+}
+
 interface Build {
   proved: boolean;
   lines: string[];
@@ -338,6 +360,13 @@ interface WaitsCall extends AfterSteps, WithoutRules, OfProgram {
   said: number | string;
 }
 
+interface ExerciseCall extends AfterSteps, WithoutRules, OfProgram {
+  lesson: number;
+  step: number;
+  said?: number | string | null;
+  plan?: number[] | null;
+}
+
 type BuildCall = Record<string, never>;
 
 type BuiltCall = Record<string, never>;
@@ -364,6 +393,7 @@ interface Asks {
   steps: StepsCall;
   predict: PredictCall;
   waits: WaitsCall;
+  exercise: ExerciseCall;
   build: BuildCall;
   built: BuiltCall;
 }
@@ -389,6 +419,7 @@ interface Answers {
   steps: StepsFound;
   predict: Predicted;
   waits: Predicted;
+  exercise: ExerciseJudged;
   build: Build;
   built: Build;
 }

@@ -1,6 +1,6 @@
 // Predict, then look: a question on the chosen node, whose answer the server judges, with the reason. A first answer
 // that isn't right may be mended; after the second one the right one is said.
-import {asks, by} from "./base.js";
+import {asks, by, hooks} from "./base.js";
 import {coded, html} from "./marks.js";
 
 // How many questions were asked on this page, and how many of them were answered rightly at once.
@@ -61,6 +61,7 @@ export class Question {
         score.asked++;
         if (right) score.right++;
       }
+      if (right) hooks.answered(is.asked);
       const reason = html("span", null, {class: "soft"}), next = html("button", "look, and the next question",
         {type: "button", class: "quiet"});
       reason.append(...coded(why + " "));

@@ -5,12 +5,12 @@ import {all, asks, by, endsOf, hello, hooks, inputs, option, say, seen, show, st
   wrong, zoomPicture} from "./base.js";
 import {askPlan, drawn, inspect, makeForm, openFile, save} from "./draw.js";
 import {check} from "./check.js";
+import {fillMenu, look, showCard, turns} from "./lessons.js";
 import {rounds} from "./rounds_tab.js";
 import {run} from "./run_tab.js";
 import {steps} from "./steps_tab.js";
-import {blank, coded, html, targetOf} from "./marks.js";
+import {blank, coded, targetOf} from "./marks.js";
 import * as model from "./model.js";
-import {textOf} from "./text.js";
 import {change, net, text} from "./model.js";
 import {watchBuild} from "./proved.js";
 
@@ -34,12 +34,15 @@ hooks.show = () => {
   say("name", [net.name, seen.program].filter(one => one && one !== "colouring").map(one => "· " + one).join(" "));
   document.title = titleSeen();
   by("slider").setAttribute("aria-valuetext", by("when").textContent || "");
+  look();
   hooks.link();
 };
+hooks.open = place => { location.hash = place; };
 // The title of the page, by which the browser's list of places tells them apart.
 function titleSeen() {
   if (!by("welcome").hidden) return "forestplan studio";
-  const tab = all("nav button").find(one => one.dataset.tab === seen.tab), lesson = seen.lesson && `lesson ${seen.lesson}`;
+  const tab = all("header nav button").find(one => one.dataset.tab === seen.tab);
+  const lesson = seen.lesson && `lesson ${seen.lesson}, step ${seen.step || 1}` || seen.lecture && `lecture, place ${seen.lecture}`;
   const program = seen.program === "colouring" ? "" : seen.program;
   return [tab && tab.textContent, net.name, program, lesson, "forestplan"].filter(Boolean).join(" · ");
 }
@@ -68,7 +71,7 @@ function enter(more = {}) {
   document.body.classList.toggle("first", isWelcome);
   // What another tab has asked for isn't wanted any more.
   CALLS.forEach(cancel);
-  all("nav button").forEach(one => {
+  all("header nav button").forEach(one => {
     one.setAttribute("aria-selected", String(one.dataset.tab === name));
     one.tabIndex = one.dataset.tab === name ? 0 : -1;
   });
@@ -79,6 +82,7 @@ function enter(more = {}) {
   by("picture").hidden = name !== "pictures";
   by("picture").replaceChildren();
   wrong("");
+  showCard();
   if (name !== "draw" && !net.nodes.length) { tabs.draw.show(); wrong("Draw a network first."); return hooks.link(); }
   TABS.forEach(other => {
     const {leave} = tabs[other];
@@ -260,11 +264,11 @@ function link() {
 // What the address says of all that is seen.
 /** @returns {State} */
 function stateSeen() {
-  const {example} = net, {tab, program, passes, root, slow, lazy, lesson} = seen;
+  const {example} = net, {tab, program, passes, root, slow, lazy, lesson, step, lecture} = seen;
   const waits = tab === "run" || tab === "adversary" ? {slow, lazy} : {};
   return {example, net: !example && net.nodes.length ? net : null, tab, program: program === "colouring" ? null : program,
     passes: program === "recolouring" && passes > 1 ? passes : null, root: program === "layers" ? root : null,
-    ...waits, ...tabs[tab].link(), lesson};
+    ...waits, ...tabs[tab].link(), lesson, step: step && step > 1 ? step : null, lecture};
 }
 // What moves before the first click: the rounds of a small network, behind the first buttons.
 function welcome() {
@@ -302,51 +306,17 @@ async function follow(place = location.hash, more = {}) {
 // Shows what an address says: each value is of its kind, or isn't there.
 /** @param {FoundAddress} found @param {Values} given */
 function showPlaceOf({network}, given) {
-  const {example = "", net: code, tab = "draw", program = "colouring", passes = 1, root = null, lesson = null, slow = [],
-    lazy = [], node = null, at = 0} = given;
+  const {example = "", net: code, tab = "draw", program = "colouring", passes = 1, root = null, lesson = null, step = 1,
+    lecture = null, slow = [], lazy = [], node = null, at = 0} = given;
   const isHere = example ? example === net.example : code === undefined ? net.nodes.length > 0 : code === codeOf(net);
   const found = isHere ? null : network || hello().opened;
-  seen.lesson = lesson;
-  showLesson(hello().lessons.find(one => one.number === lesson));
+  Object.assign(seen, {lesson, step: lesson && step, lecture});
   seen.tab = "draw";
   if (found) model.load(found, example);
   Object.assign(seen, {program, passes, root, slow, lazy, node});
   Object.values(tabs).forEach(one => one.follow(given));
   time.at = at;
   seen.tab = tab;
-}
-/** @param {Lesson | undefined} lesson */
-function showLesson(lesson) {
-  const box = by("lesson");
-  box.hidden = !lesson;
-  if (!lesson) return;
-  const close = html("button", "close", {class: "quiet"});
-  close.onclick = () => { seen.lesson = null; box.hidden = true; hooks.link(); };
-  const card = html("details", null, {open: ""}), head = html("summary");
-  head.append(html("b", `${lesson.number}. ${lesson.title}`));
-  const questions = lesson.questions.flatMap(([words, place]) =>
-    [html("a", words, {href: `#${place}&lesson=${lesson.number}`}), " · "]).slice(0, -1);
-  if (questions.length) questions.unshift("Predict, then look: ");
-  card.append(head, html("i", lesson.ask), html("p", lesson.see), ...textOf("Exercise: " + lesson.do), ...questions,
-    folded("the whole lesson", lesson.text), folded("a hint for its exercise", lesson.hint),
-    folded("the answer", lesson.answer));
-  box.replaceChildren(close, card);
-}
-// A text that is made when it is opened.
-/** @param {string} title @param {string} words */
-function folded(title, words) {
-  const place = html("details");
-  place.append(html("summary", title));
-  place.addEventListener("toggle", () => { if (place.open) place.append(...textOf(words)); }, {once: true});
-  return place;
-}
-// A place of the lecture, with what is to be said there.
-/** @param {LecturePlace} place */
-function showPlace(place) {
-  const box = by("lesson"), close = html("button", "close", {class: "quiet"});
-  close.onclick = () => { box.hidden = true; };
-  box.replaceChildren(close, html("b", `Minutes ${place.minutes}: ${place.title}`), ...textOf(place.say));
-  box.hidden = false;
 }
 /** @type {CopyLink} */
 hooks.copy = async (button, more = {}) => {
@@ -372,17 +342,12 @@ function menu(id, choose) {
   };
 }
 menu("examples", name => asks("example", {name}, "opening", found => model.load(found, name)));
-menu("lessons", number => { location.hash = "lesson=" + number; });
+menu("lessons", number => hooks.open(`lesson=${number}&step=1`));
 menu("save", what => net.nodes.length ? save(what) : wrong("Draw a network first."));
-menu("lecture", async number => {
-  const place = hello().lecture[+number];
-  history.pushState(null, "", "#" + place.open);
-  await follow();
-  showPlace(place);
-});
+menu("lecture", number => hooks.open("lecture=" + number));
 by("replay").onclick = () => { time.stop(); time.set(0); time.toggle(); };
 by("skip").onclick = () => all("#net [data-node]").slice(0, 1).forEach(one => one.focus());
-all("nav button").forEach(one => { one.onclick = () => hooks.go(tabNamed(one.dataset.tab)); });
+all("header nav button").forEach(one => { one.onclick = () => hooks.go(tabNamed(one.dataset.tab)); });
 // The tab of a name, which the page has.
 /** @param {string | undefined} name @returns {TabName} */
 function tabNamed(name) { return TABS.find(tab => tab === name) || "draw"; }
@@ -405,11 +370,17 @@ function undoes(event) {
 // Whether a key that is pressed on an element of the page is one of the page's.
 /** @param {KeyboardEvent} event @param {HTMLElement} on */
 function uses(event, on) {
-  const {key} = event, {node: v, edge} = on.dataset || {}, node = on.tagName === "g" && v ? +v : null;
+  const {key} = event, {node: v} = on.dataset || {}, node = on.tagName === "g" && v ? +v : null;
+  return clicks(event, on, node) || turns(key) || pressed(key) || usedByTab(event, node);
+}
+// Whether a key is a click on a node or an edge, or leads from tab to tab.
+/** @param {KeyboardEvent} event @param {HTMLElement} on @param {number | null} node */
+function clicks(event, on, node) {
+  const {key} = event, {edge} = on.dataset || {};
   if ((node || edge) && (key === "Enter" || key === " ")) {
     tabs[seen.tab].click(node, edge ? endsOf(edge) : null, event);
   } else if (on.getAttribute("role") === "tab" && /^Arrow(Left|Right)$/.test(key)) nextTab(on, key);
-  else return pressed(key) || usedByTab(event, node);
+  else return false;
   return true;
 }
 // Whether a key presses a button of the page.
@@ -431,7 +402,7 @@ function usedByTab(event, node) {
 // The arrows lead from tab to tab, and from the last one to the first.
 /** @param {HTMLElement} from @param {string} key */
 function nextTab(from, key) {
-  const list = all("nav button"), next = list.indexOf(from) + (key === "ArrowRight" ? 1 : -1);
+  const list = all("header nav button"), next = list.indexOf(from) + (key === "ArrowRight" ? 1 : -1);
   const to = list[(next + list.length) % list.length];
   to.click();
   to.focus();
@@ -466,12 +437,12 @@ async function begin() {
   if (!await tried("hello", "beginning", greet)) return close(by("wrong").textContent || "");
   all("main").forEach(one => one.classList.remove("closed"));
   stage.fit();
-  const {examples, lessons, dares, lecture, passes, programs, policies, opened} = hello();
-  all("nav, .tools").forEach(one => { one.hidden = false; });
+  const {examples, dares, lecture, passes, programs, policies, opened} = hello();
+  all("header nav, .tools").forEach(one => { one.hidden = false; });
   examples.forEach(name => option(by("examples"), name));
-  lessons.forEach(one => option(by("lessons"), one.number, `${one.number}. ${one.title}`));
+  fillMenu();
   Object.entries(dares).forEach(([name, says]) => option(by("dare"), name, says));
-  lecture.forEach((one, k) => option(by("lecture"), k, `${one.minutes}: ${one.title}`));
+  lecture.forEach((one, k) => option(by("lecture"), k + 1, `${one.minutes}: ${one.title}`));
   inputs(".passes").forEach(one => { one.max = String(passes); });
   [by("program"), by("program2"), by("program3"), by("program4")].forEach(list => {
     programs.forEach(name => option(list, name));

@@ -7,9 +7,7 @@ const ITEM = /^(- |\d+\. )/, STUDIO = "http://127.0.0.1:8321/";
 // A link to a place of the studio leads there; one to another page has its words alone.
 /** @param {string} words @param {string} to */
 function link(words, to) {
-  const lesson = /^#(\d)-/.exec(to);
-  const place = lesson ? "#lesson=" + lesson[1] : to.startsWith(STUDIO + "#")
-    ? to.slice(STUDIO.length) : null;
+  const place = /^#\w+=/.test(to) ? to : to.startsWith(STUDIO + "#") ? to.slice(STUDIO.length) : null;
   return place ? html("a", words, {href: place}) : words;
 }
 /** @param {RegExpMatchArray} found */

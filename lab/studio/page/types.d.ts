@@ -45,7 +45,17 @@ interface Tabs {
   check: Tab;
   pictures: Tab;
 }
-interface Hooks { show(): void; go(tab: TabName, more?: More): void; link(): void; copy: CopyLink; }
+interface Hooks {
+  show(): void;
+  go(tab: TabName, more?: More): void;
+  link(): void;
+  copy: CopyLink;
+  open(place: string): void;
+  answered(asked: PredictOf | WaitsOf): void;
+}
+// Whose node, and which pulse, a question of a tab is about.
+type PredictOf = Omit<PredictCall, "said">;
+type WaitsOf = Omit<WaitsCall, "said">;
 // Copies a link to what is seen, but for what is given otherwise; the button says that it is done.
 type CopyLink = (button: HTMLButtonElement, more?: State) => Promise<void>;
 
@@ -55,6 +65,8 @@ interface Seen {
   node: number | null;
   edge: Edge | null;
   lesson: number | null;
+  step: number | null;
+  lecture: number | null;
   hello: Hello | null;
   program: string;
   passes: number;
@@ -69,7 +81,7 @@ interface Hint { words: string; call?: undefined; }
 interface OfRounds {
   words: string;
   call: "predict";
-  asked: Omit<PredictCall, "said">;
+  asked: PredictOf;
   picks: string[];
   compared: [string, Numeral][];
   tells: boolean;
@@ -78,7 +90,7 @@ interface OfRounds {
 interface OfWaits {
   words: string;
   call: "waits";
-  asked: Omit<WaitsCall, "said">;
+  asked: WaitsOf;
   choices: string[];
   picks?: undefined;
   compared?: undefined;

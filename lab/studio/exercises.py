@@ -1,0 +1,178 @@
+"""The exercises of the lessons, judged: an answer that a student has said, or what the page shows. Each verdict comes
+from the definitions, and says in one sentence how far the student is."""
+from collections.abc import Callable
+
+from lab.definitions.colours import colours
+from lab.definitions.nodes import last_pulse
+from lab.faults import Fault
+from lab.network import Network
+from lab.pictures.layout import distances
+from lab.schedules.rules import OF_SCHEDULES
+from lab.schedules.stepwise import Stepwise
+from lab.studio import dares
+from lab.studio.answers import ExerciseJudged
+from lab.studio.asked import network_asked, program_asked, rules_asked
+from lab.studio.lessons import LESSONS, Said, Seen
+from lab.studio.messages import CheckCall, ExerciseCall
+from lab.studio.rounds import check
+from lab.studio.telling import Tell
+from lab.words import counted, in_words
+
+# Nodes of a row that is long; and in how many steps a wrong inbox is to be reached: no list has fewer (lesson 6).
+LONG, FEWEST = 100, 5
+
+
+def judged(call: ExerciseCall, tell: Tell) -> ExerciseJudged:
+    """Whether the exercise of a step is done."""
+    if not 1 <= call.lesson <= len(LESSONS):
+        raise Fault(f"the field lesson: there are the lessons 1 to {len(LESSONS)}")
+    steps = LESSONS[call.lesson - 1].steps
+    if not 1 <= call.step <= len(steps):
+        raise Fault(f"the field step: lesson {call.lesson} has the steps 1 to {len(steps)}")
+    exercise = steps[call.step - 1].exercise
+    if isinstance(exercise, Said):
+        return said_right(exercise, call.said)
+    if isinstance(exercise, Seen):
+        return GOALS[call.lesson, exercise.name](call, tell)
+    raise Fault("this step has no exercise that is judged here")
+
+
+def said_right(exercise: Said, said: str) -> ExerciseJudged:
+    if " ".join(said.lower().split()) == exercise.right:
+        return ExerciseJudged(True, exercise.answer)
+    return ExerciseJudged(
+        False, f"it isn't {said.strip()[:60]}" if said.strip() else "an answer is missing"
+    )
+
+
+def proper(call: ExerciseCall, tell: Tell) -> ExerciseJudged:
+    """A plan that is typed in the tab Check."""
+    verdict = check(CheckCall(network=call.network, plan=call.plan), tell)
+    if verdict.ok:
+        used = counted(len(set(call.plan)), "channel")
+        return ExerciseJudged(True, f"the plan is proper, with {used}")
+    left = network_asked(call).nodes - sum(map(bool, call.plan))
+    if left:
+        return ExerciseJudged(False, f"{counted(left, 'transmitter')} without a channel")
+    return ExerciseJudged(False, verdict.words)
+
+
+def ends_of(network: Network) -> list[int]:
+    """The two ends of a network that is one row; nothing of any other one."""
+    degrees = {v: len(ws) for v, ws in network.neighbours.items()}
+    ends = [v for v, degree in degrees.items() if degree == 1]
+    is_row = len(ends) == 2 and max(degrees.values()) <= 2
+    return ends if is_row and len(distances(network.neighbours, ends[0])) == network.nodes else []
+
+
+def row_asked(call: ExerciseCall, nodes: int) -> Network:
+    """A row of so many nodes; refused in words."""
+    network = network_asked(call)
+    if network.nodes != nodes:
+        raise Fault(f"the row has {nodes} transmitters, and here {are(network.nodes)}")
+    if not ends_of(network):
+        raise Fault(f"the {nodes} transmitters aren't one row yet")
+    return network
+
+
+def are(number: int) -> str:
+    return f"is {number}" if number == 1 else f"are {number}"
+
+
+def three_channels(call: ExerciseCall, _tell: Tell) -> ExerciseJudged:
+    network = row_asked(call, 4)
+    used = max(colours(network).values()) + 1
+    return ExerciseJudged(used == 3, f"the plan of this row takes {used} channels")
+
+
+def two_rounds(call: ExerciseCall, _tell: Tell) -> ExerciseJudged:
+    """In how many rounds a row of four chooses in the order of the numbers."""
+    network = row_asked(call, 4)
+    at: dict[int, int] = {}
+    for v in sorted(network.vertices, key=network.identifiers.__getitem__):
+        at[v] = 1 + max((at[w] for w in network.neighbours[v] if w in at), default=0)
+    rounds = max(at.values())
+    return ExerciseJudged(
+        rounds == 2, f"in the order of the numbers this row takes {rounds} rounds"
+    )
+
+
+def long_row(call: ExerciseCall, _tell: Tell) -> ExerciseJudged:
+    network = network_asked(call)
+    if network.nodes < LONG or not ends_of(network):
+        return ExerciseJudged(False, f"this is no row of {LONG} nodes or more")
+    said = f"{network.nodes} transmitters in a row take the rounds 0 to {last_pulse(network)}"
+    return ExerciseJudged(True, said)
+
+
+def lowest_centre(call: ExerciseCall, _tell: Tell) -> ExerciseJudged:
+    """A star of eight leaves, whose centre has the least identifier."""
+    network = network_asked(call)
+    is_star = sorted(map(len, network.neighbours.values())) == [1] * 8 + [8]
+    if not is_star:
+        return ExerciseJudged(False, "this isn't the star of eight leaves any more")
+    forests = counted(network.forest_count, "forest")
+    return ExerciseJudged(network.forest_count == 8, f"the star has {forests}")
+
+
+def bar(call: ExerciseCall, _tell: Tell) -> ExerciseJudged:
+    """Channel 1 barred at node 3 of the triangle: what has changed."""
+    network = network_asked(call)
+    if network.nodes != 3 or len(network.edges) != 3:
+        return ExerciseJudged(False, "this isn't the triangle any more")
+    if 1 not in network.bars.get(3, ()):
+        return ExerciseJudged(False, "channel 1 isn't barred at node 3 yet")
+    free = Network(3, network.edges, network.given_identifiers)
+    before, now = colours(free), colours(network)
+    changes = [
+        f"node {v} has channel {now[v] + 1} instead of {before[v] + 1}"
+        for v in network.vertices
+        if now[v] != before[v]
+    ]
+    return ExerciseJudged(True, in_words(changes))
+
+
+def first_pulse(call: ExerciseCall, _tell: Tell) -> ExerciseJudged:
+    player = played(call)
+    made = max(node.pulse_number for node in player.state.nodes.values())
+    steps = counted(len(player.chosen), "step")
+    if made:
+        return ExerciseJudged(True, f"a node has made pulse 1, after {steps}")
+    return ExerciseJudged(False, f"no node has made pulse 1 yet, after {steps}")
+
+
+def played(call: ExerciseCall) -> Stepwise:
+    network = network_asked(call)
+    player = Stepwise(network, program_asked(call, network), rules_asked(call, OF_SCHEDULES))
+    player.follow(filter(None, call.steps.split("_")))
+    return player
+
+
+def dared(dare: str, most: int | None = None) -> Callable[[ExerciseCall, Tell], ExerciseJudged]:
+    """A dare that has to be won, in at most so many steps."""
+
+    def judge(call: ExerciseCall, _tell: Tell) -> ExerciseJudged:
+        network = network_asked(call)
+        program = program_asked(call, network)
+        steps = list(filter(None, call.steps.split("_")))
+        is_ = dares.judged(network, program, rules_asked(call, OF_SCHEDULES), steps, dare)
+        if is_.won and most is not None and len(steps) > most:
+            return ExerciseJudged(False, f"{is_.said}, and {most} are enough")
+        return ExerciseJudged(is_.won, is_.said)
+
+    return judge
+
+
+# What judges the exercises that are done in the studio, by the lesson and the name.
+GOALS: dict[tuple[int, str], Callable[[ExerciseCall, Tell], ExerciseJudged]] = {
+    (1, "proper"): proper,
+    (1, "row"): three_channels,
+    (1, "two"): two_rounds,
+    (1, "long"): long_row,
+    (2, "centre"): lowest_centre,
+    (4, "bar"): bar,
+    (5, "far"): dared("ends"),
+    (6, "pulse"): first_pulse,
+    (6, "apart"): dared("apart"),
+    (6, "wrong"): dared("wrong", FEWEST),
+}

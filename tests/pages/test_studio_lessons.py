@@ -1,0 +1,621 @@
+"""The lessons of the studio as steps, and its lecture: their table, who judges their exercises, and the cards on the
+page, which are gone through whole by the keyboard alone."""
+import json
+import os
+import re
+import shutil
+import tempfile
+import time
+from collections.abc import Iterator
+from unittest import mock
+
+from lab.definitions.colours import bit
+from lab.definitions.programs import program_at
+from lab.definitions.rounds import Rounds
+from lab.faults import Fault
+from lab.network import Network
+from lab.networks.network_text import read_network
+from lab.pictures.program_rounds import ProgramRounds
+from lab.schedules.stepwise import Stepwise
+from lab.studio import lessons as table
+from lab.studio.answers import ExerciseJudged
+from lab.studio.exercises import GOALS, judged
+from lab.studio.lessons import LECTURE, LESSONS, Predicted, Said, Seen, Step
+from lab.studio.messages import ExerciseCall
+from lab.studio.networks import opened_by
+from tests import TOP
+from tests.cases import Case, said_by, text_in
+from tests.pages.test_studio_page import Page
+
+# The network of an edge list, in the DIMACS format.
+STAR = [(v, 9) for v in range(1, 9)]
+# Refuses all that a browser keeps, as one does whose user wants nothing kept.
+NOTHING_KEPT = """Object.defineProperty(window, 'localStorage',
+  {get() { throw new DOMException('refused', 'SecurityError'); }})"""
+# The keys that the tests press, with their numbers.
+KEYS = {"Enter": 13, " ": 32, "Tab": 9, "End": 35, "PageDown": 34}
+TICKED = (
+    "lesson.querySelector('.judged') && lesson.querySelector('.judged').textContent.startsWith('☑')"
+)
+# Two nodes without safes: node 1 makes pulses 1 and 2, and node 2 none; node 2 makes pulse 2 without a label.
+APART = "1-2_2-1_1-2_1_2-1_1-2_2-1_2-1_1-2_1"
+WRONG = "1-2_2-1_2-1_2_2"
+# One row of three: node 1 makes pulse 1.
+FIRST = "2-1_2-3_1-2_3-2_2-1_2-3_1-2_1-2_1"
+
+
+def tell(done: int = 0, of: int = 0, part: object = None) -> None:
+    """Nobody is told how far a call is."""
+
+
+def example(name: str) -> Network:
+    return read_network(text_in("examples", name + ".col"), name)
+
+
+def words_of(edges: list[tuple[int, int]], nodes: int, *more: str) -> str:
+    lines = [f"p edge {nodes} {len(edges)}", *more, *(f"e {v} {w}" for v, w in edges)]
+    return "\n".join(lines) + "\n"
+
+
+def steps() -> Iterator[tuple[int, int, Step]]:
+    """All steps: the lesson, the number of the step, and it."""
+    for number, lesson in enumerate(LESSONS, 1):
+        for k, step in enumerate(lesson.steps, 1):
+            yield number, k, step
+
+
+def step_of(lesson: int, name: str) -> int:
+    """The step of a lesson that has an exercise of this name."""
+    found = [
+        k
+        for number, k, step in steps()
+        if number == lesson and step.exercise and step.exercise.name == name
+    ]
+    return found[0]
+
+
+def verdict(lesson: int, name: str, **asked: object) -> ExerciseJudged:
+    call = {"network": "", "lesson": lesson, "step": step_of(lesson, name)} | asked
+    try:
+        return judged(ExerciseCall(**call), tell)  # type: ignore[arg-type]
+    except Fault as why:
+        return ExerciseJudged(False, str(why))
+
+
+class Table(Case):
+    def test_pages(self) -> None:
+        """Each lesson's page has the title and the question of the table, and a link that opens the lesson."""
+        for number, lesson in enumerate(LESSONS, 1):
+            page = text_in("docs", "learn", f"LESSON_{number}.md")
+            title, _, rest = page.partition("\n\n")
+            self.same(f"title of lesson {number}", title, f"# {number}. {lesson.title}")
+            asked = " ".join(rest.split("*")[1].split())
+            self.same(f"question of lesson {number}", asked, lesson.ask)
+            link = f"http://127.0.0.1:8321/#lesson={number})"
+            self.note(f"link of lesson {number}", link in page, link)
+
+    def test_lecture(self) -> None:
+        """The page of the lecture has the places of the table, with the words to say."""
+        page = " ".join(text_in("docs", "learn", "LECTURE.md").split())
+        for place in LECTURE:
+            line = f"- **{place.minutes}**, [{place.title}](http://127.0.0.1:8321/#{place.place}): {place.say}"
+            self.note(place.title, line in page, line)
+        self.same("no other place", page.count("http://127.0.0.1:8321/#"), len(LECTURE))
+
+    def test_links(self) -> None:
+        """Each link to the studio in a page is read whole."""
+        count = 0
+        for folder in ("docs/learn", "docs/claim", "docs/work", "."):
+            for name in sorted(os.listdir(os.path.join(TOP, folder))):
+                if name.endswith(".md"):
+                    for place in re.findall(
+                        r"http://127\.0\.0\.1:8321/#([^)\s`\"]*)", text_in(folder, name)
+                    ):
+                        count += 1
+                        faults = opened_by(place).address.faults()
+                        self.same(f"{name}: {place}", faults, "")
+        self.note("there are some", count > 15, count)
+
+    def test_places(self) -> None:
+        """Each place of the table is read whole, opens a network and a tab, and is opened by its lesson and step."""
+        for number, k, step in steps():
+            place = table.place_of(number, k)
+            opened = opened_by(place)
+            self.same(f"lesson {number} step {k}", opened.address.faults(), "")
+            self.note("has a network", opened.network)
+            by_name = opened_by(f"lesson={number}&step={k}").address
+            wanted = opened.address.values
+            self.same(
+                "by its number",
+                (by_name.values.tab, by_name.values.at, by_name.values.step),
+                (wanted.tab, wanted.at, k),
+            )
+            self.note("an own place, but for some", step.place or k > 1)
+            if isinstance(step.exercise, Predicted):
+                self.note("a question", wanted.predict and wanted.node, place)
+        for k, one in enumerate(LECTURE, 1):
+            values = opened_by(f"lecture={k}").address.values
+            self.same(f"lecture {k}", (values.tab, values.lecture), (table.tab_of(one.place), k))
+
+    def test_refused(self) -> None:
+        """A step that a lesson doesn't have, and a step of no lesson, are named."""
+        for place, why in (
+            ("example=two&tab=draw&lesson=2&step=9", "it is a number from 1 to 4"),
+            ("example=two&tab=draw&step=2", "no lesson is named"),
+            ("example=two&tab=draw&lecture=8", "it is a number from 1 to 7"),
+        ):
+            faults = opened_by(place).address.faults()
+            self.note(place, why in faults, faults)
+
+    def test_names(self) -> None:
+        """An exercise has a name of its own in its lesson, by which its tick is kept; each goal is that of one."""
+        for number, lesson in enumerate(LESSONS, 1):
+            names = [step.exercise.name for step in lesson.steps if step.exercise]
+            self.same(f"lesson {number}", len(set(names)), len(names))
+            self.note("and some exercises", len(names) >= 3, names)
+        seen = {(n, one.exercise.name) for n, _, one in steps() if isinstance(one.exercise, Seen)}
+        self.same("goals", set(GOALS), seen)
+
+    def test_changed_pages(self) -> None:
+        """A page that is changed or missing stops nothing: the studio has all lessons all the same."""
+        with tempfile.TemporaryDirectory() as folder:
+            os.makedirs(os.path.join(folder, "docs", "learn"))
+            source = os.path.join(TOP, "docs", "learn", "LESSON_1.md")
+            with open(source, encoding="utf-8") as file:
+                changed = file.read().replace("# 1. ", "## Lesson one: ").replace("---", "")
+            target = os.path.join(folder, "docs", "learn", "LESSON_1.md")
+            with open(target, "w", encoding="utf-8") as file:
+                file.write(changed)
+            with mock.patch.object(table, "TOP", folder):
+                found = table.lessons()
+            shutil.rmtree(os.path.join(folder, "docs"))
+        self.same("all lessons", [one.title for one in found], [one.title for one in LESSONS])
+        self.note("its text", "Transmitters that interfere" in found[0].text, found[0].text[:80])
+        self.note("that of another one is missing", "isn't here" in found[1].text, found[1].text)
+
+
+class Judged(Case):
+    def test_right_answers(self) -> None:
+        """The right answers of the table, worked out from the definitions."""
+        ring, star, drops = example("four_cycle"), example("star"), example("drops")
+        petersen, path = example("petersen"), example("path")
+        higher = {v: w for (v, f), w in Rounds(ring).parents.items() if f == 0}
+        at = 1
+        while at in higher:
+            at = higher[at]
+        low = Network(star.nodes, star.edges, {9: 0})
+        nexts = {
+            bit(Network(2, [(1, 2)], {1: 0, 2: 1}), 0, {1: own, 2: other})[1]
+            for own in range(6)
+            for other in range(6)
+            if own != other
+        }
+        merge = [v for v, p in Rounds(example("triangle")).turns.items() if p == 22]
+        player = Stepwise(path, program_at("colouring"), ())
+        player.by_chance(10_000, "7", (), ())
+        results = {
+            name: list(ProgramRounds(net, program_at(name)).pulses[-1].results.values())
+            for name, net in (
+                ("matching", petersen),
+                ("independent-set", petersen),
+                ("recolouring", drops),
+            )
+        }
+        wanted = {
+            (1, "enough"): petersen.greatest_degree + 1,
+            (1, "rounds"): 4,
+            (2, "root"): at,
+            (2, "forests"): low.forest_count,
+            (3, "six"): max(nexts),
+            (4, "first"): merge[0][1],
+            (4, "identifiers"): 2,
+            (4, "pulse"): Rounds(ring).turns[1, 4],
+            (5, "neighbours"): 1,
+            (5, "ends"): 5,
+            (6, "events"): len(player.chosen),
+            (7, "alone"): 1,
+            (7, "pairs"): sum(one != "partner none" for one in results["matching"]) // 2,
+            (7, "in"): results["independent-set"].count("in"),
+            (7, "fewer"): len(set(results["recolouring"])),
+        }
+        asked = {
+            (n, step.exercise.name): step.exercise
+            for n, _, step in steps()
+            if isinstance(step.exercise, Said)
+        }
+        for name, exercise in asked.items():
+            if exercise.picks:
+                self.note(f"{name}: one of the picks", exercise.right in exercise.picks)
+            else:
+                self.same(f"{name}", exercise.right, str(wanted[name]))
+            right = verdict(*name, said=f"  {exercise.right.upper()} ")
+            self.same(f"{name}: right", (right.done, right.said), (True, exercise.answer))
+            others = [one for one in exercise.picks if one != exercise.right] or ["99", "", "x"]
+            for said in others:
+                found = verdict(*name, said=said)
+                self.note(f"{name}: {said} is wrong", not found.done, found)
+                self.note("without the answer", exercise.answer not in found.said, found)
+
+    def test_the_second_rule(self) -> None:
+        """Of the rules that can be picked it is the only one that gives no wrong inbox alone, but one with `acks`."""
+        exercise = LESSONS[5].steps[-1].exercise
+        assert isinstance(exercise, Said)
+        for rule in exercise.picks:
+            inboxes = [
+                "makes pulse" in said_by("explore", "two", "--without", rules)[1].split("\n")[0]
+                for rules in (rule, f"acks,{rule}")
+            ]
+            self.same(rule, inboxes == [False, True], rule == exercise.right)
+
+    def test_goals(self) -> None:
+        """What is done in the studio is done if and only if it is; what is said says how far it is."""
+        row = [(1, 3), (1, 4), (2, 4)]
+        of = words_of
+        triangle = [(1, 2), (1, 3), (2, 3)]
+        petersen = text_in("examples", "petersen.col")
+        path, two, chain = (
+            text_in("examples", f"{name}.col") for name in ("path", "two", "chain6")
+        )
+        held = Stepwise(example("chain6"), program_at("colouring"), ())
+        held.by_chance(300, "1", (), (1,))
+        far = "_".join(held.chosen)
+        rows: list[tuple[int, str, bool, str, dict[str, object]]] = [
+            (
+                1,
+                "proper",
+                True,
+                "3 channels",
+                {"network": petersen, "plan": (2, 3, 1, 2, 1, 3, 2, 2, 1, 3)},
+            ),
+            (
+                1,
+                "proper",
+                False,
+                "6 transmitters without",
+                {"network": petersen, "plan": (1, 2, 1, 2)},
+            ),
+            (1, "proper", False, "the same channel", {"network": petersen, "plan": (1,) * 10}),
+            (1, "row", True, "3 channels", {"network": of(row, 4)}),
+            (1, "row", False, "2 channels", {"network": of([(1, 2), (2, 3), (3, 4)], 4)}),
+            (1, "row", False, "aren't one row", {"network": of([(1, 2), (3, 4)], 4)}),
+            (1, "row", False, "aren't one row", {"network": of(triangle, 4)}),
+            (1, "row", False, "here are 5", {"network": of([*row, (2, 5)], 5)}),
+            (1, "row", False, "no node", {"network": of([], 0)}),
+            (1, "two", True, "2 rounds", {"network": of([(1, 3), (2, 3), (2, 4)], 4)}),
+            (1, "two", False, "4 rounds", {"network": of([(1, 2), (2, 3), (3, 4)], 4)}),
+            (1, "long", True, "0 to 21", {"network": of([(v, v + 1) for v in range(1, 400)], 400)}),
+            (1, "long", False, "no row", {"network": path}),
+            (1, "long", False, "no row", {"network": of([], 120)}),
+            (2, "centre", True, "8 forests", {"network": of(STAR, 9, "i 9 0")}),
+            (2, "centre", False, "1 forest", {"network": of(STAR, 9)}),
+            (2, "centre", False, "any more", {"network": path}),
+            (
+                4,
+                "bar",
+                True,
+                "node 3 has channel 2 instead of 1",
+                {"network": of(triangle, 3, "b 3 1")},
+            ),
+            (4, "bar", False, "isn't barred", {"network": of(triangle, 3, "b 1 1")}),
+            (5, "far", True, "5 of 5", {"network": chain, "steps": far}),
+            (5, "far", False, "0 of 5", {"network": chain, "steps": ""}),
+            (6, "pulse", True, "pulse 1", {"network": path, "steps": FIRST}),
+            (6, "pulse", False, "no node", {"network": path, "steps": FIRST[:-2]}),
+            (6, "apart", True, "2 of 2", {"network": two, "steps": APART, "without": "safes"}),
+            (6, "apart", False, "isn't possible", {"network": two, "steps": APART}),
+            (6, "wrong", True, "label 0", {"network": two, "steps": WRONG, "without": "safes"}),
+            (
+                6,
+                "wrong",
+                False,
+                "5 are enough",
+                {"network": two, "steps": "1-2_2-1_1-2_2-1_2_2", "without": "safes"},
+            ),
+        ]
+        for lesson, name, done, said, asked in rows:
+            found = verdict(lesson, name, **asked)
+            self.same(f"{lesson} {name}: {found.said}", found.done, done)
+            self.note(f"says {said}", said in found.said, found.said)
+
+    def test_refused(self) -> None:
+        for lesson, step in ((0, 1), (8, 1), (1, 99), (3, 1), (3, 2)):
+            with self.assertRaises(Fault):
+                judged(ExerciseCall(network="", lesson=lesson, step=step), tell)
+
+
+class Cards(Page):
+    """The cards on the page, by keys alone."""
+
+    def press(self, key: str, on: str = "") -> None:
+        """Presses a key on an element, which has to be one that a key can reach, or on the page."""
+        if on:
+            is_there = (
+                f"(() => {{ const e = document.querySelector({json.dumps(on)}); if (!e || e.tabIndex < 0 "
+                "|| !e.getClientRects().length || e.disabled) return false; e.focus(); "
+                "return document.activeElement === e; })()"
+            )
+            self.sees(f"{on} can be reached", is_there, 20)
+        else:
+            self.value("document.activeElement.blur()")
+        more = {"text": "\r"} if key == "Enter" else {"text": key} if len(key) == 1 else {}
+        self.page.key(
+            key, code=key, windowsVirtualKeyCode=KEYS.get(key, ord(key[0].upper())), **more
+        )
+
+    def type_in(self, on: str, words: str) -> None:
+        self.press("End", on)
+        self.page.ask("Input.insertText", text=words)
+        self.press("Enter", on)
+
+    def ticked(self, name: str) -> None:
+        self.sees(name, TICKED, 60)
+
+    def node(self, v: int) -> str:
+        return f"#net [data-node='{v}']"
+
+    def join(self, *pairs: tuple[int, int]) -> None:
+        for v, w in pairs:
+            before = self.value("studio.net.edges.length")
+            self.press("Enter", self.node(v))
+            self.press("Enter", self.node(w))
+            self.sees(f"{v} and {w}", f"studio.net.edges.length !== {before}", 20)
+
+    def step_to(self, lesson: int, step: int) -> None:
+        self.sees(
+            f"lesson {lesson} step {step}",
+            f"studio.seen.lesson === {lesson} && studio.seen.step === {step} && !studio.isFollowing() "
+            f"&& lesson.textContent.includes('step {step} of')",
+        )
+
+    def take(self, *taken: str) -> None:
+        """Makes steps of the adversary by their buttons."""
+        for step in taken:
+            made = self.value("studio.steps.made.length")
+            self.press("Enter", f"#possible [data-step='{step}']")
+            self.sees(step, f"studio.steps.made.length === {made + 1}", 20)
+
+    def do_seen(self, lesson: int, name: str) -> None:
+        """Does an exercise in the studio, by keys."""
+        if name == "proper":
+            for v, channel in enumerate((2, 3, 1, 2, 1, 3, 2, 2, 1, 3), 1):
+                self.press(str(channel), self.node(v))
+                self.sees(f"channel of {v}", f"studio.check.plan[{v - 1}] === {channel}", 20)
+                time.sleep(0.05)
+        elif name == "row":
+            for k in range(1, 5):
+                self.press("a")
+                self.sees("a node", f"studio.net.nodes.length === {k}", 20)
+            self.join((3, 1), (1, 4), (4, 2))
+        elif name == "two":
+            self.join((1, 2), (3, 4), (1, 3), (2, 4))
+        elif name == "long":
+            self.value("make.querySelector('select').focus()")
+            self.value(
+                "make.querySelector('select').value = 'path'; make.querySelector('select').onchange()"
+            )
+            self.value("make.querySelector('[name=nodes]').value = ''")
+            self.type_in("#make [name=nodes]", "400")
+        elif name in ("centre", "bar"):
+            label = "identifier" if name == "centre" else "barred channels"
+            self.value(
+                "Array.from(document.querySelectorAll('#chosen label')).find(one => "
+                f"one.textContent.startsWith('{label}')).querySelector('input').id = 'field'"
+            )
+            self.type_in("#field", "0" if name == "centre" else "1")
+        elif name == "far":
+            self.press("Enter", "[data-key='hold 1']")
+            for _ in range(12):
+                if not self.value(TICKED):
+                    before = self.value("studio.steps.made.length")
+                    self.press("Enter", "#chance20")
+                    self.page.until(f"studio.steps.made.length > {before} || chance20.disabled", 20)
+                    time.sleep(0.3)
+        else:
+            made = {"pulse": FIRST, "apart": APART, "wrong": WRONG}[name]
+            self.take(*made.split("_"))
+
+    def do_predicted(self, lesson: int, name: str) -> None:
+        if name == "waits":
+            for one in ("ack 3", "safe 2", "safe 3"):
+                self.press(" ", f"#question2 [value='{one}']")
+            self.press("Enter", "#question2 form button")
+            return
+        answers = {"bit": "2", "root": "0", "again": "3", "shift": "5", "drop": "2", "turn": "3"}
+        self.type_in("#question input", answers.get(name, "partner 1"))
+
+    def do(self, lesson: int, exercise: Said | Seen | Predicted) -> None:
+        if isinstance(exercise, Seen):
+            self.do_seen(lesson, exercise.name)
+        elif isinstance(exercise, Predicted):
+            self.do_predicted(lesson, exercise.name)
+        elif exercise.picks:
+            k = exercise.picks.index(exercise.right) + 1
+            self.press("Enter", f"#lesson form button:nth-of-type({k})")
+        else:
+            self.type_in("#lesson form input", exercise.right)
+
+    def test_all_lessons(self) -> None:
+        """Each lesson is gone through by N alone, and each exercise done by keys; its hint and its answer are its own;
+        the ticks stay."""
+        self.value("localStorage.removeItem('studio-ticks')")
+        self.open()
+        self.go_to("lesson=1")
+        for number, k, step in steps():
+            self.step_to(number, k)
+            self.reads("no fault", "wrong.textContent", "")
+            if step.exercise:
+                self.own_words(step.exercise)
+                self.reads("not done yet", f"Boolean({TICKED})", False)
+                self.do(number, step.exercise)
+                self.ticked(f"{number} {step.exercise.name}")
+            self.press("n")
+        self.open()
+        self.go_to("lesson=1")
+        self.step_to(1, 1)
+        self.sees("all are ticked", "lesson.querySelectorAll('.all a').length === 7")
+        said = self.value("Array.from(lesson.querySelectorAll('.all a'), one => one.textContent)")
+        self.same("ticks", said, [f"{n}✓" for n in range(1, 8)])
+        self.ticked("and so is its exercise")
+        menu = self.value(
+            "Array.from(document.querySelectorAll('#lessons option')).slice(1)"
+            ".map(one => one.textContent.endsWith('✓'))"
+        )
+        self.same("in the menu, too", menu, [True] * 7)
+
+    def own_words(self, exercise: Said | Seen | Predicted) -> None:
+        """The hint and the answer are those of this exercise; they are read only when they are opened."""
+        parts = "Array.from(lesson.querySelectorAll('.exercise details'))"
+        before = self.value(f"{parts}.map(one => one.textContent)")
+        self.same("closed", before, ["a hint", "the answer"])
+        self.value(f"{parts}.forEach(one => {{ one.open = true; }})")
+        self.page.until(f"{parts}.every(one => one.children.length > 1)", 10)
+        for said, wanted in zip(
+            self.value(f"{parts}.map(one => one.textContent)"), (exercise.hint, exercise.answer)
+        ):
+            plain = "".join(re.sub(r"[*`]", "", wanted).split())
+            self.note("its own words", plain in "".join(said.split()), said)
+        self.value(f"{parts}.forEach(one => {{ one.open = false; }})")
+
+    def open(self) -> None:
+        self.page.go("about:blank")
+        self.page.go(self.address)
+        self.page.until("window.studio && studio.seen.hello && !studio.isFollowing()", 40)
+
+    def test_arrows(self) -> None:
+        """Arrows lead on, back, and over the ends of lessons; the browser's Back leads back, too."""
+        self.go_to("lesson=2")
+        self.step_to(2, 1)
+        self.click_on("#lesson [data-way=on]")
+        self.step_to(2, 2)
+        self.click_on("#lesson [data-way=back]")
+        self.step_to(2, 1)
+        self.value("history.back()")
+        self.step_to(2, 2)
+        self.go_to("lesson=2&step=4")
+        self.step_to(2, 4)
+        self.click_on("#lesson [data-way=on]")
+        self.step_to(3, 1)
+        self.press("p")
+        self.step_to(2, 4)
+        self.go_to("lesson=1")
+        self.step_to(1, 1)
+        self.reads(
+            "no way back from the first", "lesson.querySelector('[data-way=back]').hidden", True
+        )
+        self.go_to("lesson=7&step=5")
+        self.step_to(7, 5)
+        self.reads("no way on from the last", "lesson.querySelector('[data-way=on]').hidden", True)
+        self.click_on("#lesson .all a:nth-of-type(3)")
+        self.step_to(3, 1)
+
+    def test_a_step_that_goes_on(self) -> None:
+        """A step without a place of its own keeps what was drawn."""
+        self.go_to("lesson=1&step=5")
+        self.step_to(1, 5)
+        self.join((1, 4))
+        self.press("n")
+        self.step_to(1, 6)
+        self.reads("the drawing is there", "studio.net.edges.length", 4)
+        self.sees(
+            "and judged",
+            "lesson.textContent.includes('aren’t one row') || lesson.textContent.includes(\"aren't one row\")",
+        )
+        self.sees("its address", "/lesson=1&step=6/.test(location.hash)")
+
+    def test_elsewhere(self) -> None:
+        """In another tab the card has only its title and the way back."""
+        self.go_to("lesson=2&step=1")
+        self.step_to(2, 1)
+        self.click_on("header [data-tab=check]")
+        shown = "lesson.querySelector('.instruction').getClientRects().length"
+        self.sees("no instruction", f"!{shown} && studio.seen.tab === 'check'")
+        self.click_on("#lesson .away")
+        self.sees("it is there again", f"{shown} && studio.seen.tab === 'rounds'")
+        self.click_on("#lesson .head button")
+        self.reads("closed", "lesson.hidden", True)
+        self.sees("and not in the address", "!/lesson/.test(location.hash)")
+
+    def test_wrong_answers(self) -> None:
+        """A wrong answer is said to be none, without the right one."""
+        self.value("localStorage.removeItem('studio-ticks')")
+        self.open()
+        self.go_to("lesson=1")
+        self.step_to(1, 1)
+        self.type_in("#lesson form input", "3")
+        self.sees("not yet", "lesson.querySelector('.judged').textContent.includes('Not yet')")
+        said = self.value("lesson.querySelector('.judged').textContent")
+        self.note("only that", "3" in said and "four" not in said.lower(), said)
+        self.type_in("#lesson form input", "")
+        self.value("lesson.querySelector('form input').value = ''")
+        self.press("Enter", "#lesson form button")
+        self.sees("missing", "lesson.querySelector('.judged').textContent.includes('missing')")
+        self.go_to("lesson=3&step=2")
+        self.step_to(3, 2)
+        self.sees("a question", "document.querySelector('#question input')")
+        for answer in ("7", "6"):
+            self.value("document.querySelector('#question input').value = ''")
+            self.type_in("#question input", answer)
+            self.sees(answer, f"/{answer}/.test(question.lastElementChild.textContent)")
+        self.reads("a prediction that is told isn't done", f"Boolean({TICKED})", False)
+
+    def test_whole_texts(self) -> None:
+        """Each lesson has its whole text with its pictures."""
+        for number in range(1, 8):
+            self.go_to(f"lesson={number}")
+            self.step_to(number, 1)
+            part = "lesson.querySelector(':scope > details')"
+            self.value(f"{part}.open = true")
+            self.sees("opened", f"{part}.children.length > 5")
+            said = self.page.text("lesson")
+            left = [mark for mark in ("](", "**", "    $", "\n|") if mark in said]
+            self.note(f"lesson {number} has no marks of its source", not left, left)
+            pictures = "Array.from(document.querySelectorAll('#lesson img'))"
+            self.sees("its pictures", f"{pictures}.every(one => one.naturalWidth)")
+
+    def test_where_nothing_is_kept(self) -> None:
+        """A browser that refuses to keep anything shows the lessons all the same, and says that ticks go."""
+        script = self.page.ask("Page.addScriptToEvaluateOnNewDocument", source=NOTHING_KEPT)
+        self.addCleanup(self.open)
+        self.addCleanup(self.page.ask, "Page.removeScriptToEvaluateOnNewDocument", **script)
+        self.page.go("about:blank")
+        self.page.go(self.address + "#lesson=1")
+        self.sees("it opens", "window.studio && studio.seen.hello && !studio.isFollowing()")
+        self.step_to(1, 1)
+        self.type_in("#lesson form input", "4")
+        self.ticked("it is ticked")
+        self.sees("and said not to be kept", "lesson.textContent.includes('keeps no ticks')")
+
+    def test_spoilt(self) -> None:
+        """What somebody else has kept under the name of the ticks harms nothing."""
+        for words in ("{", "7", '{"a": 1}', "[7, null]", '["1.enough"]'):
+            self.value(f"localStorage.setItem('studio-ticks', {json.dumps(words)})")
+            self.open()
+            self.go_to("lesson=1")
+            self.step_to(1, 1)
+            self.reads(words, f"Boolean({TICKED})", words == '["1.enough"]')
+        self.value("localStorage.removeItem('studio-ticks')")
+
+    def test_lecture(self) -> None:
+        """Each place of the lecture has its words, and arrows on and back; the address says which it is."""
+        self.go_to("lecture=1")
+        for k, place in enumerate(LECTURE, 1):
+            self.sees(f"place {k}", f"studio.seen.lecture === {k} && !studio.isFollowing()")
+            where = f"{k} of {len(LECTURE)}, minutes {place.minutes}"
+            self.sees("its minutes", f"lesson.textContent.includes({json.dumps(where)})")
+            said = "".join(self.page.text("lesson").split())
+            self.note("its words", "".join(re.sub("[*`]", "", place.say).split()) in said, said)
+            self.reads("its tab", "studio.seen.tab", table.tab_of(place.place))
+            self.sees("its address", f"location.hash.includes('lecture={k}')")
+            if k < len(LECTURE):
+                self.press("PageDown")
+        self.reads("no further one", "lesson.querySelector('[data-way=on]').hidden", True)
+        self.press("p")
+        self.sees("back", f"studio.seen.lecture === {len(LECTURE) - 1}")
+        self.page.choose("lecture", "5")
+        self.sees("from the menu", "studio.seen.lecture === 5 && studio.time.at === 13")
+        self.go_to("lesson=2")
+        self.step_to(2, 1)
+        self.reads("a lesson is no lecture", "studio.seen.lecture", None)
+
+    def test_zz_no_script_complained(self) -> None:
+        self.same("no script complained", self.page.faults, [])
