@@ -11,7 +11,7 @@ from lab.studio.answers import TabName
 from tests.pages.test_studio_page import Page
 from tests.programs.test_addresses import TWO, random_state, rounded, stored
 
-STATES, SEED = 24, 5
+STATES, SEED = 24, 331
 # What the page shows, and what is in its fields.
 STATE = """(() => { const {net, seen, run, rounds, check, steps} = studio, by = id => document.getElementById(id);
   const {tab, program, passes, root, slow, lazy, node, lesson, lecture} = seen, isRun = tab === "run";
