@@ -18,6 +18,8 @@ pub mod Asides
 pub mod Whole
 pub mod Counts
 pub mod Progress
+mod Bare
+mod Start
 pub mod Held
 pub mod Merged
 pub mod Merges

@@ -3,6 +3,7 @@ pub mod Meets
 pub mod Full
 pub mod MergedRuns
 pub mod Outcome
+pub mod Start
 pub mod Laws
 pub mod Whole
 pub mod Counts

@@ -10,6 +10,7 @@ ghost use Rattle.outcomes.specs.Laws.{MetNodesSimulate};
 ghost use Rattle.outcomes.specs.Merged.{WholeOutcomesReplay};
 ghost use Rattle.outcomes.specs.MergedRuns.{MergedRunsReplay, MetNodesAreWritten, MetRunsReplay, WholeRunsReplay};
 ghost use Rattle.outcomes.specs.Progress.{OutcomesAreBounded, OutcomesCanGoOn, WholeOutcomesHaveEnded};
+ghost use Rattle.outcomes.specs.Start.{StartsAreOutcomes, WhenStartsAreWhole};
 ghost use Rattle.outcomes.specs.Whole.{WholeOutcomesAreComplete};
 ghost use Rattle.interference.specs.Net.{IsNetwork, Net};
 
@@ -17,6 +18,14 @@ ghost use Rattle.interference.specs.Net.{IsNetwork, Net};
 /// simulate the synchronous run.
 pub fn met_nodes_simulate<S, M, E>()
     ensures law { (program : Program S M E) → OnEveryNetwork program (MetNodesSimulate program) }
+{}
+
+/// There are outcomes, of every program that keeps its laws and on every network, over links of any capacity, with a
+/// transcript and without: the start, in which no node has made an event, is one. It is whole exactly if the last pulse
+/// is 0 and no node has a neighbour, or if there is no node.
+pub fn starts_are_outcomes<S, M, E>()
+    ensures law { (program : Program S M E) → OnEveryNetwork program (StartsAreOutcomes program) }
+    ensures whole { (program : Program S M E) → OnEveryNetwork program (WhenStartsAreWhole program) }
 {}
 
 /// If an outcome is whole, every node has halted, all that was put on each link was taken from it, and the list of each
