@@ -7,7 +7,9 @@
 //!
 //! ```text
 //! let made = make_links::<P>(alloc, &network, options.capacity.min(2) as usize)?;
-//! let ran = start_and_run::<J, P, OpenGate, _>(&rt, alloc, &network, options, &OpenGate, made)?;
+//! let ran = start_and_run::<J, P, OpenGate, Unobserved, _>(
+//!     &rt, alloc, &network, options, &OpenGate, &Unobserved, made,
+//! )?;
 //! ```
 //!
 //! Limits: `MAX_WORKERS` and `MAX_CAPACITY`. Without a transcript no turn can return out-of-memory. Nothing is promised

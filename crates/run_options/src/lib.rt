@@ -18,7 +18,7 @@ pub use fault::{PoolFault, RunFault};
 /// The greatest number of workers.
 pub const MAX_WORKERS: u32 = 64;
 
-/// The greatest number of wires that a link holds.
+/// The greatest capacity of a link that may be asked for. A run never has more than two wires on a link.
 pub const MAX_CAPACITY: u32 = 64;
 
 /// The greatest number of looks of a worker that the command line takes; `node_pool` has no limit.
@@ -36,7 +36,7 @@ const _: () = prove!(
 pub struct Options {
     /// The number of worker threads, 1 to `MAX_WORKERS`.
     pub workers: u32,
-    /// How many wires a link holds at most, 1 to `MAX_CAPACITY`.
+    /// How many wires a link may hold, 1 to `MAX_CAPACITY`. Above 2 it changes nothing, since no link ever holds more.
     pub capacity: u32,
     /// How often each worker looks for a node at most; a look that finds none counts.
     pub turns: u64,
