@@ -19,7 +19,8 @@ pub record StoodAfter {S M E : Type 0} (program : Program S M E) (net : Net) (v 
   pub stood : Stands program net v node
       (λ i. puts_in first (neighbour_of net v i)) (λ i. takes_in first (neighbour_of net v i))
 
--- If a node stands and some entries are all that it did, it stood after each prefix of them, too.
+-- If a node stands and some entries, its own or others, lead from its start to what it is, it stood after each prefix
+-- of them, too.
 abbrev pub PrefixesStand : {S M E : Type 0} → Program S M E → Net → Type 0
 PrefixesStand {S} {M} program net =
     (v : ℕ) (node : Node S M) (puts takens : ℕ → List (Wire M)) (entries first after : List (Entry M))

@@ -4,8 +4,8 @@ ghost use Rattle.node_api.specs.Program.{Program};
 ghost use Rattle.alpha_laws.specs.Laws.{OnEveryNetwork};
 ghost use Rattle.wired_nodes.specs.Prefixes.{PrefixesStand};
 
-/// A node that stands stood after each of its events, too: every prefix of the entries that are all that it did leads
-/// to a node that stands, with the lists that the prefix put and took.
+/// If a node stands, and entries lead from its start to what it is, each prefix of these entries leads to a node that
+/// stands, with the lists that the prefix put and took. The entries may be the node's own, or others that lead there.
 pub fn prefixes_stand<S, M, E>()
     ensures law { (program : Program S M E) → OnEveryNetwork program (PrefixesStand program) }
 {}
