@@ -31,7 +31,7 @@ OPTIONS: dict[str, tuple[str, Callable[[int], Program]]] = {
 # How often recolouring may choose anew.
 MAX_PASSES = 64
 # What takes a file whose nodes react to messages, too.
-TAKE_BOTH = "only `explore` takes such a file"
+TAKE_BOTH = "only `explore`, `simulate`, `transcript check` and `picture run` take such a file"
 HELP = f"what the nodes run: {', '.join(PROGRAMS)}, or a file of your own, as NAME.py; default: colouring"
 
 

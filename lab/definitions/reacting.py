@@ -19,6 +19,7 @@ from inspect import signature
 
 from lab.definitions.events import ACT, Kind, Message
 from lab.definitions.machine import NetState, Node, Outgoing
+from lab.definitions.nodes import alpha_start
 from lab.definitions.own_program import (
     AGAIN,
     LoadedFile,
@@ -264,6 +265,11 @@ class Reacting:
 
 
 AnyProgram = Program | Reacting
+
+
+def start_of(net: Network, program: AnyProgram) -> NetState[Node]:
+    """The machine at its start, whose nodes run a program: without rounds, or under the synchroniser."""
+    return program.start(net) if isinstance(program, Reacting) else alpha_start(net, program)
 
 
 def words_taken(file: ProgramFile) -> list[str]:

@@ -15,7 +15,14 @@ from lab import programs
 from lab.definitions.colours import plan_text as plan_by_definition
 from lab.definitions.nodes import COLOURING
 from lab.definitions.program import Program
-from lab.definitions.programs import add_program, program_asked, program_words
+from lab.definitions.programs import (
+    add_program,
+    any_program_asked,
+    by_rounds,
+    program_asked,
+    program_words,
+)
+from lab.definitions.reacting import Reacting
 from lab.definitions.rounds import Rounds
 from lab.faults import Fault, at_most
 from lab.network import Network
@@ -30,6 +37,7 @@ from lab.pictures import (
     plan_picture,
     player_page,
     program_picture,
+    reacting_picture,
     results_picture,
     rounds_picture,
     run_picture,
@@ -224,7 +232,8 @@ KINDS = {
     "run": PictureKind(
         "Space and time of a run without a clock: what each node put, took and did, above its rounds.",
         "Above 6 nodes, payloads alone unless --only says more. Without a stored text two calls differ, as the\n"
-        "runs do. With --wrong, a text that is refused, up to what is wrong.",
+        "runs do. With --wrong, a text that is refused, up to what is wrong. Of a file whose nodes react to\n"
+        "messages, without rounds: the messages, and what each node has found, where that changes.",
         "forestlab picture run examples/chain6.col --pulses 3..5 --transcript \\\n"
         "    examples/chain6_slow.transcript > chain6_slow-spacetime.svg",
         draw_run,
@@ -462,6 +471,23 @@ def run_text(kind: str, network: Network, network_text: bytes, program: Program)
     return programs.text_of("forestplay", words, network_text)
 
 
+def reacting_run(given: Namespace, network: Network, program: Reacting) -> str:
+    """The picture of a run of nodes that react to messages: of a stored one, or of one by a seed."""
+    for option in ("pulses", "only", "wrong", "stopped"):
+        if getattr(given, option):
+            raise Fault(
+                f"--{option} is for runs of rounds, and the nodes of {program.name} make none"
+            )
+    at_most("run", network.nodes, "nodes", *(KINDS["run"].most or (0, "")))
+    if given.stored:
+        text = Text(text_name(given.stored[0]), text_at(given.stored[0], MOST_OF_TRANSCRIPT))
+    else:
+        made = played(network, program=program)
+        text = Text(network.name, text_of_run(network.nodes, made, program))
+    order, _ = ordered(text.text, text.name, network, program)
+    return reacting_picture.draw(given.title or stem(text.name), network, program, order.made)
+
+
 def progress(states: int, events: int) -> None:
     note(f"{states:,} states, up to {events} events")
 
@@ -480,7 +506,10 @@ def drawn(given: Namespace) -> str:
     data = network_bytes(given.network)
     of.network = network = network_of(data, text_name(given.network))
     network.name = given.title or ("this network" if given.network == "-" else network.name)
-    of.program = program_asked("picture", given, network)
+    program = any_program_asked("picture", given, network)
+    if isinstance(program, Reacting) and given.kind == "run":
+        return reacting_run(given, network, program)
+    of.program = by_rounds(program)
     of.texts = [Text(text_name(path), text_at(path, MOST_OF_TRANSCRIPT)) for path in stored]
     of.written = lambda form: (
         plan_text(network, data)

@@ -7,9 +7,10 @@ from typing import NamedTuple
 
 from lab.definitions.events import Entry, Kind, Message
 from lab.definitions.program import Program
+from lab.definitions.reacting import AnyProgram
 from lab.faults import Fault, wrong_line
 from lab.network import Edge, Network
-from lab.transcripts.check import Found, find_order
+from lab.transcripts.check import Found, check_form, find_order
 from lab.transcripts.reading import WrongEntry, read_to_fault
 
 # How many steps of time a pulse of the rounds takes.
@@ -132,12 +133,13 @@ def wires_of(made: list[Entry]) -> list[Wire]:
 
 
 def ordered(
-    text: str, name: str, network: Network, program: Program, is_wrong_drawn: bool | None = False
+    text: str, name: str, network: Network, program: AnyProgram, is_wrong_drawn: bool | None = False
 ) -> tuple[Found, tuple[Entry, WrongEntry] | None]:
     """The order that is found of the entries, which are then by stamp; and the first one that isn't possible, with what
     is wrong, if that is drawn, and else refused."""
     try:
         head, read, fault = read_to_fault(text.encode(), program.name)
+        check_form(head, program)
     except WrongEntry as why:
         raise Fault(f"{name} {why}") from None
     if head.nodes != network.nodes:

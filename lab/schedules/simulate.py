@@ -8,21 +8,23 @@ import sys
 from collections import defaultdict, deque
 from collections.abc import Collection, Iterable, Iterator
 from functools import partial
+from itertools import islice
 from typing import Generic
 
-from lab.definitions.events import PULSE, PUT, TAKE, Entry, Event, Kind, Message
-from lab.definitions.machine import AnyNode, NetState, Refused, missing_words
+from lab.definitions.events import ACT, PULSE, PUT, TAKE, Entry, Event, Kind, Message
+from lab.definitions.machine import AnyNode, NetState, Node, Refused, missing_words
 from lab.definitions.nodes import COLOURING, AlphaNode, alpha_start
-from lab.definitions.own_program import check_repeats, wrong_end
+from lab.definitions.own_program import check_repeats, what_is_wrong, wrong_end
 from lab.definitions.program import Program
-from lab.definitions.programs import add_program, program_asked
+from lab.definitions.programs import add_program, any_program_asked
+from lab.definitions.reacting import AnyProgram, Reacting, check_reactions, results_in
 from lab.faults import Fault, wrong_line
 from lab.network import Edge, Network
 from lab.networks.fields import shown
 from lab.networks.sources import network_at
 from lab.schedules.policies import POLICIES, Policy, Step
 from lab.schedules.ruled_node import RuledNode
-from lab.transcripts.fields import first_line
+from lab.transcripts.fields import first_line, first_line_of_reactions
 from lab.transcripts.reading import line_of
 from lab.transcripts.stamps import Clock, unfinished
 from lab.words import add_output, add_seed, as_text, parser_of, text_at, text_name, write
@@ -47,7 +49,8 @@ The policies; those that choose an edge or a node choose it by the seed:
 
 The transcript is of edition 2, as `forestplan transcript` writes it, or of another
 program of edition 3, which names it, so that `forestlab transcript`, `forestlab
-picture` and `forestplay replay` read it. NETWORK is a file
+picture` and `forestplay replay` read it. Of a file whose nodes react to messages,
+without rounds, it is of edition 4, with `act` instead of `pulse`. NETWORK is a file
 in the DIMACS format, - for standard input, or a name, as petersen or path5. 4,500 entries
 (petersen) take half a second, and half a million one to several minutes.
 
@@ -67,8 +70,10 @@ Examples:
 
 
 EVENT = re.compile(
-    r"(pulse) ([0-9]{1,10})|(put(?! \S+ \S+ )|take) ([0-9]{1,10}) ([0-9]{1,10})(?: ([0-9]{1,10}))?"
+    r"(pulse|act) ([0-9]{1,10})|(put(?! \S+ \S+ )|take) ([0-9]{1,10}) ([0-9]{1,10})(?: ([0-9]{1,10}))?"
 )
+# Nodes without rounds may go on for ever. A run with more entries is said to have no end.
+MOST_ENTRIES = 500_000
 
 
 # Of the put or the take of a wire by a link, or of a node's own step, for which the neighbour is 0.
@@ -170,21 +175,36 @@ def played(
     seed: str = "1",
     slow: Collection[Edge] = (),
     lazy: Collection[int] = (),
-    player: AlphaPlayer | None = None,
-    program: Program = COLOURING,
+    player: Player[Node] | None = None,
+    program: AnyProgram = COLOURING,
 ) -> list[Entry]:
     """The entries of a run of a program on a network, in the order in which they were made; `player` may be on its
     way."""
-    player = player or AlphaPlayer(net, program)
-    for _ in player.entries(Policy(policy, net.vertices, net.edges, seed, slow, lazy)):
+    player = player or player_of(net, program)
+    entries = player.entries(Policy(policy, net.vertices, net.edges, seed, slow, lazy))
+    if isinstance(program, Reacting):
+        entries = islice(entries, MOST_ENTRIES)
+    for _ in entries:
         pass
+    if player.next_steps():
+        raise Fault(f"the run hasn't ended after {MOST_ENTRIES:,} entries")
     return player.made
 
 
-def events_of(text: str, name: str, overtakes: bool = False) -> Iterator[tuple[int, Event]]:
+def player_of(net: Network, program: AnyProgram) -> Player[Node]:
+    """A run of a program that hasn't begun."""
+    if isinstance(program, Program):
+        return AlphaPlayer(net, program)
+    check_reactions(net, program)
+    return Player(program.start(net))
+
+
+def events_of(
+    text: str, name: str, overtakes: bool = False, own: Kind = PULSE
+) -> Iterator[tuple[int, Event]]:
     """(line, event) of each event of a list; a note after a colon, as `forestlab explore` writes
-    it, is passed over. If links don't keep their order, a take may overtake `place` wires; else that is refused.
-    """
+    it, is passed over. If links don't keep their order, a take may overtake `place` wires; else that is refused. `own`
+    is the kind of the nodes' own steps."""
     for line, raw in enumerate(text.split("\n"), 1):
         event, _, note = raw.partition(":")
         words = event.split()
@@ -201,21 +221,23 @@ def events_of(text: str, name: str, overtakes: bool = False) -> Iterator[tuple[i
             )
             raise wrong_line(name, line, refusal)
         found = EVENT.fullmatch(" ".join(words))
-        if found is None:
+        if found is None or found[1] not in (None, own.value):
             raise wrong_line(name, line, f"`{shown(raw.strip())}` is no event (NoEvent)")
-        pulse, node, kind, v, port, place = found.groups()
-        if pulse:
-            yield line, Event(PULSE, int(node))
+        step, node, kind, v, port, place = found.groups()
+        if step:
+            yield line, Event(own, int(node))
         else:
             yield line, Event(Kind(kind), int(v), int(port), place=int(place or 0))
 
 
-def text_of_run(nodes: int, entries: Iterable[Entry], program: Program = COLOURING) -> str:
+def text_of_run(nodes: int, entries: Iterable[Entry], program: AnyProgram = COLOURING) -> str:
     """The transcript with stamps of a program: its lines by stamp, and lines of one stamp by node."""
     lines = [
         f"{entry.stamp} {line_of(entry)}"
         for entry in sorted(entries, key=lambda one: (one.stamp, one.node))
     ]
+    if isinstance(program, Reacting):
+        return as_text([first_line_of_reactions(nodes, program.name), *lines])
     return as_text([first_line(nodes, program.name), *lines])
 
 
@@ -280,20 +302,30 @@ def check_names(net: Network, given: Namespace) -> None:
             raise Fault(f"{net.name} has no node {v}: its nodes are 1 to {net.nodes}")
 
 
-def run_asked(net: Network, given: Namespace, program: Program) -> list[Entry]:
-    """The entries of the run that the command line asks for; a list that ends early is said."""
-    if not given.events:
-        return played(net, given.policy, given.seed, given.slow, given.lazy, program=program)
-    player, name = AlphaPlayer(net, program), text_name(given.events)
-    player.play_events(events_of(text_at(given.events), name), name)
-    if given.to_the_end:
-        return played(net, given.policy, given.seed, given.slow, given.lazy, player)
-    if left := next(unfinished(player.state), None):
+def run_asked(net: Network, given: Namespace, program: AnyProgram) -> Player[Node]:
+    """The run that the command line asks for; a list that ends early is said."""
+    player = player_of(net, program)
+    if given.events:
+        name, own = text_name(given.events), ACT if isinstance(program, Reacting) else PULSE
+        player.play_events(events_of(text_at(given.events), name, own=own), name)
+    if given.to_the_end or not given.events:
+        played(net, given.policy, given.seed, given.slow, given.lazy, player, program)
+    elif left := next(unfinished(player.state), None):
         print(
             f"simulate: after the last event {left[1]}; --to-the-end plays the rest",
             file=sys.stderr,
         )
-    return player.made
+    return player
+
+
+def wrong_at_end(net: Network, program: AnyProgram, player: Player[Node]) -> str:
+    """What the file of a program says that isn't right at the end; nothing if it is right, or if a run of nodes without
+    rounds isn't at its end."""
+    if isinstance(program, Program):
+        return wrong_end(net, program)
+    if player.next_steps():
+        return ""
+    return what_is_wrong(net, program.file, results_in(player.state))
 
 
 def main(words: list[str]) -> int:
@@ -305,8 +337,9 @@ def main(words: list[str]) -> int:
         line.error("standard input is one file, not two")
     net = network_at(given.network)
     check_names(net, given)
-    program = program_asked("simulate", given, net)
-    write(given, text_of_run(net.nodes, run_asked(net, given, program), program))
-    if why := wrong_end(net, program):
+    program = any_program_asked("simulate", given, net)
+    player = run_asked(net, given, program)
+    write(given, text_of_run(net.nodes, player.made, program))
+    if why := wrong_at_end(net, program, player):
         print(f"simulate: what the nodes find at the end isn't right: {why}", file=sys.stderr)
     return int(bool(why))

@@ -2,17 +2,19 @@
 
 A transcript of edition 1 has the entries of each node in that node's own order, and says nothing of the order
 between nodes. This program looks for an order of all entries that is a run, and demands that the run is whole. One
-of edition 2 or 3 has an order, and stamps."""
+of edition 2, 3 or 4 has an order, and stamps."""
 from collections import deque
 from dataclasses import replace
 
-from lab.definitions.events import PUT, Entry, Message
+from lab.definitions.events import ACT, PUT, Entry, Message
 from lab.definitions.machine import Refused, make
-from lab.definitions.nodes import COLOURING, alpha_start
+from lab.definitions.nodes import COLOURING
+from lab.definitions.own_program import what_is_wrong
 from lab.definitions.program import Program
+from lab.definitions.reacting import AnyProgram, Reacting, results_in, start_of
 from lab.network import Network
 from lab.transcripts.fields import fields_of
-from lab.transcripts.reading import WrongEntry, read_to_fault
+from lab.transcripts.reading import Head, WrongEntry, read_to_fault
 from lab.transcripts.stamps import Clock, check_whole, refusal, unfinished
 
 
@@ -21,9 +23,9 @@ class Found:
     them; and of each node whose entries can't all be made, those that are `left`, and the code of the refusal of the
     first one."""
 
-    def __init__(self, net: Network, entries: list[Entry], program: Program) -> None:
+    def __init__(self, net: Network, entries: list[Entry], program: AnyProgram) -> None:
         self.entries, self.is_stamped = entries, bool(entries) and entries[0].stamp is not None
-        self.state, self.clock = alpha_start(net, program), Clock(net.neighbours)
+        self.state, self.clock = start_of(net, program), Clock(net.neighbours)
         self.made: list[Entry] = []
         self.left: dict[int, deque[Entry]] = {}
         self.refusals: dict[int, str] = {}
@@ -76,7 +78,7 @@ class Found:
         return not self.refusals and not any(unfinished(self.state))
 
 
-def find_order(net: Network, entries: list[Entry], program: Program = COLOURING) -> Found:
+def find_order(net: Network, entries: list[Entry], program: AnyProgram = COLOURING) -> Found:
     """Makes the entries in their order, if they have stamps, and else the next one of any node as long as one is
     possible.
 
@@ -111,10 +113,23 @@ def find_order(net: Network, entries: list[Entry], program: Program = COLOURING)
     return found
 
 
-def whole_run(net: Network, text: bytes, program: Program = COLOURING) -> tuple[list[int], str]:
+def check_form(head: Head, program: AnyProgram) -> None:
+    """Refuses a transcript of rounds for a program without rounds, and the other way round."""
+    if isinstance(program, Reacting) and head.own is not ACT:
+        what = f"edition {head.edition} is of rounds, and the nodes of {program.name} react to messages: edition 4"
+        raise WrongEntry(head.line, "WrongProgram", what)
+    if isinstance(program, Program) and head.own is ACT:
+        what = (
+            f"edition 4 is of nodes that react to messages, and those of {program.name} make rounds"
+        )
+        raise WrongEntry(head.line, "WrongProgram", what)
+
+
+def whole_run(net: Network, text: bytes, program: AnyProgram = COLOURING) -> tuple[list[int], str]:
     """The lines of the entries in an order that is a run, and the verdict on a transcript of a program on a network; or
-    `WrongEntry`."""
+    `WrongEntry`, also if the end isn't right of nodes that react to messages."""
     head, entries, fault = read_to_fault(text, program.name)
+    check_form(head, program)
     if head.nodes != net.nodes:
         raise WrongEntry(
             head.line, "Nodes", f"the transcript has {head.nodes} nodes, the network {net.nodes}"
@@ -123,16 +138,28 @@ def whole_run(net: Network, text: bytes, program: Program = COLOURING) -> tuple[
     if wrong := found.wrong(fault):
         raise wrong
     check_whole(found.state, entries[-1] if entries else head)
-    return [entry.line for entry in found.made], verdict(net, entries)
+    said = verdict(net, entries, head)
+    if isinstance(program, Reacting):
+        if why := what_is_wrong(net, program.file, results_in(found.state)):
+            raise not_right(said, why)
+    return [entry.line for entry in found.made], said
 
 
-def verdict(net: Network, entries: list[Entry]) -> str:
+def not_right(said: str, why: str) -> WrongEntry:
+    """Of a whole run whose end the file of the program doesn't call right."""
+    return WrongEntry(None, "NotRight", f"{said}, whose nodes find what isn't right: {why}")
+
+
+def verdict(net: Network, entries: list[Entry], head: Head) -> str:
     """Of a whole run: each wire is put once."""
     puts = [
         entry.what for entry in entries if entry.kind is PUT and isinstance(entry.what, Message)
     ]
+    whole = f"whole run of {net.nodes} nodes, {len(entries)} entries"
+    if head.own is ACT:
+        return f"{whole}, {len(puts)} messages"
     payloads = sum(wire.word == "payload" for wire in puts)
-    return f"whole run of {net.nodes} nodes, {len(entries)} entries, {payloads} payloads, {len(puts)} wires"
+    return f"{whole}, {payloads} payloads, {len(puts)} wires"
 
 
 def in_order(made: list[int], text: bytes) -> bytes:

@@ -1,10 +1,12 @@
-"""A transcript with stamps, edition 2 or 3, in the forms of other tools."""
+"""A transcript with stamps, edition 2, 3 or 4, in the forms of other tools."""
 import json
 from collections import deque
 from collections.abc import Iterator
+from dataclasses import replace
 
-from lab.definitions.events import PUT, TAKE, Entry, Message
-from lab.transcripts.reading import Head, WrongEntry, read
+from lab.definitions.events import ACT, PULSE, PUT, TAKE, Entry, Message
+from lab.transcripts.fields import NoEntry, first_line, wire_of
+from lab.transcripts.reading import Head, WrongEntry, line_of, read
 
 Made = list[tuple[Entry, Entry | None]]
 
@@ -16,8 +18,7 @@ def entries_of(text: bytes) -> tuple[Head, Made]:
         raise WrongEntry(
             head.line,
             "X1",
-            "edition 1 has no order of all entries: only editions 2 and 3 are written in "
-            "other forms",
+            "edition 1 has no order of all entries: only later editions are written in other forms",
         )
     links: dict[tuple[int | None, int | None], deque[Entry]] = {}
     found = []
@@ -49,11 +50,13 @@ def as_json(head: Head, entries: Made) -> Iterator[str]:
             "kind": entry.kind.value,
         }
         match entry.what:
+            case Message(word, fields) if head.own is ACT:
+                row |= {"neighbour": entry.neighbour, "message": word, "fields": list(fields)}
             case Message(word, fields):
                 row |= {"neighbour": entry.neighbour, "wire": word}
                 row |= dict(zip(("pulse", "word", "number"), fields))
-            case pulse:
-                row["pulse"] = pulse
+            case step:
+                row[entry.kind.value] = step
         if put:
             row["put"] = put.line
         yield json.dumps(row)
@@ -75,10 +78,32 @@ def as_shiviz(_: Head, entries: Made) -> Iterator[str]:
             {f"node{v}": count for v, count in sorted(own.items())}
         )
         if entry.neighbour is None:
-            yield f"pulse {entry.what}"
+            yield f"{entry.kind.value} {entry.what}"
         else:
             way = "to" if entry.kind is PUT else "from"
             yield f"{entry.kind.value} {entry.what} {way} {entry.neighbour}"
 
 
 FORMS = {"json": as_json, "shiviz": as_shiviz}
+
+
+def as_rounds(head: Head, entries: Made, program: str) -> Iterator[str]:
+    """A run of nodes that react as the synchroniser does, edition 4, as a run of the rounds of a program that has a
+    name: its acts are pulses, and its messages have to be wires of that program."""
+    if head.own is not ACT:
+        raise WrongEntry(
+            head.line,
+            "X1",
+            f"edition {head.edition} has pulses already: only edition 4 is written as rounds",
+        )
+    yield first_line(head.nodes, program)
+    for entry, _ in entries:
+        if isinstance(entry.what, Message):
+            try:
+                wire_of(program, *str(entry.what).encode().split())
+            except NoEntry as why:
+                raise WrongEntry(
+                    entry.line, "X1", f"not a wire of the synchroniser: {why}"
+                ) from None
+        own = replace(entry, kind=PULSE) if entry.kind is ACT else entry
+        yield f"{entry.stamp} {line_of(own)}"

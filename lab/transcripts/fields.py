@@ -50,11 +50,15 @@ def first_line(nodes: int, program: str = COLOURING) -> str:
     )
 
 
+def first_line_of_reactions(nodes: int, program: str) -> str:
+    """The first line of a transcript of nodes that react to messages, edition 4."""
+    return f"transcript 4 {name_in_texts(program)} {nodes}"
+
+
 def bound_of(program: str, word: bytes) -> int:
     """The bound of a payload's number."""
     words = PAYLOADS.get(program, {})
-    is_word = word.isalpha() and word.islower() and word.isascii()
-    if word in words or is_word and not words:
+    if word in words or is_small_word(word) and not words:
         return words.get(word, 2**128)
     others = " or ".join(name for name, has in PAYLOADS.items() if word in has)
     has = f", which has {b', '.join(words).decode()}" if words else ""
@@ -87,6 +91,25 @@ def wire_of(program: str, *fields: bytes) -> Message:
         case [b"close"]:
             return CLOSE
     raise NoEntry(f"{field_words(b' '.join(fields))} is no wire, which are {WIRES}")
+
+
+@functools.lru_cache(maxsize=2**16)
+def message_of(*fields: bytes) -> Message:
+    """A message of nodes that react: a word, and then numbers or words."""
+    if not is_small_word(fields[0]):
+        raise NoEntry(f"{field_words(fields[0])} is no word that a message begins with")
+    return Message(
+        fields[0].decode(),
+        tuple(
+            field.decode() if is_small_word(field) else number(field, "message", 2**128)
+            for field in fields[1:]
+        ),
+    )
+
+
+def is_small_word(field: bytes) -> bool:
+    """Whether a field is a word of small letters."""
+    return field.isalpha() and field.islower() and field.isascii()
 
 
 def field_words(field: bytes) -> str:

@@ -2,7 +2,7 @@
 import contextlib
 from typing import NamedTuple
 
-from lab.definitions.events import PULSE, PUT, TAKE, Entry
+from lab.definitions.events import ACT, PULSE, PUT, TAKE, Entry, Kind
 from lab.faults import Fault
 from lab.transcripts.fields import (
     COLOURING,
@@ -11,6 +11,7 @@ from lab.transcripts.fields import (
     name_in_texts,
     number,
     field_words,
+    message_of,
     wire_of,
 )
 
@@ -21,7 +22,7 @@ OF_WIRES = {b"put": PUT, b"take": TAKE}
 
 
 class Head(NamedTuple):
-    """The first line: where it is, and what it says; `program` is the name that edition 3 has."""
+    """The first line: where it is, and what it says; `program` is the name that editions 3 and 4 have."""
 
     line: int
     edition: int
@@ -31,6 +32,11 @@ class Head(NamedTuple):
     @property
     def is_stamped(self) -> bool:
         return self.edition > 1
+
+    @property
+    def own(self) -> Kind:
+        """The kind of the nodes' own steps: nodes without rounds act."""
+        return ACT if self.edition == 4 else PULSE
 
 
 class WrongEntry(Fault):
@@ -46,19 +52,23 @@ class WrongEntry(Fault):
         return f"{where}{self.code}: {self.what}"
 
 
-def entry_of(line: int, fields: list[bytes], program: str, is_stamped: bool = False) -> Entry:
+def entry_of(line: int, fields: list[bytes], program: str, head: Head) -> Entry:
     """The entry of a line's fields, of which the first is its stamp if the text is stamped."""
-    stamp, own = (number(fields[0], "stamp", 2**64), fields[1:]) if is_stamped else (None, fields)
+    stamp, own = None, fields
+    if head.is_stamped:
+        stamp, own = number(fields[0], "stamp", 2**64), fields[1:]
     match own:
-        case [vertex, b"pulse", pulse]:
+        case [vertex, step, count] if step == head.own.value.encode():
             v = number(vertex, "node")
-            return Entry(line, v, PULSE, None, number(pulse, "pulse"), stamp)
+            return Entry(line, v, head.own, None, number(count, head.own.value), stamp)
         case [vertex, b"put" | b"take" as kind, neighbour, *of_wire] if of_wire:
             v, w = number(vertex, "node"), number(neighbour, "neighbour")
-            return Entry(line, v, OF_WIRES[kind], w, wire_of(program, *of_wire), stamp)
-    after = " after its stamp" if is_stamped else ""
+            wire = message_of(*of_wire) if head.own is ACT else wire_of(program, *of_wire)
+            return Entry(line, v, OF_WIRES[kind], w, wire, stamp)
+    after = " after its stamp" if head.is_stamped else ""
+    step_words, what = ("act K", "MESSAGE") if head.own is ACT else ("pulse P", "WIRE")
     raise NoEntry(
-        f"{field_words(b' '.join(own))}{after} is neither `V pulse P`, `V put W WIRE` nor `V take W WIRE`"
+        f"{field_words(b' '.join(own))}{after} is neither `V {step_words}`, `V put W {what}` nor `V take W {what}`"
     )
 
 
@@ -81,7 +91,7 @@ def read_to_fault(
     for line, raw in enumerate(lines[head.line :], head.line + 1):
         try:
             if fields := fields_of(raw):
-                entries.append(entry_of(line, fields, program, head.is_stamped))
+                entries.append(entry_of(line, fields, program, head))
         except NoEntry as why:
             cut = ", and no line feed after it (is the text cut?)" if line == len(lines) else ""
             return head, entries, WrongEntry(line, "X1", f"not an entry: {why}{cut}")
@@ -92,7 +102,7 @@ def head_of(lines: list[bytes], program: str | None) -> Head:
     """The first line that has a field; that it names another program than the one asked for is its first fault."""
     line, fields = first_with_fields(lines)
     named = ""
-    if fields[:2] == [b"transcript", b"3"] and fields[2:]:
+    if fields[:2] in ([b"transcript", b"3"], [b"transcript", b"4"]) and fields[2:]:
         named = fields[2].decode("latin-1")
     is_name = name_in_texts(named) == named and named != ""
     if is_name and program is not None and named != name_in_texts(program):
@@ -103,10 +113,11 @@ def head_of(lines: list[bytes], program: str | None) -> Head:
         match fields:
             case [b"transcript", b"1" | b"2" as edition, nodes]:
                 return Head(line, int(edition), number(nodes, "node"))
-            case [b"transcript", b"3", _, nodes] if is_name:
-                return Head(line, 3, number(nodes, "node"), named)
+            case [b"transcript", b"3" | b"4" as edition, _, nodes] if is_name:
+                return Head(line, int(edition), number(nodes, "node"), named)
     what = (
-        f"neither `transcript 1 N`, `transcript 2 N` nor `transcript 3 NAME N`{advice(fields[0])}"
+        "neither `transcript 1 N`, `transcript 2 N`, `transcript 3 NAME N` nor `transcript 4 NAME N`"
+        f"{advice(fields[0])}"
     )
     raise WrongEntry(line, "X1", what)
 
@@ -138,6 +149,6 @@ def line_of(entry: Entry) -> str:
 def words(entry: Entry) -> str:
     """An entry in words."""
     if entry.neighbour is None:
-        return f"node {entry.node} makes pulse {entry.what}"
+        return f"node {entry.node} makes {entry.kind.value} {entry.what}"
     way = "for" if entry.kind is PUT else "from"
     return f"node {entry.node} {entry.kind.value}s {entry.what} {way} {entry.neighbour}"

@@ -3,7 +3,7 @@ from collections import deque
 from collections.abc import Iterable, Iterator
 
 from lab.definitions.events import PULSE, PUT, TAKE, Entry, Kind
-from lab.definitions.machine import NetState, Node, event_of
+from lab.definitions.machine import NetState, Node, event_of, missing_words
 from lab.definitions.nodes import AlphaNode, lacks_of
 from lab.transcripts.reading import Head, WrongEntry, words
 from lab.transcripts.rules import Standing, rule_of, stuck_words
@@ -28,22 +28,23 @@ class Clock:
         return stamp + 1
 
 
-def check_whole(state: NetState[AlphaNode], last: Entry | Head) -> None:
+def check_whole(state: NetState[Node], last: Entry | Head) -> None:
     """Refuses a run that ends too early: what isn't done yet, or who owes what if nothing is on its way. `last` is its
     last entry, or the first line."""
     if undone := next(unfinished(state), None):
         is_on_its_way = any(state.link.values())
+        stand = [(v, at) for v in state.nodes if (at := standing(state, v))]
         what = (
-            f"{undone[1]} (is the text cut?)"
-            if is_on_its_way
-            else stuck_words([(v, standing(state, v)) for v in state.nodes])
+            f"{undone[1]} (is the text cut?)" if is_on_its_way or not stand else stuck_words(stand)
         )
         raise WrongEntry(last.line, "NotWhole", f"after the last entry {what}")
 
 
-def standing(state: NetState[AlphaNode], v: int) -> Standing:
-    """Where a node is, for the words on its next entry."""
+def standing(state: NetState[Node], v: int) -> Standing | None:
+    """Where a node under the synchroniser is, for the words on its next entry; None of another node."""
     node = state.nodes[v]
+    if not isinstance(node, AlphaNode):
+        return None
     puts = {w: str(port.out[0]) for w, port in zip(state.neighbours[v], node.ports) if port.out}
     is_at_the_end = node.pulse_number == node.last
     lacks = ([], []) if is_at_the_end or node.may_act() else lacks_of(node, state.neighbours[v])
@@ -58,7 +59,7 @@ LACKED = {
 
 
 def refusal(
-    state: NetState[AlphaNode], entry: Entry, code: str, entries: list[Entry], clock: Clock
+    state: NetState[Node], entry: Entry, code: str, entries: list[Entry], clock: Clock
 ) -> WrongEntry:
     """Of an entry that isn't possible: what it lacks or what is due there, and the rule that a pulse or a put
     breaks."""
@@ -66,7 +67,9 @@ def refusal(
     if code == "NoSuch":
         return WrongEntry(entry.line, code, said)
     at = standing(state, entry.node)
-    if code == "NotReady" and at.lacks:
+    if code == "NotReady" and not at:
+        said += missing_words(state, event_of(state, entry))
+    elif code == "NotReady" and at and at.lacks:
         said += f", but it lacks {at.lacks}"
     elif code == "WrongWire":
         said += f", but the next one there is {state.carried(event_of(state, entry))}"
@@ -77,7 +80,7 @@ def refusal(
         if entry.stamp != due:
             why = f"the clock there gives {due}"
         said += f" with stamp {entry.stamp}, but {why}"
-    if code in ("NotReady", "NothingToPut", "WrongWire") and entry.kind is not TAKE:
+    if at and code in ("NotReady", "NothingToPut", "WrongWire") and entry.kind is not TAKE:
         what = "pulse" if entry.kind is PULSE else f"put {entry.neighbour}"
         said += f"; {rule_of(at, f'{what} {entry.what}', says_lacks=False)}"
     return WrongEntry(entry.line, code, said)

@@ -7,13 +7,14 @@ import sys
 from lab import programs
 from lab.definitions.own_program import wrong_end
 from lab.definitions.program import Program
-from lab.definitions.programs import add_program, program_asked, program_words
+from lab.definitions.programs import PROGRAMS, add_program, any_program_asked, program_words
+from lab.definitions.reacting import AnyProgram, Reacting
 from lab.faults import Fault
 from lab.network import Network
 from lab.networks.sources import network_bytes
 from lab.networks.network_text import network_of
-from lab.transcripts.check import in_order, whole_run
-from lab.transcripts.convert import FORMS, entries_of
+from lab.transcripts.check import in_order, not_right, whole_run
+from lab.transcripts.convert import FORMS, as_rounds, entries_of
 from lab.transcripts.reading import WrongEntry
 from lab.words import (
     MOST_OF_TRANSCRIPT,
@@ -39,6 +40,8 @@ Judges a transcript of a run without a clock, whoever wrote it.
 Status: 0 done, 1 the transcript isn't right, a file can't be read, or forestplay isn't
 built, 2 the command line is refused; else what forestplay ends with.
 """
+# The form of `convert` that needs a program.
+ROUNDS = "rounds"
 # By command: its words, what it does, more of that, and an example.
 COMMANDS = {
     "check": (
@@ -55,6 +58,8 @@ whole: all nodes have made their last pulse, nothing is left to be put, and no
 link holds a wire. One of edition 2 or 3 is right if the order of its lines is such
 an order, and each stamp is the one that Lamport's clock gives: one more than the
 last one of that node, and of a take also than the put's. Edition 3 names its program.
+Edition 4, of nodes that react to messages, without rounds, has messages instead of
+wires and `act` instead of `pulse`; its run is whole if nothing is possible any more.
 
 Of a transcript that is right it prints one line, as
   whole run of 3 nodes, 658 entries, 49 payloads, 284 wires
@@ -65,9 +70,10 @@ and what is wrong there, as
 
   X1            neither the first line, as `transcript 2 N`, nor an entry, as one with a
                 payload of another program: give its name, --program
-  WrongProgram  edition 3: the first line names another program, which is said
+  WrongProgram  editions 3 and 4: the first line names another program, which is said;
+                or the program has rounds and the edition has none, or the other way round
   NoSuch        no such node, or it has no such neighbour
-  NotReady      a pulse that the node cannot make there
+  NotReady      a pulse or an act that the node cannot make there
   NothingToPut  the node has nothing for that neighbour
   LinkEmpty     the neighbour has put no wire that is left to be taken
   WrongWire     possible, but with another wire or the number of another pulse
@@ -93,14 +99,18 @@ Of a transcript that isn't right it prints what `forestlab transcript check` say
         "forestlab transcript replay examples/chain6.col examples/chain6_slow.transcript",
     ),
     "convert": (
-        "FORM [TRANSCRIPT]",
-        "Writes a transcript with stamps, edition 2 or 3, for other tools.",
+        "FORM [TRANSCRIPT] [options]",
+        "Writes a transcript with stamps, edition 2, 3 or 4, for other tools.",
         """\
-  json:   a JSON object a line: the first with the number of nodes, and in edition 3
-          with the program; then one for each entry, {"stamp", "node", "kind",
+  json:   a JSON object a line: the first with the number of nodes, and in editions 3
+          and 4 with the program; then one for each entry, {"stamp", "node", "kind",
           "neighbour", "wire", "pulse", ..}; a take has the number of the line of its put
-          as "put"
+          as "put"; in edition 4 an entry has "act", or "message" and "fields"
   shiviz: a log for ShiViz (bestchai.bitbucket.io/shiviz), with vector clocks
+  rounds: edition 4, of nodes that run a synchroniser themselves, as a run of the rounds
+          of a proved program, which --program names: each `act` becomes a `pulse`. So
+          `forestplay replay` judges a synchroniser in a file, run by run. It shows of
+          that run alone that it is one of synchroniser alpha and of that program
 
 Only a take without a put before it and lines that no transcript has are refused:
 forestlab transcript check judges a run.
@@ -121,7 +131,15 @@ def command_line() -> ArgumentParser:
     for name, does in COMMANDS.items():
         command = add_command(commands, f"transcript {name}", *does)
         if name == "convert":
-            command.add_argument("form", choices=FORMS, metavar="FORM", help="json or shiviz")
+            command.add_argument(
+                "form", choices=[*FORMS, ROUNDS], metavar="FORM", help="json, shiviz or rounds"
+            )
+            command.add_argument(
+                "--program",
+                choices=PROGRAMS,
+                metavar="P",
+                help=f"of rounds: the program whose rounds they are, one of {', '.join(PROGRAMS)}",
+            )
         else:
             command.add_argument(
                 "network",
@@ -144,7 +162,7 @@ def command_line() -> ArgumentParser:
     return words
 
 
-def texts_of(given: Namespace) -> tuple[Network, bytes, bytes, Program]:
+def texts_of(given: Namespace) -> tuple[Network, bytes, bytes, AnyProgram]:
     """The network, the texts of both, and the program of a command line."""
     if given.network == given.transcript == "-":
         raise Fault(
@@ -153,22 +171,22 @@ def texts_of(given: Namespace) -> tuple[Network, bytes, bytes, Program]:
     data = network_bytes(given.network)
     net = network_of(data, text_name(given.network))
     transcript = bytes_at(given.transcript, MOST_OF_TRANSCRIPT)
-    return net, data, transcript, program_asked("transcript", given, net)
+    return net, data, transcript, any_program_asked("transcript", given, net)
 
 
 def checked(given: Namespace) -> str:
     """The verdict on a transcript that is right."""
     net, _, text, program = texts_of(given)
     _, said = whole_run(net, text, program)
-    if why := wrong_end(net, program):
-        raise WrongEntry(None, "NotRight", f"{said}, whose nodes find what isn't right: {why}")
+    if isinstance(program, Program) and (why := wrong_end(net, program)):
+        raise not_right(said, why)
     return (json.dumps({"right": True, "words": said}) if given.json else said) + "\n"
 
 
 def replayed(given: Namespace) -> str:
     """What the proved machine prints of a transcript in the order found."""
     net, network, text, program = texts_of(given)
-    if program.file is not None:
+    if isinstance(program, Reacting) or program.file is not None:
         raise Fault(f"no proved program runs {program.name}")
     made, _ = whole_run(net, text, program)
     # The network may not end in a line feed.
@@ -178,8 +196,12 @@ def replayed(given: Namespace) -> str:
 
 
 def converted(given: Namespace) -> str:
-    transcript = bytes_at(given.transcript, MOST_OF_TRANSCRIPT)
-    return as_text(FORMS[given.form](*entries_of(transcript)))
+    if (given.form == ROUNDS) != (given.program is not None):
+        raise Fault("--program is for the form rounds, and rounds need it, as `--program leader`")
+    head, entries = entries_of(bytes_at(given.transcript, MOST_OF_TRANSCRIPT))
+    if given.program is not None:
+        return as_text(as_rounds(head, entries, given.program))
+    return as_text(FORMS[given.form](head, entries))
 
 
 def main(words: list[str]) -> int:

@@ -5,6 +5,7 @@ plays every list of events on the machine of lab/definitions/machine.py one by o
 import copy
 import json
 import os
+import unittest.mock
 from collections.abc import Iterator
 
 from lab.definitions.events import PUT, TAKE, Event
@@ -12,12 +13,21 @@ from lab.definitions.leader import LEADER
 from lab.definitions.machine import NetState
 from lab.definitions.programs import any_program_at
 from lab.definitions.reacting import Reacting, ReactingNode, results_in
+from lab.faults import Fault
+from lab.networks.network_text import network_of
 from lab.networks.sources import network_at
+from lab.schedules import simulate
 from lab.schedules.alpha_space import AlphaSpace
 from lab.schedules.extent import endless, extent_of
+from lab.schedules.policies import POLICIES
 from lab.schedules.reacting_space import ReactingSpace
+from lab.schedules.simulate import played, text_of_run
+from lab.transcripts.check import whole_run
 from tests import TOP
-from tests.cases import Case, said_by, text_in
+from tests.cases import Case, called, example, said_by, text_in
+from tests.pictures.marks import marks, parsed, title, titles
+from tests.settings import PLAY
+from tests.tools import needs
 
 SAMPLES = "echo ring_leader ring_phases exclusion async_layers snapshot alpha".split()
 # A token that goes round a ring for ever.
@@ -508,6 +518,334 @@ class Refused(Case):
         done = said_by("explore", "two", "--program", path, "--lots", "4")
         self.same("--lots", done[1].split("\n")[-2], "all this of the draws of --lots 4 alone")
         self.same("none in the sample", self_said("echo"), False)
+
+
+def of_alpha(text: str) -> str:
+    """A transcript of alpha.py as one of the leader under the synchroniser that is built in."""
+    return text.replace("transcript 4 alpha ", "transcript 3 leader ", 1).replace(
+        " act ", " pulse "
+    )
+
+
+class Transcripts(Case):
+    def test_runs(self) -> None:
+        """Each policy gives a whole run of each sample, whose messages are those of the formulas above."""
+        for name, network, messages in (
+            ("echo", "complete4", "12"),
+            ("ring_leader", "ring5", "20"),
+            ("exclusion", "triangle", "12"),
+            ("snapshot", "ring4", "12"),
+            ("async_layers", "path3", None),
+            ("alpha", "triangle", None),
+        ):
+            net, of = network_at(network), program(sample(name))
+            for policy in POLICIES:
+                text = text_of_run(net.nodes, played(net, policy, "7", program=of), of)
+                self.same(f"{name}: head", text.split("\n")[0], f"transcript 4 {name} {net.nodes}")
+                said = whole_run(net, text.encode(), of)[1]
+                entries = text.count("\n") - 1
+                wanted = f"whole run of {net.nodes} nodes, {entries} entries, "
+                self.note(f"{name}, {policy}", said.startswith(wanted), said)
+                counted = said.removeprefix(wanted)
+                is_right = counted.endswith(" messages") and messages in (None, counted.split()[0])
+                self.note(f"{name}, {policy}: messages", is_right, said)
+
+    def test_the_runs_of_alpha(self) -> None:
+        """A seed gives alpha.py the run that it gives the synchroniser that is built in."""
+        of = program(sample("alpha"))
+        for network in ("petersen", "star4", "path3"):
+            net = network_at(network)
+            for policy in ("random", "slow-link", "bursts", "newest", "in-turn", "late-acks"):
+                own = text_of_run(net.nodes, played(net, policy, "3", program=of), of)
+                built_in = text_of_run(net.nodes, played(net, policy, "3", program=LEADER), LEADER)
+                self.same(f"{network}, {policy}", of_alpha(own), built_in)
+
+    def test_refused(self) -> None:
+        """A run of two by hand that is whole, and what is said of it with a line changed or left out."""
+        lines = [
+            "transcript 4 exclusion 2",
+            "1 1 act 1",
+            "2 1 put 2 ask 1 1",
+            "3 2 take 1 ask 1 1",
+            "4 2 put 1 yes",
+            "5 1 take 2 yes",
+            "6 1 act 2",
+            "4 2 act 1",
+        ]
+        text = "\n".join(lines) + "\n"
+        words = ["transcript", "check", "two", "-", "--program", sample("exclusion")]
+        for name, old, new, said in (
+            (
+                "another field",
+                "put 2 ask 1 1",
+                "put 2 ask 2 1",
+                "line 3: WrongWire: node 1 puts ask 2 1 for 2, but the next one there is ask 1 1\n",
+            ),
+            (
+                "another number",
+                "6 1 act 2",
+                "6 1 act 3",
+                "line 7: WrongWire: node 1 makes act 3, but the next one there is 2\n",
+            ),
+            (
+                "another stamp",
+                "5 1 take",
+                "7 1 take",
+                "line 6: WrongStamp: node 1 takes yes from 2 with stamp 7, but the clock there gives 5\n",
+            ),
+            (
+                "too early",
+                "1 1 act 1",
+                "1 1 act 1\n2 1 act 2",
+                "line 3: NotReady: node 1 makes act 2: `may_act` says that it may not\n",
+            ),
+            (
+                "nothing to put",
+                "4 2 put 1 yes",
+                "4 2 put 1 yes\n5 2 put 1 yes",
+                "line 6: NothingToPut: node 2 puts yes for 1, for which it has nothing\n",
+            ),
+            (
+                "not put",
+                "2 1 put 2 ask 1 1\n",
+                "",
+                "line 3: LinkEmpty: node 2 takes ask 1 1 from 1, and 1 never puts it",
+            ),
+            (
+                "a pulse",
+                "6 1 act 2",
+                "6 1 pulse 2",
+                "line 7: X1: not an entry: `1 pulse 2` after its stamp is neither `V act K`, `V put W MESSAGE`",
+            ),
+            (
+                "no word",
+                "put 1 yes",
+                "put 1 7",
+                "line 5: X1: not an entry: `7` is no word that a message begins with\n",
+            ),
+            (
+                "no field",
+                "put 2 ask 1 1",
+                "put 2 ask 1 One",
+                "line 3: X1: not an entry: `One` is no number of a message",
+            ),
+            (
+                "cut",
+                "6 1 act 2\n4 2 act 1\n",
+                "",
+                "line 6: NotWhole: after the last entry node 1 may still act (is the text cut?)\n",
+            ),
+            (
+                "another name",
+                "4 exclusion",
+                "4 echo",
+                "line 1: WrongProgram: a transcript of echo, not of exclusion",
+            ),
+            (
+                "an edition of rounds",
+                "4 exclusion",
+                "3 exclusion",
+                "line 1: WrongProgram: edition 3 is of rounds",
+            ),
+            (
+                "another node",
+                "1 1 act 1",
+                "1 3 act 1",
+                "line 2: NoSuch: node 3 makes act 1, but there is no such node",
+            ),
+        ):
+            assert old in text, old
+            done = said_by(*words, data=text.replace(old, new, 1).encode())
+            self.refusal(name, done, 1, said)
+        head = "transcript 4 leader 3\n"
+        done = said_by(
+            "transcript", "check", "triangle", "-", "--program", "leader", data=head.encode()
+        )
+        self.refusal(
+            "rounds", done, 1, "line 1: WrongProgram: edition 4 is of nodes that react to messages"
+        )
+
+    def test_not_right(self) -> None:
+        """A run in which two are inside goes on to an end; one whose end `right` refuses is said so, twice."""
+        text = text_in("examples", "algorithms", "echo.py").replace(
+            "is None and me.id != 1:", "is None:"
+        )
+        path = self.file("echo.py", text)
+        found = json.loads(said_by("explore", "triangle", "--program", path, "--json")[1])
+        events = "\n".join(found["events"]).encode()
+        words = ["simulate", "triangle", "--program", path, "--events", "-", "--to-the-end"]
+        status, run, fault = said_by(*words, data=events)
+        said = "what the nodes find at the end isn't right: node 1 counts "
+        self.note("simulate", status == 1 and said in fault, (status, fault))
+        done = said_by("transcript", "check", "triangle", "-", "--program", path, data=run.encode())
+        self.refusal("check", done, 1, "NotRight: whole run of 3 nodes, ")
+
+    def test_lists(self) -> None:
+        """A list of events of such nodes: `act`, and no `pulse`; and what is said of one that ends early."""
+        words = ["simulate", "two", "--program", sample("exclusion"), "--events", "-"]
+        for data, status, said in (
+            (
+                b"act 1\n",
+                0,
+                "simulate: after the last event node 2 may still act; --to-the-end plays the rest\n",
+            ),
+            (
+                b"act 1\nact 1\n",
+                1,
+                "line 2: `act 1` isn't possible there: `may_act` says that it may not (NotReady)\n",
+            ),
+            (b"pulse 1\n", 1, "line 1: `pulse 1` is no event (NoEvent)\n"),
+            (
+                b"put 1 0\n",
+                1,
+                "line 1: `put 1 0` isn't possible there: list of 1 for 2 (NothingToPut)\n",
+            ),
+        ):
+            done = said_by(*words, data=data)
+            self.note(said, done[0] == status and said in done[2], done)
+        done = said_by("simulate", "two", "--events", "-", data=b"act 1\n")
+        self.refusal("act in rounds", done, 1, "line 1: `act 1` is no event (NoEvent)")
+
+    def test_without_end(self) -> None:
+        of = program(self.file("token.py", TOKEN))
+        with unittest.mock.patch.object(simulate, "MOST_ENTRIES", 500), self.assertRaises(
+            Fault
+        ) as caught:
+            played(network_at("ring3"), program=of)
+        self.same("said", str(caught.exception), "the run hasn't ended after 500 entries")
+
+    def test_other_forms(self) -> None:
+        """By hand: the first act and the first put of the run above."""
+        text = b"transcript 4 exclusion 2\n1 1 act 1\n2 1 put 2 ask 1 1\n"
+        lines = said_by("transcript", "convert", "json", data=text)[1].splitlines()
+        rows = [
+            {"edition": 4, "nodes": 2, "program": "exclusion"},
+            {"line": 2, "stamp": 1, "node": 1, "kind": "act", "act": 1},
+            {
+                "line": 3,
+                "stamp": 2,
+                "node": 1,
+                "kind": "put",
+                "neighbour": 2,
+                "message": "ask",
+                "fields": [1, 1],
+            },
+        ]
+        self.same("json", list(map(json.loads, lines)), rows)
+        found = said_by("transcript", "convert", "shiviz", data=text)[1].splitlines()
+        self.same(
+            "shiviz",
+            found,
+            ['node1 {"node1": 1}', "act 1", 'node1 {"node1": 2}', "put ask 1 1 to 2"],
+        )
+
+
+class Bridge(Case):
+    """A synchroniser in a file, whose runs the proved replay judges."""
+
+    def rounds(self, text: str) -> tuple[int, str, str]:
+        return said_by(
+            "transcript", "convert", "rounds", "-", "--program", "leader", data=text.encode()
+        )
+
+    def test_converted(self) -> None:
+        net, of = network_at("star4"), program(sample("alpha"))
+        text = text_of_run(net.nodes, played(net, program=of), of)
+        self.same("rounds", self.rounds(text), (0, of_alpha(text), ""))
+        done = self.rounds(text.replace("payload 0 leader", "payload 0 hops", 1))
+        self.refusal(
+            "another word",
+            done,
+            1,
+            "X1: not a wire of the synchroniser: `hops` is no payload of leader",
+        )
+        done = self.rounds("transcript 4 echo 2\n1 1 put 2 wave\n")
+        self.refusal(
+            "no wire", done, 1, "line 2: X1: not a wire of the synchroniser: `wave` is no wire"
+        )
+        done = self.rounds(of_alpha(text))
+        self.refusal("rounds already", done, 1, "line 1: X1: edition 3 has pulses already")
+        for words in (["json", "-", "--program", "leader"], ["rounds"]):
+            done = said_by("transcript", "convert", *words, data=text.encode())
+            self.refusal(
+                " ".join(words), done, 1, "--program is for the form rounds, and rounds need it"
+            )
+
+    @needs("forestplay")
+    def test_replayed(self) -> None:
+        """Four runs are accepted, and one with a changed number is refused with its line."""
+        of = program(sample("alpha"))
+        for name in ("triangle", "petersen", "path", "star"):
+            net = network_of(example(name))
+            text = self.rounds(text_of_run(net.nodes, played(net, "bursts", program=of), of))[1]
+            words, data = ["replay", "--program", "leader"], example(name) + b"\n"
+            status, out, fault = called(PLAY, *words, data=data + text.encode())
+            self.same(
+                f"{name} is accepted", (status, fault, out.count(b"leader")), (0, b"", net.nodes)
+            )
+            wrong = text.replace("payload 0 leader 2", "payload 0 leader 1", 1)
+            status, out, fault = called(PLAY, *words, data=data + wrong.encode())
+            lines = text.splitlines()
+            line = 1 + next(at for at, words_ in enumerate(lines) if "payload 0 leader 2" in words_)
+            line += example(name).count(b"\n") + 1
+            said = f"forestplay: WrongWire line {line}: expected payload 0 leader 2\n".encode()
+            self.same(f"{name} with another number", (status, out, fault), (1, b"", said))
+
+
+class Pictures(Case):
+    def test_a_run(self) -> None:
+        """By hand: two enter one after the other. Each message from its put to its take, each act, and what changes."""
+        lines = [
+            "transcript 4 exclusion 2",
+            "1 1 act 1",
+            "2 1 put 2 ask 1 1",
+            "3 2 take 1 ask 1 1",
+            "4 2 put 1 yes",
+            "5 1 take 2 yes",
+            "5 2 act 1",
+            "6 1 act 2",
+            "6 2 put 1 ask 2 2",
+            "7 1 take 2 ask 2 2",
+            "8 1 put 2 yes",
+            "9 2 take 1 yes",
+            "10 2 act 2",
+        ]
+        path = self.file("run.transcript", "\n".join(lines) + "\n")
+        words = ["picture", "run", "two", "--program", sample("exclusion")]
+        status, svg, fault = said_by(*words, "--transcript", path)
+        self.same("it is drawn", (status, fault), (0, ""))
+        root = parsed(svg)
+        messages = ["1 to 2: ask 1 1", "2 to 1: yes", "2 to 1: ask 2 2", "1 to 2: yes"]
+        self.same("the messages", titles(root, "message"), messages)
+        self.same("the acts", len(marks(root, "tick")), 4)
+        # By node, and from right to left.
+        found = ["done", "inside", "asks", "idle"] * 2
+        self.same("what is found", [mark.text for mark in marks(root, "result")], found)
+        places = {}
+        for group in marks(root, "message"):
+            line = next(part for part in group if part.tag.endswith("line"))
+            places[titles(root, "message").index(title(group))] = float(line.get("x1") or 0)
+        at = [places[number] for number in range(4)]
+        self.same("by stamp", [round((x - at[0]) / (at[1] - at[0]) * 2) for x in at], [0, 2, 4, 6])
+        wrong = "\n".join(lines).replace("ask 2 2", "ask 3 2", 1)
+        done = said_by(*words, "--transcript", self.file("wrong.transcript", wrong))
+        self.refusal("a wrong run", done, 1, "line 9: WrongWire: node 2 puts ask 3 2 for 1")
+
+    def test_one_is_made(self) -> None:
+        """Without a stored text a run is made; the options of rounds are refused."""
+        words = ["picture", "run", "triangle", "--program", sample("echo")]
+        status, svg, fault = said_by(*words)
+        self.same("the echo", (status, len(marks(parsed(svg), "message")), fault), (0, 6, ""))
+        for options in (["--pulses", "0..1"], ["--only", "ack"], ["--wrong"]):
+            done = said_by(*words, *options)
+            self.refusal(
+                options[0],
+                done,
+                1,
+                f"{options[0]} is for runs of rounds, and the nodes of echo make none",
+            )
+        done = said_by("picture", "run", "path13", "--program", sample("echo"))
+        self.refusal("too many nodes", done, 1, "run draws at most 12 nodes, and here are 13")
 
 
 def self_said(name: str) -> bool:

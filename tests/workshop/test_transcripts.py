@@ -194,7 +194,7 @@ class Transcripts(Case):
             (
                 "lay\x1bers",
                 "layers",
-                "line 1: X1: neither `transcript 1 N`, `transcript 2 N` nor `transcript 3 NAME N`",
+                "line 1: X1: neither `transcript 1 N`, `transcript 2 N`, `transcript 3 NAME N` nor `trans",
             ),
         ):
             self.says(named.format(name), line, "--program", program)
