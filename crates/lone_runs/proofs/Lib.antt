@@ -1,5 +1,6 @@
 pub mod Events
 pub mod Fair
+mod FairTurns
 pub mod Recorded
 pub mod StampsLater
 pub mod LinksLater

@@ -1,5 +1,5 @@
 -- Orders in which each node's turn comes again and again.
-use Rattle.std.specs.Prelude.{◌≡◌, ◌≤◌, ℕ, List, [], ◌∷◌, All, Contains, Ok, length}
+use Rattle.std.specs.Prelude.{◌≡◌, ◌≤◌, ℕ, List, [], ◌∷◌, All, Ok, length}
 use Rattle.interference.specs.Net.{Net, IsVertex}
 use Rattle.node_api.specs.Program.{Program}
 use Rattle.alpha_laws.specs.Counts.{events_of_run}
@@ -8,6 +8,7 @@ use Rattle.event_rule.specs.State.{State, start}
 use Rattle.event_rule.specs.Step.{run}
 use Rattle.event_rule.specs.Events.{IsRunFrom, Possible}
 use Rattle.event_rule.specs.Commute.{vertex_of}
+use Rattle.event_rule.specs.Passes.{HasAll}
 use Rattle.event_rule.specs.Progress.{IsEnd}
 
 -- A turn of v makes events of v, whichever and however many; it makes none only if none is possible.
@@ -27,7 +28,7 @@ AreTurns {S} {M} program net state (v ∷ vs) last =
 abbrev pub ArePasses : {S M E : Type 0} → Program S M E → Net → State S M → List (List ℕ) → State S M → Type 0
 ArePasses program net state [] last = last ≡ state
 ArePasses {S} {M} program net state (order ∷ orders) last =
-    ((v : ℕ) → IsVertex net v → Contains order v)
+    HasAll net order
     × ((next : State S M) × AreTurns program net state order next × ArePasses program net next orders last)
 
 -- Whatever the orders are: after as many passes as a whole run has events, the run has come to its end.
@@ -36,3 +37,9 @@ FairOrdersEnd {S} {M} program net =
     (orders : List (List ℕ)) (last : State S M) → ArePasses program net (start program net) orders last
     → events_of_run program net ≤ length orders
     → (events : List Event) × (run program net events ≡ Ok last) × IsEnd program net events last
+
+-- Fair turns exist in all orders of vertices in each of which every vertex has one.
+abbrev pub FairPassesExist : {S M E : Type 0} → Program S M E → Net → Type 0
+FairPassesExist {S} {M} program net =
+    (orders : List (List ℕ)) → All (λ order. HasAll net order × All (λ v. IsVertex net v) order) orders
+    → (last : State S M) × ArePasses program net (start program net) orders last

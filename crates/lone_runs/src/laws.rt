@@ -1,8 +1,8 @@
-//! What holds of every order of turns. The law is a function that does nothing: its contract is the law.
+//! What holds of every order of turns. Each law is a function that does nothing: its contract is the law.
 
 ghost use Rattle.node_api.specs.Program.{Program};
 ghost use Rattle.alpha_laws.specs.Laws.{OnEveryNetwork};
-ghost use Rattle.lone_runs.specs.Fair.{FairOrdersEnd};
+ghost use Rattle.lone_runs.specs.Fair.{FairOrdersEnd, FairPassesExist};
 
 /// Every fair order of turns ends: if each node's turn comes again and again, in whatever order and with however many
 /// events in a turn, then after at most E passes, in each of which every node has a turn, every node is in the last
@@ -10,4 +10,9 @@ ghost use Rattle.lone_runs.specs.Fair.{FairOrdersEnd};
 /// `alpha_laws`, n·R + 2·wires.
 pub fn fair_orders_end<S, M, E>()
     ensures law { (program : Program S M E) → OnEveryNetwork program (FairOrdersEnd program) }
+{}
+
+/// There are such turns for all orders of the network's nodes in each of which every node has one.
+pub fn fair_passes_exist<S, M, E>()
+    ensures law { (program : Program S M E) → OnEveryNetwork program (FairPassesExist program) }
 {}
