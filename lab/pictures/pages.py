@@ -12,7 +12,7 @@ from lab.pictures.svg import escaped
 
 FOLDER = os.path.join(os.path.dirname(os.path.abspath(__file__)), "page")
 # Each imports only those before it.
-MODULES = ("marks", "stage", "time", "rounds", "run")
+MODULES = ("marks", "legend", "stage", "time", "rounds", "run")
 # In pixels of a large screen; the radius of a node at most and at least (of a hundred and fewer; of more all are
 # smaller), and how many radii two are apart.
 WIDE, HIGH, MARGIN, RADIUS, LEAST, APART = 1000, 700, 70, 22, 9, 3
@@ -70,7 +70,7 @@ def page(template: str, main: str, data: object, **words: str) -> str:
         # JSON that can stand in a script.
         DATA=json_text.replace("<", "\\u003c"),
         SCRIPT=joined(main),
-        STYLE=text_of("page.css").replace("\n", ""),
+        STYLE=re.sub(r"/\*.*?\*/|\n", "", text_of("page.css")),
         **given,
     )
 

@@ -16,7 +16,8 @@ STATES, SEED = 24, 331
 STATE = """(() => { const {net, seen, run, rounds, check, steps} = studio, by = id => document.getElementById(id);
   const {tab, program, passes, root, slow, lazy, node, lesson, lecture} = seen, isRun = tab === "run";
   const kind = document.querySelector("[data-kind][aria-pressed=true]");
-  return {tab, program, passes, root, slow, lazy, node, lesson, lecture, step: lesson && seen.step, nodes: net.nodes, edges: net.edges,
+  return {tab, program, passes, root, slow, lazy, node, lesson, lecture, step: lesson && seen.step,
+    nodes: net.nodes, edges: net.edges,
     broken: rounds.without, without: steps.without,
     predict: tab === "adversary" ? steps.predicts : rounds.predicts,
     dare: steps.dare, steps: isRun ? run.steps : steps.made, other: run.other, how: by("made").value,

@@ -563,7 +563,7 @@ class Drawn(Page):
         self.go_to("example=chain6&tab=run&slow=2-3&seed=7")
         self.sees(
             "a run is accepted",
-            "document.getElementById('judge').textContent.includes('accepts these 866')",
+            "document.getElementById('judge').textContent.includes('accepts its 866')",
         )
         self.sees("the same as the rounds", "same.textContent.includes('✓')")
         self.value(

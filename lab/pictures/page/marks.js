@@ -116,7 +116,7 @@ export const HALO = {"paint-order": "stroke", stroke: "var(--paper)", "stroke-wi
 export function channelCircle(x, y, r, channel) {
   const {hue, is_ring: isRing, ink, size} = lookOf(channel), wide = Math.max(LEAST_RING, r * RING_WIDTH);
   return [isRing && mark("circle", {cx: x, cy: y, r: r - wide / 2, fill: WHITE, stroke: hue, "stroke-width": wide}),
-    mark("circle", {cx: x, cy: y, r, fill: isRing ? "none" : hue, stroke: "var(--rim)"}),
+    mark("circle", {cx: x, cy: y, r, fill: isRing ? "none" : hue, stroke: "var(--rim)", "data-mark": "channel"}),
     words(x, y, r * size, ink, channel, BOLD)];
 }
 // A colour of 0 to 5 in a forest, or in grey a number that is none yet.
@@ -127,29 +127,29 @@ export function colourSquare(x, y, half, colour, isColour) {
   // What is as wide as its square is set closer.
   const close = said.length > 3 ? {textLength: 1.7 * half, lengthAdjust: "spacingAndGlyphs"} : {};
   return [mark("rect", {x: x - half, y: y - half, width: 2 * half, height: 2 * half, rx: half * 0.25, fill,
-    stroke: "var(--rim)"}), words(x, y, size, ink, said, {...BOLD, ...close})];
+    stroke: "var(--rim)", "data-mark": isColour ? "colour" : "name"}), words(x, y, size, ink, said, {...BOLD, ...close})];
 }
 /** @param {number} x @param {number} y @param {number} r @param {string | number} [said] @returns {Marks} */
 export function blank(x, y, r, said) {
-  return [mark("circle", {cx: x, cy: y, r, fill: "var(--paper)", stroke: "var(--ink)", "stroke-width": 1.6}),
+  return [mark("circle", {cx: x, cy: y, r, fill: "var(--paper)", stroke: "var(--ink)", "stroke-width": 1.6, "data-mark": "blank"}),
     said === undefined ? null : words(x, y, r * 0.9, "var(--ink)", said, BOLD)];
 }
 /** @param {number} x @param {number} y @param {number} r @param {number} channel @returns {Marks} */
 export function barMark(x, y, r, channel) {
-  return [mark("circle", {cx: x, cy: y, r, fill: WHITE, stroke: lookOf(channel).hue}),
+  return [mark("circle", {cx: x, cy: y, r, fill: WHITE, stroke: lookOf(channel).hue, "data-mark": "bar"}),
     mark("line", {x1: x - 0.9 * r, y1: y + 0.9 * r, x2: x + 0.9 * r, y2: y - 0.9 * r, stroke: WRONG,
       "stroke-width": 1.5}), words(x, y, r * sizeIn(BAR_SIZES, String(channel)), INK, channel, BOLD)];
 }
 /** @param {string} said @param {number} size */
 export function pillWidth(said, size) { return said.length * size * 0.62 + 9; }
 // How a message looks that isn't looked at.
-export const FADED = {fill: "var(--paper)", stroke: "var(--edge)", "stroke-dasharray": "2 2", ink: "var(--soft)"};
+export const FADED = {fill: "var(--paper)", stroke: "var(--edge)", "stroke-dasharray": "2 2", ink: "var(--soft)", "data-mark": "faded"};
 // A pill with words: a message on its way.
 /** @type {(x: number, y: number, said: string, kind: string, size: number, look?: Attributes & {ink?: string}) => Marks} */
 export function pill(x, y, said, kind, size, {ink = INK, ...more} = {}) {
   const wide = pillWidth(said, size), high = size + 6;
   return [mark("rect", {x: x - wide / 2, y: y - high / 2, width: wide, height: high, rx: high / 2, fill: PALE[kind],
-    stroke: WIRES[kind], "stroke-width": 1.6, ...more}), words(x, y, size, ink, said)];
+    stroke: WIRES[kind], "stroke-width": 1.6, "data-mark": kind, ...more}), words(x, y, size, ink, said)];
 }
 // A red note on a white ground.
 /** @param {number} x @param {number} y @param {string} said @returns {Marks} */

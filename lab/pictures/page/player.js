@@ -1,5 +1,6 @@
 // A page that plays the rounds: D is {net, film}.
-import {RoundsFilm, roundsLegend} from "./rounds.js";
+import {legend} from "./legend.js";
+import {ROUNDS_WORDS, RoundsFilm} from "./rounds.js";
 import {Stage} from "./stage.js";
 import {element, html} from "./marks.js";
 import {openPage} from "./time.js";
@@ -15,6 +16,7 @@ function show(at) {
   element("when").textContent = `pulse ${p} of ${film.last}`;
   element("said").replaceChildren(html("b", `pulse ${p} of ${film.last} · ${caption}`), html("br"), said);
   element("forests").replaceChildren(...film.chips(p, forest, f => { forest = f; time.set(time.at); }));
+  legend(element("legend"), [stage.svg], ROUNDS_WORDS);
   return `#pulse-${p}` + (forest ? `-forest-${forest}` : "");
 }
 function follow() {
@@ -25,5 +27,4 @@ function follow() {
 const time = openPage([stage], {show, follow, rate: () => 0.8, click(v) { chosen = v === chosen ? null : v; },
   step: way => time.set(way > 0 ? Math.floor(time.at + 1) : Math.ceil(time.at - 1))});
 time.range(0, film.last);
-roundsLegend(element("legend"), film);
 follow();

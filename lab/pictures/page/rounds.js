@@ -6,19 +6,8 @@ import {nameOf} from "./stage.js";
 const ORIENT = 1, SEED = 2, LAST_BIT_STEP = 6, LAST_COLOUR = 12;
 // How far what lights a node up goes beyond its circle, in radiuses.
 const LIT = 0.4;
-// What the marks mean.
-/** @param {HTMLElement} place @param {RoundsFilm} film */
-export function roundsLegend(place, film) {
-  place.textContent = film.forests
-    ? "A square is a node’s colour in the forest, from 0; grey: it is still a name (128d has 128 binary digits). A"
-      + " circle is its channel, a colour plus one. Arrows go to parents. A number in a pill is a message, in a merge a"
-      + " channel; dotted: it didn’t decide what the chosen node found. Below a node whose turn is to come is its pair:"
-      + " its colour in the forest, and its old colour. Yellow: it chooses now. A grey ring: its identifier decided what"
-      + " the chosen node found."
-    : film.channels ? "A circle is a node’s channel; yellow: another one than before. A number in a pill is a message, of"
-      + " colours chosen anew a channel."
-    : "A number in a pill is a message on its way. Below a node is what it has found; yellow: something new.";
-}
+// What some marks mean in rounds.
+export const ROUNDS_WORDS = {payload: "a message", ring_edge: "its identifier decided what the chosen node found"};
 
 export class RoundsFilm {
   /** @param {RoundsFound} found @param {Net} net */
@@ -101,7 +90,7 @@ export class RoundsFilm {
   /** @param {Stage} stage @param {number} p @param {number | null} forest @param {number} v @param {number} x @param {number} y @param {number} r @returns {Marks} */
   node(stage, p, forest, v, x, y, r) {
     const pulse = this.found.pulses[p], lit = mark("circle", {cx: x, cy: y, r: (1 + LIT) * r,
-      fill: "var(--chosen)", stroke: "var(--glow)", "stroke-width": 1.5});
+      fill: "var(--chosen)", stroke: "var(--glow)", "stroke-width": 1.5, "data-mark": "lit"});
     /** @type {Marks} */
     const parts = [];
     if (pulse.results) return [pulse.new.includes(v) && lit, ...this.resultMarks(stage, pulse, v, x, y, r)];
@@ -120,7 +109,7 @@ export class RoundsFilm {
     if (this.channels) return channelCircle(x, y, r, Number(colour) + 1);
     const [fill, ink] = discOf(colour || 0);
     const disc = colour === null ? blank(x, y, r, v) : [mark("circle", {cx: x, cy: y, r, fill,
-      stroke: "var(--ink)", class: "found-colour"}), words(x, y, r * 0.9, ink, v)];
+      stroke: "var(--ink)", class: "found-colour", "data-mark": "found"}), words(x, y, r * 0.9, ink, v)];
     return [...disc, ...resultWords(x, y + r + 12, Math.min(11.5, r), pulse.results[v - 1], stage.least)];
   }
   // The colour of a node in a forest after one of the pulses 2 to 12.
@@ -135,7 +124,7 @@ export class RoundsFilm {
     const old = v in this.merged[p] ? this.merged[p][v] : this.found.first[v - 1], half = 0.45 * r;
     const colour = this.colourAt(LAST_COLOUR, v, forest);
     return [...colourSquare(x - 0.9 * r, y + 1.55 * r, half, colour, true),
-      words(x + 0.15 * r, y + 1.55 * r, half * 1.9, "var(--ink)", old, {...HALO, "font-weight": "bold"})];
+      words(x + 0.15 * r, y + 1.55 * r, half * 1.9, "var(--ink)", old, {...HALO, "font-weight": "bold", "data-mark": "pair"})];
   }
   /** @param {Stage} stage @param {number} p @param {number | null} forest */
   arrows(stage, p, forest) {
@@ -149,7 +138,7 @@ export class RoundsFilm {
       links.push(...stage.arrow(v, w, mine ? "var(--strong)" : "var(--edge)", mine ? 2 : 1.4));
     });
     Object.entries(pulse.drawn || {}).forEach(([v, [, w]]) => {
-      if (w) links.push(...stage.arrow(+v, w, "var(--ink)", 3.2));
+      if (w) links.push(...stage.arrow(+v, w, "var(--ink)", 3.2, "partner"));
     });
     return links;
   }

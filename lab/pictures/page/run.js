@@ -1,5 +1,5 @@
 // A run without a clock: rows that lab/pictures/watch_page.py has worked out of a transcript.
-import {PALE, INK, WHITE, WIRES} from "./hues.js";
+import {PALE, INK, WIRES} from "./hues.js";
 import {FADED, channelCircle, html, mark, pill, pillWidth, resultWords, row, words} from "./marks.js";
 import {nameOf} from "./stage.js";
 
@@ -45,23 +45,30 @@ export function queueMarks(stage, v, w, wires, look) {
 // A node under the synchroniser: its pulse, what it awaits of whom and what it keeps, and what it has found.
 /** @param {Stage} stage @param {Look} is @param {number} v @param {number} x @param {number} y @param {number} r */
 export function alphaMarks(stage, is, v, x, y, r) {
+  const [fill, kind] = stageOf(is), ink = fill ? INK : "var(--ink)";
   /** @type {Marks} */
-  const parts = [mark("circle", {cx: x, cy: y, r, fill: fillOf(is), stroke: INK, "stroke-width": 1.6}),
-    words(x, y, r * 0.9, INK, is.pulse, {"font-weight": "bold"})];
-  const due = byNeighbour(is.waits.slice().reverse()), kept = byNeighbour(is.keeps);
-  for (const w of stage.near(v)) {
-    if (!due.has(w) && !kept.has(w)) continue;
-    const m = stage.middle(v, w), far = Math.hypot(m[0] - x, m[1] - y) || 1;
-    const hue = kept.has(w) ? (kept.get(w) === "safe" ? WIRES.safe : WIRES.payload) : AWAITS[due.get(w) || ""];
-    parts.push(mark("circle", {cx: x + (m[0] - x) / far * r, cy: y + (m[1] - y) / far * r, r: Math.max(3, r * 0.2),
-      fill: kept.has(w) ? hue : WHITE, stroke: hue, "stroke-width": 2}));
-  }
+  const parts = [mark("circle", {cx: x, cy: y, r, fill: fill || "var(--paper)", stroke: "var(--ink)", "stroke-width": 1.6, "data-mark": kind}),
+    words(x, y, r * 0.9, ink, is.pulse, {"font-weight": "bold"})];
+  parts.push(...portMarks(stage, is, v, x, y, r));
   if (typeof is.found === "string") parts.push(...resultWords(x, y + r + 10, 11, is.found, stage.least));
   else if (is.found) parts.push(...channelCircle(x + 0.95 * r, y + 0.75 * r, Math.max(6, r * 0.5), is.found));
   return parts;
 }
-/** @param {Look} is */
-function fillOf(is) { return is.done ? PALE.close : is.safe ? PALE.safe : WHITE; }
+// On a node's border, towards each neighbour: what is awaited of it, or what came early from it and is kept.
+/** @param {Stage} stage @param {Look} is @param {number} v @param {number} x @param {number} y @param {number} r @returns {Marks} */
+function portMarks(stage, is, v, x, y, r) {
+  const due = byNeighbour(is.waits.slice().reverse()), kept = byNeighbour(is.keeps);
+  return stage.near(v).filter(w => due.has(w) || kept.has(w)).map(w => {
+    const m = stage.middle(v, w), far = Math.hypot(m[0] - x, m[1] - y) || 1, isKept = kept.has(w);
+    const hue = isKept ? (kept.get(w) === "safe" ? WIRES.safe : WIRES.payload) : AWAITS[due.get(w) || ""];
+    const kind = isKept ? "early" : due.get(w) === "ack" ? "await_ack" : "await_safe";
+    return mark("circle", {cx: x + (m[0] - x) / far * r, cy: y + (m[1] - y) / far * r, r: Math.max(3, r * 0.2),
+      fill: isKept ? hue : "var(--paper)", stroke: hue, "stroke-width": 2, "data-mark": kind});
+  });
+}
+// The fill of a node by its stage, or nothing, and which kind of mark that is.
+/** @param {Look} is @returns {[string, string]} */
+function stageOf(is) { return is.done ? [PALE.close, "done_node"] : is.safe ? [PALE.safe, "safe_node"] : ["", "pulse"]; }
 /** @param {OfNeighbour[]} list @returns {Map<number, string>} */
 function byNeighbour(list) { return new Map(list.map(([what, w]) => [w, what])); }
 /** @param {OfNeighbour[]} list */
@@ -103,18 +110,9 @@ export function waitsTable(looks, {last, only = null, lit = null, head = "", mor
   if (looks.length > 12 && !only) box.append(html("p", "Click a node to see what it waits for.", {class: "soft"}));
   return box;
 }
-// What the marks mean.
-/** @param {HTMLElement} place */
-export function runLegend(place) {
-  place.replaceChildren(...Object.keys(PALE).map(kind => {
-    const shown = html("b", kind);
-    shown.style.borderColor = WIRES[kind];
-    shown.style.background = PALE[kind];
-    return shown;
-  }), html("br"), "A node has its pulse inside: orange when it has said safe, grey when it is done. On its border, "
-    + "towards a neighbour: open what it awaits (grey: ack, orange: safe), full what came early and is kept. Where "
-    + "there is little room s0 is safe 0, a2 is ack 2, and a number alone a payload’s.");
-}
+// What some marks mean in a run.
+export const RUN_WORDS = {channel: "the channel that it has chosen", ring_glow: "it made the last entry", faded: "it isn’t at the node that is followed",
+  ring_edge: "the node that is followed"};
 
 export class RunFilm {
   // `found` has table, last and pulses.
@@ -127,6 +125,9 @@ export class RunFilm {
     /** @type {[number, number][][]} */
     this.own = net.nodes.map(() => []);
     this.table.rows.forEach((row_, at) => this.own[row_[1] - 1].push([at, row_[2]]));
+    // Worked out when it is asked for.
+    /** @type {[number, number, number][]} */
+    this.far = [];
   }
   /** @param {number} stamp */
   rowsBy(stamp) { return firstOf(this.table.rows, one => one[0] <= stamp); }
@@ -144,6 +145,37 @@ export class RunFilm {
     const last = this.last(at);
     return last ? `entry ${at.toLocaleString("en")}, stamp ${last[0]}: node ${last[1]} ${this.table.texts[last[3]]}`
       : "nothing has happened yet";
+  }
+  // How far apart the pulses of two neighbours, and of any two nodes, have been so far.
+  /** @param {number} at @returns {[number, number]} */
+  farthest(at) {
+    if (!this.far.length) this.far = this.farAll();
+    const before = firstOf(this.far, one => one[0] <= at);
+    return before ? [this.far[before - 1][1], this.far[before - 1][2]] : [0, 0];
+  }
+  // [how many entries have been made, how far apart neighbours have been, and any two nodes], where that has grown.
+  /** @returns {[number, number, number][]} */
+  farAll() {
+    const pulses = this.table.start.map(is => is.pulse), near = this.net.nodes.map(() => /** @type {number[]} */ ([]));
+    this.net.edges.forEach(([v, w]) => { near[v - 1].push(w - 1); near[w - 1].push(v - 1); });
+    /** @type {[number, number, number][]} */
+    const found = [[0, 0, 0]];
+    this.table.rows.forEach((one, k) => {
+      const v = one[1] - 1, {pulse} = this.table.looks[one[2]], [, most, all] = found[found.length - 1];
+      if (pulse === pulses[v]) return;
+      pulses[v] = pulse;
+      const here = Math.max(most, ...near[v].map(w => Math.abs(pulses[w] - pulse)));
+      const far = Math.max(all, Math.max(...pulses) - Math.min(...pulses));
+      if (here > most || far > all) found.push([k + 1, here, far]);
+    });
+    return found;
+  }
+  // How many stamps the pulse has in which a stamp is, counted by the slowest node.
+  /** @param {number} stamp */
+  stampsOfPulse(stamp) {
+    const {all, stamps} = this.table, next = firstOf(all, one => one[0] <= stamp);
+    const from = next ? all[next - 1][0] : stamps[0], to = next < all.length ? all[next][0] : stamps[1];
+    return Math.max(1, to - from);
   }
   // The stamp of the next entry, or of the one before, that is wanted. Entries of one stamp are of different nodes, and
   // none depends on another, so they are stepped over together.
@@ -193,6 +225,6 @@ export class RunFilm {
 // An edge whose link can be made to wait, also by a key.
 /** @param {number} v @param {number} w @param {boolean} isHeld @returns {Attributes} */
 export function heldEdge(v, w, isHeld) {
-  return {...isHeld ? {stroke: "#0072B2", "stroke-width": 5, "stroke-dasharray": "2 6"} : {}, tabindex: 0,
+  return {...isHeld ? {stroke: "#0072B2", "stroke-width": 5, "stroke-dasharray": "2 6", "data-mark": "held"} : {}, tabindex: 0,
     role: "button", "aria-pressed": isHeld, "aria-label": `link ${v}–${w} waits`};
 }

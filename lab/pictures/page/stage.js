@@ -2,7 +2,7 @@
 import {MOST_BARS} from "./hues.js";
 import {HALO, barMark, mark, patch, words} from "./marks.js";
 
-const LARGEST = 22, RING = 7, LETTERS = new Intl.Segmenter(), TURNS = /[\u0590-\u08FF\u200F\u202A-\u202E\u2066-\u2069]/;
+const RING = 7, LETTERS = new Intl.Segmenter(), TURNS = /[\u0590-\u08FF\u200F\u202A-\u202E\u2066-\u2069]/;
 
 export class Stage {
   // `net` has nodes {x, y, id, name, bars} from 0, and edges [v, w] from 1.
@@ -17,7 +17,9 @@ export class Stage {
     /** @type {Mark[]} */
     this.groups = [];
     this.to = {scale: 1, x: 0, y: 0};
-    this.radius = LARGEST;
+    // The radius of a node at most.
+    this.largest = 22;
+    this.radius = this.largest;
     this.wide = 1;
     this.high = 1;
     this.apart = 2.9;
@@ -133,7 +135,7 @@ export class Stage {
     const {nodes, edges, bends} = this.net;
     // While a node is dragged the edges keep their bends, and the labels their sides.
     if (this.isDragged()) { this.still = []; return; }
-    const now = JSON.stringify([nodes.map(n => [n.x, n.y]), edges, bends, this.to, this.wide, this.apart]);
+    const now = JSON.stringify([nodes.map(n => [n.x, n.y]), edges, bends, this.to, this.wide, this.apart, this.largest]);
     if (now === this.key) return;
     this.still = [];
     this.key = now;
@@ -149,7 +151,7 @@ export class Stage {
     this.least = least;
     // Numbers have room if there is any, rather than wires.
     const room = Math.max(least / this.apart, Math.min(8, least / 2.4));
-    this.radius = Math.max(5, Math.min(LARGEST, this.wide / 16, room));
+    this.radius = Math.max(5, Math.min(this.largest, this.wide / 16, room));
     this.bends = new Map(edges.map(([a, b], k) => [a + " " + b, (bends[k] || 0) * this.to.scale]));
   }
   isDragged() {
@@ -186,13 +188,13 @@ export class Stage {
       ...attributes});
   }
   // An arrow from a to b, whose head touches b.
-  /** @param {number} a @param {number} b @param {string} stroke @param {number} width @returns {Mark[]} */
-  arrow(a, b, stroke, width) {
+  /** @param {number} a @param {number} b @param {string} stroke @param {number} width @param {string} kind @returns {Mark[]} */
+  arrow(a, b, stroke, width, kind = "arrow") {
     const m = this.middle(a, b), dx = this.X(b) - m[0], dy = this.Y(b) - m[1], far = Math.hypot(dx, dy) || 1;
     const ex = dx / far, ey = dy / far, size = Math.max(6, Math.min(10, this.radius * 0.6)), half = size * 0.45;
     const end = this.radius + this.around(b) + 2, tx = this.X(b) - ex * end, ty = this.Y(b) - ey * end;
     const bx = tx - ex * size, by = ty - ey * size;
-    return [this.line(a, b, {stroke, "stroke-width": width}), mark("path", {fill: stroke,
+    return [this.line(a, b, {stroke, "stroke-width": width, "data-mark": kind}), mark("path", {fill: stroke,
       d: `M${tx} ${ty}L${bx - ey * half} ${by + ex * half}L${bx + ey * half} ${by - ex * half}Z`})];
   }
   // Where the labels have room: for each node, one after another, of 16 directions one in which its label covers no
@@ -273,7 +275,7 @@ export class Stage {
         {stroke: "var(--edge)", "stroke-width": 1.6, ...(edge ? edge(v, w) : {}), "data-edge": v + "-" + w}));
       patch(this.edges, this.lines);
       patch(this.arrows, links());
-      const size = Math.max(10, Math.min(13, this.radius * 0.75));
+      const size = Math.max(10, Math.min(this.largest - 9, this.radius * 0.75));
       /** @type {(v: number) => string} */
       const saidOf = v => label ? label(v) : nameOf(this.net, v);
       const look = {node, size, says, ring, bars};
@@ -305,7 +307,7 @@ export class Stage {
   group(v, {node, said, spot, size, says, ring, bars}) {
     const x = this.X(v), y = this.Y(v), r = this.radius, colour = ring && ring(v), own = this.net.nodes[v - 1].bars;
     /** @type {Marks} */
-    const parts = [colour && mark("circle", {cx: x, cy: y, r: r + RING - 2, fill: "none", stroke: colour, "stroke-width": 4}),
+    const parts = [colour && mark("circle", {cx: x, cy: y, r: r + RING - 2, fill: "none", stroke: colour, "stroke-width": 4, "data-mark": colour.replace(/var\(--(\w+)\)/, "ring_$1")}),
       ...node(v, x, y, r), words(...this.outside(v, spot, said.length * size * 0.3, size), size, "var(--soft)", said, HALO)];
     if (bars) own.slice(0, MOST_BARS).forEach((bar, n) => parts.push(...barMark(x + r + 8 + n * 19, y + r + 5, 9, bar)));
     const more = `+${own.length - MOST_BARS}`;

@@ -1,7 +1,8 @@
 // A page that plays a run without a clock, or two of one network beside each other: D is {net, runs, pulses, last,
 // same, sent}. The place is a stamp, or of two runs a pulse.
 import {element, html, row} from "./marks.js";
-import {RunFilm, runLegend, waitsTable} from "./run.js";
+import {legend} from "./legend.js";
+import {RUN_WORDS, RunFilm, waitsTable} from "./run.js";
 import {Stage} from "./stage.js";
 import {openPage} from "./time.js";
 
@@ -21,6 +22,7 @@ function show(place) {
   element("said").textContent = films[0].said(at);
   element("table").replaceChildren(waitsTable(films[0].looks(at), {last: D.last, only: chosen, lit: last && last[1], head: "found",
     more: (v, is) => is.found || ""}));
+  legend(element("legend"), [stages[0].svg], RUN_WORDS);
   return `#entry-${at}` + (chosen ? `-node-${chosen}` : "");
 }
 /** @param {number} place @param {RunOptions} options */
@@ -39,6 +41,7 @@ function showTwo(place, options) {
   const sent = D.sent[k].map(([v, w, said]) => `${v} → ${w}: ${said}`).join("; ") || "none";
   element("table").replaceChildren(table, html("h2", `Payloads of pulse ${k + D.pulses[0]}, ${D.same[k]
     ? "the same in both runs" : "which differ"}`), html("p", sent, {class: "soft"}));
+  legend(element("legend"), stages.map(one => one.svg), RUN_WORDS);
   return "#pulse-" + p;
 }
 /** @param {number} way */
@@ -71,5 +74,4 @@ const time = openPage(stages, {show, follow, step, rate: () => two ? 0.4 : 2.5,
 element("payloads").onchange = () => time.set(time.at);
 if (two) time.range(D.pulses[0], D.pulses[1] + 1);
 else time.range(...D.runs[0].stamps);
-runLegend(element("legend"));
 follow();

@@ -5,7 +5,7 @@ import {net, neighbours, text} from "./model.js";
 
 /** @type {{plan: number[], verdict: GoodPlan | BadPlan | null, typed: number | null}} */
 export const check = {plan: [], verdict: null, typed: null};
-const CLASH = {stroke: "var(--wrong)", "stroke-width": 3, "stroke-dasharray": "5 4"};
+const CLASH = {stroke: "var(--wrong)", "stroke-width": 3, "stroke-dasharray": "5 4", "data-mark": "clash"};
 /** @type {Record<string, string>} */
 const SAID = {C4: "one channel", C8: "barred here", C1: "no channel yet", C5: "too great"};
 

@@ -24,7 +24,7 @@ function stepSeen() {
 // The card, if it isn't there already: of a lesson, of the lecture, or none.
 export function showCard() {
   const {lesson, step, lecture} = seen, isAway = isElsewhere(), key = [lesson, step, lecture, isAway].join();
-  document.body.classList.toggle("lecture", lecture !== null);
+  document.body.classList.toggle("carded", lecture !== null || lesson !== null);
   if (key === shown) return look();
   shown = key;
   asked = "";

@@ -1,6 +1,6 @@
 // Predict, then look: a question on the chosen node, whose answer the server judges, with the reason. A first answer
 // that isn't right may be mended; after the second one the right one is said.
-import {asks, by, hooks} from "./base.js";
+import {asks, by, hooks, show} from "./base.js";
 import {coded, html} from "./marks.js";
 
 // How many questions were asked on this page, and how many of them were answered rightly at once.
@@ -15,6 +15,8 @@ export class Question {
     this.next = next;
     this.key = "";
     this.tries = 0;
+    // Whether the right answer is known.
+    this.isTold = false;
   }
   show() {
     const is = this.ask(), key = JSON.stringify(is);
@@ -24,6 +26,7 @@ export class Question {
     if (!is || key === this.key) return;
     this.key = key;
     this.tries = 0;
+    this.isTold = false;
     place.replaceChildren(html("p", is.words));
     if (is.call) place.append(this.form(is), html("div", null, {role: "status"}));
   }
@@ -55,7 +58,7 @@ export class Question {
   /** @param {OfRounds | OfWaits} is @param {string} said */
   judge(is, said) {
     /** @param {Predicted} answer */
-    const show = ({right, found, why}) => {
+    const told = ({right, found, why}) => {
       this.tries++;
       if (this.tries === 1) {
         score.asked++;
@@ -67,12 +70,14 @@ export class Question {
       reason.append(...coded(why + " "));
       next.onclick = this.next;
       if (!right && this.tries === 1) return this.say("soft", notYet(is, said, is.tells ? "" : reason));
+      this.isTold = true;
+      show();
       const verdict = right ? `✓ Yes: ${found}. ` : `✗ Not ${said}: ${found}. `;
       this.say(right ? "good" : "bad", [verdict, reason, html("span", `${score.right} of ${score.asked} at the first try. `),
         next]);
     };
-    return is.call === "waits" ? asks("waits", {...is.asked, said}, "looking for the answer", show)
-      : asks("predict", {...is.asked, said}, "looking for the answer", show);
+    return is.call === "waits" ? asks("waits", {...is.asked, said}, "looking for the answer", told)
+      : asks("predict", {...is.asked, said}, "looking for the answer", told);
   }
 }
 /** @param {HTMLInputElement} box */

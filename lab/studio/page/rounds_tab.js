@@ -5,7 +5,7 @@ import {KEYS, all, announce, asks, by, capital, count, fill, go, hang, hello, hi
 import {html, patch, sentence} from "./marks.js";
 import {load as load_, net, text} from "./model.js";
 import {Question} from "./predict.js";
-import {RoundsFilm, roundsLegend} from "./rounds.js";
+import {RoundsFilm} from "./rounds.js";
 
 /** @type {Rounds} */
 export const rounds = {forest: 0, why: null, whyOf: null, film: null, of: null, without: "", predicts: false};
@@ -48,13 +48,20 @@ function endOf(chosen) {
   return alike ? `${count(alike, "link")} have one channel at both ends.`
     : `Done: ${count(new Set(Object.values(chosen)).size, "channel")}, no two neighbours alike, and nobody was in charge.`;
 }
+// What has been reached at the last pulse.
+/** @param {RoundsFilm} film @param {number} p */
+function endSaid(film, p) {
+  return film.forests || film.channels ? endOf(film.merged[p]) : "Done: below each node is what it has found.";
+}
 function showAt() {
   const film = ready();
   if (!film) return false;
-  const {node} = seen, why = rounds.whyOf === node ? rounds.why : null;
+  const {node} = seen;
+  // What decided a channel isn't on the network as long as something is asked.
+  const why = rounds.whyOf === node && !rounds.predicts ? rounds.why : null;
   rounds.forest = Math.min(rounds.forest, Math.max(0, film.forests - 1));
   const isFirst = !by("welcome").hidden, p = film.draw(stage, time.at, {forest: rounds.forest, node, why, plain: isFirst});
-  const [caption, said] = film.said(p, node);
+  const [caption, told] = film.said(p, node), said = p === film.last ? `${endSaid(film, p)} ${told}`.replace(/ (There is none|Nothing is sent)\.$/, "") : told;
   say("when", `pulse ${p} of ${film.last}`);
   if (isFirst) say("story", storyOf(film, p));
   const ofNode = node ? ` Node ${node}: ${film.words(node, p, film.forestAt(p, rounds.forest))}.` : "";
@@ -165,7 +172,6 @@ tabs.rounds = {
       // Another place has been entered since.
       if (!await load() || mine !== entered || seen.tab !== "rounds" || !rounds.film) return;
       time.range(0, rounds.film.last);
-      roundsLegend(by("roundslegend"), rounds.film);
       time.set(time.at);
       sayLast(more, rounds.film.last, "pulse");
       if (more.play) time.toggle();

@@ -1,10 +1,10 @@
 // The tab No clock: a run by a seed or by real threads, its verdicts, another order or the rounds beside it.
 import {call} from "./api.js";
-import {KEYS, all, announce, by, capital, fill, hello, hide, messageOf, programNamed, progress, refill, say, sayLast, seen, show,
+import {KEYS, all, announce, by, capital, count, fill, hello, hide, messageOf, programNamed, progress, refill, say, sayLast, seen, show,
   showOptions, stage, tabs, time, timeAt, toggleLazy, toggleSlow, tried, wrong} from "./base.js";
 import {net, text} from "./model.js";
 import {rounds} from "./rounds_tab.js";
-import {RunFilm, lookWords, runLegend, waitsTable} from "./run.js";
+import {RunFilm, lookWords, waitsTable} from "./run.js";
 import {Stage} from "./stage.js";
 
 // `steps` come first, as the tab Adversary has made them; `other` is the policy and the seed of a second run.
@@ -82,6 +82,7 @@ function ask(more = {}) {
     if (by("beside").checked) await tabs.rounds.load();
     const last = place(time.at);
     if (last) sayLast(more, last, run.film2 ? "pulse" : "stamp");
+    if (more.play) time.toggle();
     if (run.found && run.found.of) by("policysaid").textContent += ` Here it is ${run.found.of}.`;
     judgeSoon();
   });
@@ -137,7 +138,7 @@ function showAt() {
     say("when", `pulse ${Math.floor(time.at)}`);
   } else {
     at = film.draw(stage, time.at, options);
-    say("now", `${film.said(at)}. ${apart(film.looks(at))}`);
+    say("now", `${capital(film.said(at))}. ${apart(film, at)}`);
     say("when", "stamp " + Math.floor(time.at));
   }
   run.at = at;
@@ -155,14 +156,16 @@ function showAt() {
 /** @param {number | string | undefined} result */
 function resultSaid(result) { return typeof result === "number" ? `channel ${result}` : result || ""; }
 // How far apart the pulses of neighbours are, and of all nodes.
-/** @param {Look[]} looks */
-function apart(looks) {
+/** @param {RunFilm} film @param {number} at */
+function apart(film, at) {
+  const looks = film.looks(at), [near, all_] = film.farthest(at);
   /** @type {(pairs: Edge[]) => number} */
   const most = pairs => Math.max(0, ...pairs.map(([v, w]) => Math.abs(looks[v - 1].pulse - looks[w - 1].pulse)));
   const pulses_ = looks.map(is => is.pulse), low = pulses_.indexOf(Math.min(...pulses_)) + 1;
   const high = pulses_.indexOf(Math.max(...pulses_)) + 1, far = most([[low, high]]);
-  return far ? `Pulses: neighbours are at most ${most(net.edges)} apart, nodes ${low} and ${high} are ${far} apart.`
+  const now = far ? `Neighbours are at most ${count(most(net.edges), "pulse")} apart, and the nodes ${low} and ${high} are ${far} apart.`
     : "All nodes are at the same pulse.";
+  return all_ ? `${now} So far it was at most ${near} for neighbours, and ${all_} for any two nodes.` : now;
 }
 // The rounds, small, at the pulse of the slowest node or of the one that is followed.
 /** @param {Look[]} looks */
@@ -179,12 +182,12 @@ function of_(which) { return which ? "Second run: " : ""; }
 // What is said of a whole run; `which` is "2" of the other order beside it.
 /** @param {WholeRun} found @param {RunFilm} film @param {"" | "2"} which */
 function verdicts(found, film, which) {
-  const {judge} = found, entries = judge.entries.toLocaleString("en"), [same, pulses_, payloads] = found.same;
+  const {judge} = found, whole_ = "The whole run: ", entries = judge.entries.toLocaleString("en"), [same, pulses_, payloads] = found.same;
   const kinds = Object.entries(found.costs).map(([kind, count]) => `${count.toLocaleString("en")} ${kind}s`);
   by(`costs${which}`).textContent = `${of_(which)}over the links went ${kinds.join(", ")}.`;
   const judged = by(`judge${which}`), compared = by(`same${which}`), of = of_(which);
   judged.className = "verdict " + (judge.ok ? "good" : "bad");
-  judged.textContent = of + (judge.ok ? `✓ ${judge.by} accepts these ${entries} entries, a whole run.`
+  judged.textContent = of + (judge.ok ? `✓ ${whole_}${judge.by} accepts its ${entries} entries.`
     : `✗ ${judge.by}: ${judge.said}`);
   const end = film.table.rows.length;
   const ends = found.results.every((result, k) => film.look(k + 1, end).found === result);
@@ -203,7 +206,8 @@ function judgeSoon() {
 // The judge plays the entries up to here, and says where each node is: the page's own account has to agree.
 async function judgeHere() {
   const {at, found} = run, film = ready();
-  if (seen.tab !== "run" || !film || !found || run.judgedAt === at) return;
+  // Before anything has happened there is nothing to judge.
+  if (seen.tab !== "run" || !film || !found || !at || run.judgedAt === at) return;
   const lines = found.text.split("\n", at + 1).join("\n");
   const is = await call("replay", {network: text(), transcript: lines, program: programNamed()});
   if (!is || run.at !== at || run.found !== found) return;
@@ -229,7 +233,9 @@ function lazyBox() {
   say("lazysaid", ` node ${seen.node} waits`);
 }
 tabs.run = {
-  transcript, ask, stopped: judgeSoon, rate: () => run.film2 ? 0.4 : 2.5,
+  transcript, ask, stopped: judgeSoon,
+  // A pulse takes two seconds, however many entries it has.
+  rate: () => run.film2 || !run.film ? 0.5 : run.film.stampsOfPulse(time.at) / 2,
   show() { lazyBox(); judgeSoon(); return showAt(); },
   hint: () => `Click an edge to make its link wait, a node to follow it. ${KEYS}`,
   click(v, edge) {
@@ -244,7 +250,6 @@ tabs.run = {
     if (more.steps) Object.assign(run, {transcript: null, steps: more.steps});
     by("program").value = seen.program;
     showOptions();
-    runLegend(by("runlegend"));
     ask(more);
   },
   leave() {
@@ -289,7 +294,10 @@ by("beside").onchange = () => ask();
 [by("two"), by("policy2"), by("seed2")].forEach(field => {
   field.onchange = () => {
     run.other = by("two").checked ? {policy: by("policy2").value, seed: by("seed2").value} : null;
-    if (field.id === "two") time.at = 0;
+    // The place is kept: of one run it is a stamp, of two the pulse that all nodes have made.
+    if (field.id === "two" && run.film) {
+      time.at = run.other ? Math.min(...run.film.looks(run.at).map(is => is.pulse)) : run.film.atPulse(Math.floor(time.at)).stamp;
+    }
     ask();
   };
 });

@@ -1,6 +1,7 @@
 // The tab Adversary: whoever looks is the network, and chooses which message is taken next and which node pulses.
-import {all, announce, asks, by, go, hello, hooks, leftOutWords, programNamed, ruleBoxes, seen, show, showOptions,
+import {all, announce, asks, by, count, go, hello, hooks, leftOutWords, programNamed, ruleBoxes, seen, show, showOptions,
   stage, tabs, toggleLazy, toggleSlow} from "./base.js";
+import {keep, keptNumbers} from "./kept.js";
 import {html, sentence} from "./marks.js";
 import {neighbours, net, text} from "./model.js";
 import {Question} from "./predict.js";
@@ -65,14 +66,17 @@ function showAt() {
   if (!is || is.looks.length !== net.nodes.length) return false;
   const slow = new Set(seen.slow.map(e => e.join("-")));
   const isWord = typeof is.looks[0].found === "string";
-  stage.draw({node: (v, x, y, r) => alphaMarks(stage, is.looks[v - 1], v, x, y, r), bars: false, apart: 4.6,
-    below: isWord, ring: v => isFree(String(v)) ? "var(--good)" : v === seen.node ? "var(--edge)" : null,
+  question.show();
+  // What is asked of a node isn't on the network before it is answered.
+  const hidden = hiddenNode();
+  /** @param {number} v */
+  const look = v => v === hidden ? {...is.looks[v - 1], waits: [], safe: false} : is.looks[v - 1];
+  stage.draw({node: (v, x, y, r) => alphaMarks(stage, look(v), v, x, y, r), bars: false, apart: 4.6,
+    below: isWord, ring: v => v !== hidden && isFree(String(v)) ? "var(--good)" : v === seen.node ? "var(--edge)" : null,
     says: v => saysOf(is, v),
     label: v => nameOf(net, v) + (seen.lazy.includes(v) ? " (held)" : ""),
     edge: (v, w) => heldEdge(v, w, slow.has(v + "-" + w)), above: () => is.wires.flatMap(queue)});
   sayWhere(is);
-  question.show();
-  by("dared").className = is.dare && is.dare.won ? "good" : "soft";
   showDare(is);
   listSteps(is);
   by("list").value = is.list.join("\n") + "\n";
@@ -80,12 +84,26 @@ function showAt() {
   by("undostep").disabled = by("anew").disabled = !steps.made.length;
   [by("chance"), by("chance20"), by("instep")].forEach(one => { one.disabled = is.over || !is.steps.some(isFree); });
 }
+// The node of which it is asked what it waits for, as long as that isn't answered.
+function hiddenNode() { return steps.predicts && !question.isTold ? seen.node : null; }
 // What is said of a node: what it waits for isn't, if that is asked; and in a run that has ended it waits for nothing.
 /** @param {StepsFound} is @param {number} v */
 function saysOf(is, v) {
   const look = is.looks[v - 1];
   if (steps.predicts) return `pulse ${look.pulse}`;
   return is.over ? [`pulse ${look.pulse}`, foundWords(look)].filter(Boolean).join(", ") : lookWords(look, is.last);
+}
+// The least steps in which each task was won in this browser, of the latest ones: a task is a dare, a network, a program
+// and rules that are left out.
+const BEST = "studio-best", MOST_KEPT = 40;
+/** @param {DareJudged} dare */
+function bestOf({won}) {
+  const task = JSON.stringify([steps.dare, steps.without, programNamed(), text()]), best = keptNumbers(BEST);
+  const before = best.get(task), now = steps.made.length;
+  if (!won || before !== undefined && before <= now) return before;
+  best.delete(task);
+  keep(BEST, JSON.stringify(Object.fromEntries(Array.from(best.set(task, now)).slice(-MOST_KEPT))));
+  return now;
 }
 // The card of a dare: its goal, the rules that are left out, and how far it is; of one that nobody can win, that this is
 // proved. Who has won hands in the link, and who sets it as a task copies it without the steps.
@@ -97,10 +115,11 @@ function showDare(is) {
   const goal = `${dare.won ? "☑" : "☐"} I dare you to ${hello().dares[steps.dare]}.`;
   const rules = steps.without ? `Left out: ${steps.without.split(",").join(", ")}.` : "All rules are kept.";
   const far = `${dare.won ? "Won" : "Not yet"}: ${dare.said}.${dare.impossible ? ` ${dare.impossible}.` : ""}`;
+  const best = bestOf(dare), ever = html("p", best === undefined ? "Best so far: not won yet." : `Best so far: won in ${count(best, "step")}.`, {class: "soft"});
   const copy = html("button", dare.won ? "copy the link to hand in" : "copy this as a task", {class: dare.won ? "primary" : "quiet"});
   copy.onclick = () => hooks.copy(copy, dare.won ? {} : {steps: []});
   card.className = dare.won ? "card won" : "card";
-  card.replaceChildren(html("b", goal), html("p", rules, {class: "soft"}), sentence(far), copy);
+  card.replaceChildren(html("b", goal), html("p", rules, {class: "soft"}), sentence(far), ever, copy);
 }
 // Why nothing goes on, or that all is done; what is under way then is taken by nodes that have halted.
 /** @param {StepsFound} is @returns {[string, string] | null} */
@@ -153,6 +172,8 @@ function listSteps(is) {
     line.append(html("b", `node ${v} `), html("span", `pulse ${look.pulse}${steps.predicts || is.over ? "" : ": " + waitsWords(look, is.last)} `,
       {class: "soft"}), hold);
     (byNode.get(v) || []).forEach(step => {
+      // That a node can make its pulse says that it waits for nothing.
+      if (v === hiddenNode() && !step.includes("-")) return;
       const free = isFree(step), button = html("button", null, {"data-step": step, "data-key": step,
         class: kindOf(is, step)});
       if (free && keyed < KEYED) button.append(html("kbd", ++keyed), " ");
@@ -185,7 +206,7 @@ tabs.adversary = {
   hint: () => "Click a message to have it taken, a node in a green ring to make its pulse, an edge to hold it.",
   click(v, edge, event, step) {
     if (step) return make(step);
-    if (v && steps.found && isFree(String(v))) return make(String(v));
+    if (v && steps.found && !steps.predicts && isFree(String(v))) return make(String(v));
     if (v) { seen.node = v === seen.node ? null : v; return show(); }
     if (edge) { toggleSlow(edge); show(); }
   },
@@ -206,6 +227,7 @@ tabs.adversary = {
     by("rule").textContent = leftOutWords(orders, steps.without);
     by("dare").value = steps.dare;
     by("handover").disabled = Boolean(steps.without);
+    by("handoversaid").textContent = steps.without ? "The tab No clock keeps all rules, so it can’t go on from here." : "";
     steps.found = null;
     [by("undostep"), by("chance"), by("chance20"), by("instep")].forEach(one => { one.disabled = true; });
     [by("stepsaid"), by("possible")].forEach(one => one.replaceChildren());

@@ -9,7 +9,10 @@ import {fillMenu, look, showCard, turns} from "./lessons.js";
 import {rounds} from "./rounds_tab.js";
 import {run} from "./run_tab.js";
 import {steps} from "./steps_tab.js";
+import {legend} from "./legend.js";
 import {blank, coded, targetOf} from "./marks.js";
+import {ROUNDS_WORDS} from "./rounds.js";
+import {RUN_WORDS} from "./run.js";
 import * as model from "./model.js";
 import {change, net, text} from "./model.js";
 import {watchBuild} from "./proved.js";
@@ -17,6 +20,9 @@ import {watchBuild} from "./proved.js";
 /** @type {TabName[]} */
 const TABS = ["draw", "rounds", "run", "adversary", "check", "pictures"];
 const TIMED = ["rounds", "run"];
+// What some marks mean in a tab.
+/** @type {{[Name in TabName]?: Record<string, string>}} */
+const LEGENDS = {rounds: ROUNDS_WORDS, run: RUN_WORDS, adversary: {channel: "the channel that it has chosen"}};
 // Where each of them was left.
 /** @type {{[Name in TabName]?: number}} */
 const left = {};
@@ -34,6 +40,7 @@ hooks.show = () => {
   say("name", [net.name, seen.program].filter(one => one && one !== "colouring").map(one => "· " + one).join(" "));
   document.title = titleSeen();
   by("slider").setAttribute("aria-valuetext", by("when").textContent || "");
+  legend(by("legend"), seen.tab === "pictures" ? [] : [stage.svg], LEGENDS[seen.tab]);
   look();
   hooks.link();
 };
@@ -345,6 +352,17 @@ menu("examples", name => asks("example", {name}, "opening", found => model.load(
 menu("lessons", number => hooks.open(`lesson=${number}&step=1`));
 menu("save", what => net.nodes.length ? save(what) : wrong("Draw a network first."));
 menu("lecture", number => hooks.open("lecture=" + number));
+// The large mode, for a projector: the whole screen, if the browser gives it.
+function turnLarge(isLarge = !document.documentElement.classList.contains("large")) {
+  document.documentElement.classList.toggle("large", isLarge);
+  by("large").setAttribute("aria-pressed", String(isLarge));
+  stage.largest = isLarge ? 34 : 22;
+  if (isLarge) document.documentElement.requestFullscreen().catch(() => 0);
+  else if (document.fullscreenElement) document.exitFullscreen();
+  show();
+}
+document.onfullscreenchange = () => { if (!document.fullscreenElement) turnLarge(false); };
+by("large").onclick = () => turnLarge();
 by("replay").onclick = () => { time.stop(); time.set(0); time.toggle(); };
 by("skip").onclick = () => all("#net [data-node]").slice(0, 1).forEach(one => one.focus());
 all("header nav button").forEach(one => { one.onclick = () => hooks.go(tabNamed(one.dataset.tab)); });
@@ -388,7 +406,7 @@ function clicks(event, on, node) {
 function pressed(key) {
   /** @type {Record<string, HTMLElement | undefined>} */
   const buttons = {"+": by("zoomin"), "=": by("zoomin"), "-": by("zoomout")};
-  const button = key === "c" && seen.tab === "rounds" ? by("change") : buttons[key];
+  const button = key === "c" && seen.tab === "rounds" ? by("change") : key === "f" ? by("large") : buttons[key];
   if (button) button.click();
   return Boolean(button);
 }

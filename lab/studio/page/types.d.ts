@@ -121,6 +121,7 @@ interface Elements {
   examples: HTMLSelectElement;
   save: HTMLSelectElement;
   copy: HTMLButtonElement;
+  large: HTMLButtonElement;
   left: HTMLElement;
   stage: HTMLElement;
   headline: HTMLElement;
@@ -146,6 +147,7 @@ interface Elements {
   slider: HTMLInputElement;
   when: HTMLOutputElement;
   speed: HTMLSelectElement;
+  legend: HTMLElement;
   unproved: HTMLElement;
   begin: HTMLButtonElement;
   progress: HTMLOutputElement;
@@ -180,7 +182,6 @@ interface Elements {
   forests: HTMLElement;
   strips: SVGSVGElement;
   why: HTMLElement;
-  roundslegend: HTMLElement;
   how: HTMLFormElement;
   program: HTMLSelectElement;
   made: HTMLSelectElement;
@@ -211,7 +212,6 @@ interface Elements {
   costs2: HTMLElement;
   now: HTMLElement;
   table: HTMLElement;
-  runlegend: HTMLElement;
   program3: HTMLSelectElement;
   withoutsaid: HTMLElement;
   without: HTMLElement;
@@ -222,6 +222,7 @@ interface Elements {
   instep: HTMLButtonElement;
   anew: HTMLButtonElement;
   handover: HTMLButtonElement;
+  handoversaid: HTMLElement;
   predicts2: HTMLInputElement;
   dare: HTMLSelectElement;
   dared: HTMLElement;

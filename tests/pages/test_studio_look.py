@@ -1,0 +1,254 @@
+"""How the studio's page looks and what it has where: its legend, its type, its head, the dark and the large mode, names
+of all controls; and what a question and a dare's card show."""
+import time
+from typing import get_args
+
+from lab.studio.answers import TabName
+from tests.pages.test_studio_page import Page
+
+PLACES = {
+    "draw": "example=barred&tab=draw&node=3",
+    "rounds": "example=petersen&tab=rounds&at=15&node=3",
+    "run": "example=chain6&tab=run&slow=2-3&seed=7&at=60",
+    "adversary": "example=triangle&tab=adversary&dare=apart&slow=1-3",
+    "check": "example=petersen&tab=check&plan=1_1",
+    "pictures": "example=petersen&tab=pictures&kind=plan",
+}
+# The sizes of type that are seen, in pixels, but for the digit of a key.
+SIZES = """Array.from(new Set(Array.from(
+  document.querySelectorAll('header *, #side *, #time *, #legend, #hint, #unproved'))
+  .filter(one => !one.closest('svg') && one.tagName !== 'KBD' && one.getClientRects().length
+    && Array.from(one.childNodes).some(child => child.nodeType === 3 && child.textContent.trim()))
+  .map(one => Math.round(parseFloat(getComputedStyle(one).fontSize))))).sort((a, b) => a - b)"""
+# Kinds of marks that the network has, and those that the legend names.
+DRAWN = "Array.from(new Set(Array.from(document.querySelectorAll('#net [data-mark]'), one => one.dataset.mark))).sort()"
+NAMED = "Array.from(document.querySelectorAll('#legend [data-kind-of-mark]'), one => one.dataset.kindOfMark).sort()"
+# Two nodes, of which node 1 can make its pulse: it has taken the greeting, ack and safe of node 2.
+READY = "example=two&tab=adversary&node=1&steps=1-2_2-1_1-2_2-1_1-2"
+WON = "example=two&tab=adversary&without=safes&dare=wrong&steps=1-2_2-1_2-1_2_2"
+LONGER = "example=two&tab=adversary&without=safes&dare=wrong&steps=1-2_2-1_1-2_2-1_2_2"
+# Roles of what can be used.
+ROLES = {
+    "button",
+    "link",
+    "textbox",
+    "searchbox",
+    "combobox",
+    "checkbox",
+    "slider",
+    "tab",
+    "spinbutton",
+}
+ROLES |= {"DisclosureTriangle"}
+
+
+class Look(Page):
+    def go_and_wait(self, place: str) -> None:
+        self.go_to(place)
+        self.sees(place, "!studio.isFollowing() && busy.hidden")
+        time.sleep(0.7)
+
+    def dark(self, is_dark: bool) -> None:
+        look = {"name": "prefers-color-scheme", "value": "dark" if is_dark else "light"}
+        self.page.ask("Emulation.setEmulatedMedia", features=[look])
+
+    def test_legend(self) -> None:
+        """The legend has a swatch for each kind of mark that is drawn, and for no other one."""
+        for tab, place in PLACES.items():
+            if tab == "pictures":
+                continue
+            self.go_and_wait(place)
+            self.same(tab, self.value(NAMED), self.value(DRAWN))
+        for place, kinds in (
+            ("example=two&tab=adversary", ["await_ack", "payload", "pulse"]),
+            ("example=two&tab=draw", ["channel"]),
+            ("example=barred&tab=draw", ["bar", "channel"]),
+            ("example=petersen&tab=check&plan=1_1", ["blank", "channel", "clash", "ring_wrong"]),
+            ("example=petersen&tab=rounds&at=5&forest=0", ["arrow", "colour", "payload"]),
+        ):
+            self.go_and_wait(place)
+            self.same(place, self.value(NAMED), kinds)
+        # Its height stays, so that the network stays where it is.
+        heights = set()
+        for at in (0, 5, 13, 48):
+            self.go_and_wait(f"example=petersen&tab=rounds&at={at}&node=3")
+            heights.add(self.value("stage.clientHeight"))
+        self.same("one height of the stage", len(heights), 1)
+
+    def test_a_question_gives_nothing_away(self) -> None:
+        """As long as it is asked what a node waits for, its ring, its marks and its button don't say it."""
+        ring = "document.querySelectorAll('#net [data-node=\"1\"] [data-mark=ring_good]').length"
+        button = "document.querySelectorAll('#possible [data-step=\"1\"]').length"
+        self.go_and_wait(READY)
+        self.sees("a ring", f"{ring} === 1 && {button} === 1")
+        self.go_and_wait(READY + "&predict=1")
+        self.sees("a question", "document.querySelector('#question2 form')")
+        self.reads("no ring and no button", f"[{ring}, {button}]", [0, 0])
+        self.value("document.querySelector('#question2 form').requestSubmit()")
+        self.sees("it is answered", "question2.textContent.includes('✓ Yes: nothing.')")
+        self.sees("both are there again", f"{ring} === 1 && {button} === 1")
+        ports = "document.querySelectorAll('#net [data-node=\"1\"] [data-mark^=await]').length"
+        self.go_and_wait("example=triangle&tab=adversary&node=1")
+        self.sees("ports", f"{ports} === 2")
+        self.go_and_wait("example=triangle&tab=adversary&node=1&predict=1")
+        self.sees("no port tells", f"{ports} === 0")
+        # In rounds what decided a channel isn't shown while one is asked for.
+        faded = (
+            "document.querySelectorAll('#net [data-mark=faded], #net [data-mark=ring_edge]').length"
+        )
+        self.go_to("example=petersen&tab=rounds&at=14&node=6")
+        self.sees("the reasons", f"{faded} > 0")
+        self.value("predicts.click()")
+        self.sees("no reason", f"{faded} === 0")
+
+    def test_dark(self) -> None:
+        """In the dark no node is white, in any tab."""
+        self.dark(True)
+        self.addCleanup(self.dark, False)
+        for tab in ("adversary", "run", "check"):
+            self.go_and_wait(PLACES[tab])
+            fills = self.value(
+                "Array.from(document.querySelectorAll('#net .node [data-mark=pulse], #net .node "
+                "[data-mark=blank]'), one => getComputedStyle(one).fill)"
+            )
+            self.note(f"{tab}: dark nodes", fills and set(fills) == {"rgb(23, 25, 28)"}, fills)
+
+    def test_phone(self) -> None:
+        """A phone has the name of the page, and in a lesson more than half of it for what is read."""
+        self.page.size(360, 740, True)
+        self.addCleanup(self.page.size, 1280, 800)
+        for place in ("example=petersen&tab=draw", "lesson=3&step=2"):
+            self.go_and_wait(place)
+            box = self.value(
+                "(b => [b.width, b.height, b.right])"
+                "(document.querySelector('h1').getBoundingClientRect())"
+            )
+            self.note(f"{place}: its name", box[0] > 80 and box[1] > 14 and box[2] <= 360, box)
+            self.reads("nothing is wider", "document.documentElement.scrollWidth <= 360", True)
+        high = self.value("left.getBoundingClientRect().height")
+        self.note("room to read in", high <= 420, high)
+
+    def test_type(self) -> None:
+        """Four sizes of type, and no other one."""
+        sizes = set()
+        for tab in get_args(TabName):
+            self.go_and_wait(PLACES[tab])
+            sizes |= set(self.value(SIZES))
+        self.go_and_wait("lesson=6")
+        sizes |= set(self.value(SIZES))
+        self.note("a scale", sizes <= {13, 15, 17, 22} and len(sizes) >= 3, sizes)
+
+    def test_head(self) -> None:
+        """The tabs stay where they are, whatever the network is called, and the head is one line."""
+        for wide in (1440, 1280, 1000):
+            self.page.size(wide, 800)
+            places = set()
+            for name in ("path", "long_names", "triangle", "queen5_5"):
+                self.go_and_wait(f"example={name}&tab=draw")
+                tabs = "Array.from(document.querySelectorAll('header nav button'), one => "
+                places.add(str(self.value(tabs + "one.getBoundingClientRect().x)")))
+            self.same(f"{wide}: places of the tabs", len(places), 1)
+            self.reads(
+                "its height", "document.querySelector('header').getBoundingClientRect().height", 50
+            )
+        self.page.size(1280, 800)
+
+    def test_large(self) -> None:
+        """The key F makes all large, for a projector; the speaker's words aren't on it; F again takes that back."""
+        self.go_and_wait("lecture=3")
+        seen = "lesson.querySelector('.speaker').getClientRects().length"
+        before = self.value(
+            "[studio.stage.radius, parseFloat(getComputedStyle(document.body).fontSize)]"
+        )
+        self.sees("the speaker's words", seen)
+        self.value("document.activeElement.blur()")
+        self.page.key("f", text="f")
+        self.sees("large", f"document.documentElement.classList.contains('large') && !{seen}")
+        after = self.value(
+            "[studio.stage.radius, parseFloat(getComputedStyle(document.body).fontSize)]"
+        )
+        self.note("larger", after[0] > before[0] and after[1] == 20, (before, after))
+        self.reads("no head", "document.querySelector('header').getClientRects().length", 0)
+        self.reads(
+            "the arrows stay", "lesson.querySelector('[data-way=on]').getClientRects().length", 1
+        )
+        self.page.key("PageDown", code="PageDown", windowsVirtualKeyCode=34)
+        self.sees("and lead on", "studio.seen.lecture === 4")
+        self.page.key("f", text="f")
+        self.sees("as before", "!document.documentElement.classList.contains('large')")
+        self.reads("with the head", "document.querySelector('header').getClientRects().length", 1)
+
+    def test_names(self) -> None:
+        """Each control has a name in the accessibility tree."""
+        for place in [*PLACES.values(), "lesson=1", "lesson=6&step=3", "lecture=2"]:
+            self.go_and_wait(place)
+            tree = self.page.ask("Accessibility.getFullAXTree")["nodes"]
+            used = [
+                one
+                for one in tree
+                if one.get("role", {}).get("value") in ROLES and not one.get("ignored")
+            ]
+            nameless = [one for one in used if not one.get("name", {}).get("value", "").strip()]
+            self.note(f"{place}: there are controls", len(used) > 12, len(used))
+            self.same(f"{place}: controls without a name", [one["role"] for one in nameless], [])
+
+    def test_best_so_far(self) -> None:
+        """The card of a dare keeps the least steps in which this task was won."""
+        self.value("localStorage.removeItem('studio-best')")
+        self.go_and_wait("example=two&tab=adversary&without=safes&dare=wrong")
+        self.sees("not yet", "dared.textContent.includes('not won yet')")
+        for place, best in ((LONGER, 6), (WON, 5), (LONGER, 5)):
+            self.go_and_wait(place)
+            self.sees(f"{best}", f"dared.textContent.includes('Best so far: won in {best} steps.')")
+        self.go_and_wait("example=two&tab=adversary&without=safes&dare=apart")
+        self.sees("of another dare", "dared.textContent.includes('not won yet')")
+
+    def test_the_end(self) -> None:
+        """The last pulse says what has been reached."""
+        self.go_and_wait("example=petersen&tab=rounds&at=48")
+        said = self.page.text("said")
+        self.note("channels", "Done: 3 channels, no two neighbours alike" in said, said)
+        self.note("and no riddle", "There is none" not in said, said)
+        self.go_and_wait("example=petersen&tab=rounds&program=matching&at=31")
+        said = self.page.text("said")
+        self.note(
+            "another program", said.startswith("Done:") and "Nothing is sent" not in said, said
+        )
+
+    def test_a_run(self) -> None:
+        """A run plays if its address says so, a pulse in two seconds; how far apart pulses have been is said; a second
+        order beside it keeps the place; nothing is judged before anything has happened."""
+        self.go_to("example=chain6&tab=run&slow=2-3&seed=7")
+        self.sees("a run", "studio.run.found && judge.textContent.includes('The whole run')")
+        time.sleep(0.6)
+        self.reads("nothing is judged yet", "judgehere.textContent", "")
+        self.go_to("example=chain6&tab=run&slow=2-3&seed=7&play=1")
+        self.sees("it plays", "studio.time.timer && studio.time.at > 1")
+        self.value("studio.time.stop()")
+        pulses = self.value(
+            "studio.run.film.table.all.slice(0, -1).map((one, k) => "
+            "(studio.run.film.table.all[k + 1][0] - one[0]) / studio.run.film.stampsOfPulse(one[0]))"
+        )
+        self.same("each pulse at its own pace", set(pulses), {1})
+        looked = self.value(
+            "(() => { const {film} = studio.run; let near = 0, all = 0; const found = []; "
+            "for (let at = 0; at <= film.table.rows.length; at++) { const ps = film.looks(at).map(one => one.pulse); "
+            "near = Math.max(near, ...studio.net.edges.map(([v, w]) => Math.abs(ps[v - 1] - ps[w - 1]))); "
+            "all = Math.max(all, Math.max(...ps) - Math.min(...ps)); "
+            "if (String(film.farthest(at)) !== String([near, all])) found.push(at); } return [found, near, all]; })()"
+        )
+        self.same("so far", looked[:2], [[], 1])
+        self.note("some are farther apart", looked[2] > 1, looked)
+        self.value("studio.time.set(200)")
+        self.sees("is said", "now.textContent.includes('So far it was at most 1 for neighbours')")
+        pulse = self.value(
+            "Math.min(...studio.run.film.looks(studio.run.at).map(one => one.pulse))"
+        )
+        self.value("two.click()")
+        self.sees("beside it at this pulse", f"studio.run.film2 && studio.time.at === {pulse}")
+        self.note("not at the start", pulse > 0, pulse)
+        self.value("two.click()")
+        self.sees("and back", "!studio.run.film2 && studio.time.at > 100")
+
+    def test_zz_no_script_complained(self) -> None:
+        self.same("no script complained", self.page.faults, [])
