@@ -18,7 +18,7 @@ from lab.studio.answers import Order, PictureKind, TabName, Values, Written
 from lab.studio.asked import MOST_STEPS, OPENED
 from lab.studio.dares import DARES
 from lab.studio.drawn import decoded
-from lab.studio.lessons import LECTURE, LESSONS, place_of, steps_in
+from lab.studio.lessons import LECTURE, LESSONS, step_place, steps_in
 
 # Letters of an address: browsers take no longer one. And how many faults of one are named.
 MOST_LETTERS, MOST_NAMED = 2 << 20, 5
@@ -214,7 +214,7 @@ def place_opened(pairs: dict[str, str]) -> dict[str, str]:
         return pairs_of(place)[0] | {"lecture": pairs["lecture"]}
     lesson = within(pairs["lesson"], 1, len(LESSONS))
     step = within(pairs.get("step", "1"), 1, len(steps_in(lesson)))
-    return pairs_of(place_of(lesson, step))[0] | {"lesson": str(lesson), "step": str(step)}
+    return pairs_of(step_place(lesson, step))[0] | {"lesson": str(lesson), "step": str(step)}
 
 
 def read_values(pairs: dict[str, str], unread: dict[str, str], here: Here) -> Address:

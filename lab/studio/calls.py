@@ -51,7 +51,7 @@ CALLS = {
     "steps": answered(messages.StepsCall, runs.steps),
     "predict": answered(messages.PredictCall, predictions.predict),
     "waits": answered(messages.WaitsCall, predictions.waits),
-    "exercise": answered(messages.ExerciseCall, exercises.judged),
+    "exercise": answered(messages.ExerciseCall, exercises.exercise_judged),
     "build": answered(messages.BuildCall, building.begin),
     "built": answered(messages.BuiltCall, building.so_far),
 }

@@ -12,7 +12,7 @@ from lab.schedules.stepwise import Stepwise
 from lab.studio import dares
 from lab.studio.answers import ExerciseJudged
 from lab.studio.asked import network_asked, program_asked, rules_asked
-from lab.studio.lessons import LESSONS, Said, Seen
+from lab.studio.lessons import LESSONS, SaidExercise, SeenExercise
 from lab.studio.messages import CheckCall, ExerciseCall
 from lab.studio.rounds import check
 from lab.studio.telling import Tell
@@ -22,7 +22,7 @@ from lab.words import counted, in_words
 LONG, FEWEST = 100, 5
 
 
-def judged(call: ExerciseCall, tell: Tell) -> ExerciseJudged:
+def exercise_judged(call: ExerciseCall, tell: Tell) -> ExerciseJudged:
     """Whether the exercise of a step is done."""
     if not 1 <= call.lesson <= len(LESSONS):
         raise Fault(f"the field lesson: there are the lessons 1 to {len(LESSONS)}")
@@ -30,14 +30,14 @@ def judged(call: ExerciseCall, tell: Tell) -> ExerciseJudged:
     if not 1 <= call.step <= len(steps):
         raise Fault(f"the field step: lesson {call.lesson} has the steps 1 to {len(steps)}")
     exercise = steps[call.step - 1].exercise
-    if isinstance(exercise, Said):
+    if isinstance(exercise, SaidExercise):
         return said_right(exercise, call.said)
-    if isinstance(exercise, Seen):
+    if isinstance(exercise, SeenExercise):
         return GOALS[call.lesson, exercise.name](call, tell)
     raise Fault("this step has no exercise that is judged here")
 
 
-def said_right(exercise: Said, said: str) -> ExerciseJudged:
+def said_right(exercise: SaidExercise, said: str) -> ExerciseJudged:
     if " ".join(said.lower().split()) == exercise.right:
         return ExerciseJudged(True, exercise.answer)
     return ExerciseJudged(
@@ -133,7 +133,7 @@ def bar(call: ExerciseCall, _tell: Tell) -> ExerciseJudged:
 
 
 def first_pulse(call: ExerciseCall, _tell: Tell) -> ExerciseJudged:
-    player = played(call)
+    player = steps_played(call)
     made = max(node.pulse_number for node in player.state.nodes.values())
     steps = counted(len(player.chosen), "step")
     if made:
@@ -141,7 +141,7 @@ def first_pulse(call: ExerciseCall, _tell: Tell) -> ExerciseJudged:
     return ExerciseJudged(False, f"no node has made pulse 1 yet, after {steps}")
 
 
-def played(call: ExerciseCall) -> Stepwise:
+def steps_played(call: ExerciseCall) -> Stepwise:
     network = network_asked(call)
     player = Stepwise(network, program_asked(call, network), rules_asked(call, OF_SCHEDULES))
     player.follow(filter(None, call.steps.split("_")))

@@ -3,7 +3,7 @@ address), one instruction, and its exercise. This table is the only place where 
 
 docs/learn has a page for each lesson, which says the same at length. tests/pages/test_lessons.py compares the titles,
 questions and links of these pages with this table. A changed page never stops the studio: it only has that page's text
-to unfold (`whole_text`)."""
+to unfold (`page_text`)."""
 import os
 import re
 from collections.abc import Sequence
@@ -16,7 +16,7 @@ from lab.studio.answers import Exercise, LecturePlace, Lesson, LessonStep, TabNa
 
 
 @dataclass(frozen=True, kw_only=True)
-class Said:
+class SaidExercise:
     """An exercise that is answered in the lesson's card, by typing or by picking; `right` is the right answer."""
 
     name: str
@@ -28,7 +28,7 @@ class Said:
 
 
 @dataclass(frozen=True, kw_only=True)
-class Seen:
+class SeenExercise:
     """An exercise that is done in the studio: `GOALS` of exercises.py has what judges it, by its name."""
 
     name: str
@@ -37,7 +37,7 @@ class Seen:
 
 
 @dataclass(frozen=True, kw_only=True)
-class Predicted:
+class PredictedExercise:
     """An exercise that is the tab's own question, about the node and the next pulse of the step's place."""
 
     name: str
@@ -46,32 +46,32 @@ class Predicted:
 
 
 @dataclass(frozen=True)
-class Step:
+class TableStep:
     place: str
     do: str
-    exercise: Said | Seen | Predicted | None = None
+    exercise: SaidExercise | SeenExercise | PredictedExercise | None = None
 
 
 @dataclass(frozen=True)
-class Steps:
+class LessonSteps:
     """A lesson of the table."""
 
     title: str
     ask: str
-    steps: Sequence[Step]
+    steps: Sequence[TableStep]
 
 
-CHANNELS = Steps(
+CHANNELS = LessonSteps(
     "Channels that do not clash",
     "Each of ten transmitters knows only its own number, its own links and four counts. Can they agree on channels, so "
     "that no two neighbours have the same?",
     [
-        Step(
+        TableStep(
             "example=petersen&tab=draw",
             "A line joins two transmitters that would disturb each other: they are *neighbours*. The number in a "
             "circle is the transmitter's channel, and the number beside the circle is its own. Look for a line that "
             "has one channel at both ends. There is none, so this plan is *proper*.",
-            Said(
+            SaidExercise(
                 name="enough",
                 asks="Each transmitter has three neighbours. How many channels are enough, however the numbers are "
                 "given out?",
@@ -81,42 +81,42 @@ CHANNELS = Steps(
                 "neighbours, so one of four channels is free.",
             ),
         ),
-        Step(
+        TableStep(
             "",
             "Nobody is in charge. A transmitter knows only its own number, its links, and four counts: how many "
             "transmitters there are; the most neighbours that any of them has; the most neighbours with a higher "
             "number; and the most channels that are barred at one, which it must not use. Click a transmitter: the "
             "panel says what it knows of its links.",
         ),
-        Step(
+        TableStep(
             "example=petersen&tab=check&plan=1_2_1_2",
             "Make a proper plan yourself. Four transmitters have a channel already. Click a transmitter to give it the "
             "next channel, or go to it with the Tab key and type a digit. A dashed line is a clash.",
-            Seen(
+            SeenExercise(
                 name="proper",
                 hint="Give a transmitter the least channel that none of its neighbours has. If you are stuck, change "
                 "one of the first four.",
                 answer="For example 1, 2, 1, 2, 3, 2, 1, 3, 3, 4 for the transmitters 1 to 10.",
             ),
         ),
-        Step(
+        TableStep(
             "net=~&tab=draw",
             "In a row two channels are always enough. Yet the program's plan may have three, because it goes by the "
             "numbers. Click four places to draw four transmitters (or press A four times). Then join them to a row so "
             "that the plan takes three channels: click a transmitter, then the one to join it with. (The row "
             "1 – 2 – 3 – 4 takes two channels.)",
-            Seen(
+            SeenExercise(
                 name="row",
                 hint="Let the numbers go up and down by turns along the row.",
                 answer="Join 3 with 1, 1 with 4, and 4 with 2. The only other way is 1 – 4 – 2 – 3.",
             ),
         ),
-        Step(
+        TableStep(
             "net=0.0_90.0_180.0_270.0~1-2_2-3_3-4&tab=draw",
             "Why don't transmitters simply choose in the order of their numbers? Each of them would wait until all "
             "its neighbours with a lower number have chosen. A transmitter without such a neighbour chooses in "
             "round 1.",
-            Said(
+            SaidExercise(
                 name="rounds",
                 asks="In how many rounds would this row choose?",
                 right="4",
@@ -124,21 +124,21 @@ CHANNELS = Steps(
                 answer="In four: each transmitter waits for the one before it.",
             ),
         ),
-        Step(
+        TableStep(
             "",
             "Now part and join these four transmitters so that a row of them chooses in only two rounds, still in the "
             "order of the numbers. Two clicks on two neighbours part them.",
-            Seen(
+            SeenExercise(
                 name="two",
                 hint="Two of the four have to choose in round 1, so these two need no neighbour with a lower number.",
                 answer="1 – 3 – 2 – 4. The transmitters 1 and 2 choose in round 1, and 3 and 4 in round 2.",
             ),
         ),
-        Step(
+        TableStep(
             "example=path&tab=draw",
             "The program needs far fewer rounds in a long row. Below *Make a network* choose *path*, type 400 nodes, "
             "and press *make*. Then read in the panel how many rounds the plan took.",
-            Seen(
+            SeenExercise(
                 name="long",
                 hint="*Make a network* is in the panel, below the plan and the chosen node.",
                 answer="A row that is numbered from end to end takes the rounds 0 to 21, whether it has 3 nodes or "
@@ -148,18 +148,18 @@ CHANNELS = Steps(
         ),
     ],
 )
-FORESTS = Steps(
+FORESTS = LessonSteps(
     "Cut the network into forests",
     "Why is a tree easier to colour than a network?",
     [
-        Step(
+        TableStep(
             "example=four_cycle&tab=rounds&at=1",
             "From now on a transmitter is called a *node*, and its number its *identifier*. Here are four nodes in a "
             "ring. Each node numbers its neighbours with a higher identifier, the lowest first, from 0. The edge to "
             "neighbour 0 is in forest 0, the edge to neighbour 1 in forest 1. An arrow goes from the lower node, the "
             "*child*, to the higher one, its *parent*. Choose *forest 0* and *forest 1* in the panel: every edge is in "
             "exactly one of the two.",
-            Said(
+            SaidExercise(
                 name="root",
                 asks="Follow the arrows of forest 0 from node 1. At which node do they end?",
                 right="4",
@@ -167,11 +167,11 @@ FORESTS = Steps(
                 answer="At node 4: from 1 to 2, from 2 to 3, from 3 to 4. Node 4 has no parent, so it is a *root*.",
             ),
         ),
-        Step(
+        TableStep(
             "example=four_cycle&tab=rounds&at=1&forest=0",
             "A tree is easier than a network, because in a tree one rule is enough: be different from your parent. So "
             "the pieces must be trees: the arrows of a forest must never close a ring.",
-            Said(
+            SaidExercise(
                 name="ring",
                 asks="Why can arrows never close a ring?",
                 right="each arrow leads to a higher identifier",
@@ -185,11 +185,11 @@ FORESTS = Steps(
                 "identifiers, and never back.",
             ),
         ),
-        Step(
+        TableStep(
             "example=star&tab=draw",
             "The star has a centre, node 9, and eight leaves around it. Each leaf has one neighbour, the centre, which "
             "is higher. So all eight edges are in forest 0, and there is one forest.",
-            Said(
+            SaidExercise(
                 name="forests",
                 asks="Suppose that the centre has the lowest identifier. How many forests are there then?",
                 right="8",
@@ -198,11 +198,11 @@ FORESTS = Steps(
                 "numbers: each is in a forest of its own.",
             ),
         ),
-        Step(
+        TableStep(
             "example=star&tab=draw&node=9",
             "Try it. The centre is chosen, and the panel has its fields. Type 0 into the field *identifier* and press "
             "Enter. Then read in the panel how many forests the plan took.",
-            Seen(
+            SeenExercise(
                 name="centre",
                 hint="The field is in the panel, below *Node 9*. If node 9 isn't chosen any more, click it.",
                 answer="With the identifier 0 the centre is the lowest node, and the panel says *by way of 8 "
@@ -211,11 +211,11 @@ FORESTS = Steps(
         ),
     ],
 )
-COLOURS = Steps(
+COLOURS = LessonSteps(
     "From identifiers to three colours",
     "There are 2¹²⁸ identifiers. How do a few messages turn them into six colours, and then into three?",
     [
-        Step(
+        TableStep(
             "example=petersen&tab=rounds&at=2&forest=0&node=6",
             "All nodes work in rounds, which are called *pulses*. At pulse 2 each node has its identifier as its "
             "colour (the number in the square), and hears its parent's colour.\n\n"
@@ -225,40 +225,40 @@ COLOURS = Steps(
             "Node 6 has 110, and its parent, node 8, has 1000. They differ in digit 1 first, where node 6 has a 1. So "
             "its next colour is 2·1 + 1 = 3. Press ▶ (one step on) below the network to see it.",
         ),
-        Step(
+        TableStep(
             "example=petersen&tab=rounds&at=2&forest=0&node=8&predict=1",
             "Now you. Node 8 has the colour 8, and its parent, node 10, has the colour 10. The panel asks which colour "
             "node 8 has after pulse 3.",
-            Predicted(
+            PredictedExercise(
                 name="bit",
                 hint="8 is 1000, and 10 is 1010. In which digit do they differ, counted from the right, from 0?",
                 answer="It is 2. They differ in digit 1, where node 8 has a 0: 2·1 + 0 = 2.",
             ),
         ),
-        Step(
+        TableStep(
             "example=petersen&tab=rounds&at=2&forest=0&node=10&predict=1",
             "Node 10 has no parent in this forest: it is a root. A root takes *i* = 0, so its next colour is its own "
             "digit at the right.",
-            Predicted(
+            PredictedExercise(
                 name="root",
                 hint="10 is 1010. Which is its digit 0, the one at the right?",
                 answer="0, the digit at the right of 1010.",
             ),
         ),
-        Step(
+        TableStep(
             "example=petersen&tab=rounds&at=3&forest=0&node=8&predict=1",
             "One pulse later node 8 has the colour 2, and its parent the colour 0. Which colour comes next at node 8?",
-            Predicted(
+            PredictedExercise(
                 name="again",
                 hint="2 is 10, and 0 is 00.",
                 answer="It is 3. They differ in digit 1, where node 8 has a 1: 2·1 + 1 = 3.",
             ),
         ),
-        Step(
+        TableStep(
             "example=petersen&tab=rounds&at=6&forest=0",
             "After four bit steps, at pulse 6, every colour is one of 0 to 5, even if the identifiers had 128 digits. "
             "A fifth bit step wouldn't help: the colours 0 to 5 have at most three digits, the digits 0, 1 and 2.",
-            Said(
+            SaidExercise(
                 name="six",
                 asks="What is the greatest colour that a bit step can make of colours from 0 to 5?",
                 right="5",
@@ -266,23 +266,23 @@ COLOURS = Steps(
                 answer="It is 5. The greatest *i* is 2, and 2·2 + 1 = 5. So six colours stay six.",
             ),
         ),
-        Step(
+        TableStep(
             "example=drops&tab=rounds&at=6&forest=0&node=1&predict=1",
             "Three of the six colours have to go: 5, then 4, then 3. Before each of them comes a **shift**: each node "
             "takes its parent's colour, and a root takes the least of 0, 1, 2 other than its own. Here the nodes "
             "1 – 2 – 3 – 4 – 8 – 12 – 13 – 14 – 16 are a row. The parent of node 1 is node 2.",
-            Predicted(
+            PredictedExercise(
                 name="shift",
                 hint="Look at the square of node 2.",
                 answer="It is 5. Node 2 has the colour 5 at pulse 6, and node 1 takes it.",
             ),
         ),
-        Step(
+        TableStep(
             "example=drops&tab=rounds&at=11&forest=0&node=3&predict=1",
             "After the shift comes a **drop**. In pulse 12 each node with the colour 3 takes the least of 0, 1, 2 that "
             "neither its parent nor its children have. All its children have the colour that the node itself had "
             "before the shift. Here node 3 drops its 3; its parent is node 4, and its child is node 2.",
-            Predicted(
+            PredictedExercise(
                 name="drop",
                 hint="Read the squares of node 4 and of node 2.",
                 answer="It is 2. Its parent, node 4, has the colour 0, and its child, node 2, has the colour 1. Nobody "
@@ -291,18 +291,18 @@ COLOURS = Steps(
         ),
     ],
 )
-MERGE = Steps(
+MERGE = LessonSteps(
     "Merge the forests",
     "Each forest has its own three colours. How do they become one plan?",
     [
-        Step(
+        TableStep(
             "example=triangle&tab=rounds&at=13",
             "The forests are merged one after the other. Below a node is its pair: the square is its colour in the "
             "forest that is merged, and the number beside it is its colour so far, at first 0. The pairs have their "
             "turns one after another: (0, 0), then (0, 1), and so on. When it is a pair's turn, each node that has it "
             "takes the least channel that no neighbour in this forest, or in one merged before, has taken in this "
             "merge. Press *next change* below the network to go from choice to choice.",
-            Said(
+            SaidExercise(
                 name="first",
                 asks="Which node chooses first in the merge of forest 1, at pulse 22?",
                 right="3",
@@ -310,22 +310,22 @@ MERGE = Steps(
                 answer="Node 3: it has the pair (0, 0).",
             ),
         ),
-        Step(
+        TableStep(
             "example=triangle&tab=rounds&at=25&node=2&predict=1",
             "In this merge node 3 has taken channel 1, and node 1 has taken channel 2. In pulse 26 it is node 2's "
             "turn. The panel asks which channel it chooses.",
-            Predicted(
+            PredictedExercise(
                 name="turn",
                 hint="Both other nodes are neighbours of node 2, and have told it what they have taken.",
                 answer="3: channels 1 and 2 are taken by its neighbours.",
             ),
         ),
-        Step(
+        TableStep(
             "example=triangle&tab=rounds&at=30&node=2",
             "Why has node 2 channel 3? The panel says which messages decided it, back to the identifiers. On the "
             "network a node has a grey ring if its identifier was one of these. Step back with ◀: a dotted message "
             "decided nothing.",
-            Said(
+            SaidExercise(
                 name="identifiers",
                 asks="How many of the three identifiers decided it?",
                 right="2",
@@ -333,12 +333,12 @@ MERGE = Steps(
                 answer="Two, those of the nodes 2 and 3.",
             ),
         ),
-        Step(
+        TableStep(
             "example=four_cycle&tab=rounds&at=22",
             "Each pair has a pulse of its own, even a pair that no node has: no node can know that nobody far away has "
             "it. In the ring the merge of forest 1 begins at pulse 22 with the pair (0, 0). There are three colours of "
             "either kind, 0 to 2.",
-            Said(
+            SaidExercise(
                 name="pulse",
                 asks="Node 4 has the pair (1, 1). In which pulse does it choose?",
                 right="26",
@@ -347,12 +347,12 @@ MERGE = Steps(
                 "channel 1 by then, and it takes channel 2.",
             ),
         ),
-        Step(
+        TableStep(
             "example=triangle&tab=draw&node=3",
             "A channel may be barred at a node, for example because a hospital near it has it. Node 3 is chosen, which "
             "has channel 1. Type 1 into its field *barred channels*, and press Enter. This card then says who has "
             "another channel than before.",
-            Seen(
+            SeenExercise(
                 name="bar",
                 hint="The field is in the panel, below *Node 3*. If node 3 isn't chosen any more, click it.",
                 answer="The plan was 2, 3, 1 for the nodes 1, 2, 3. With the bar it is 1, 3, 2: node 3 can't "
@@ -361,16 +361,16 @@ MERGE = Steps(
         ),
     ],
 )
-NO_CLOCK = Steps(
+NO_CLOCK = LessonSteps(
     "No clock",
     "What if nobody strikes the hour, and messages take as long as they like?",
     [
-        Step(
+        TableStep(
             "example=chain6&tab=run&slow=2-3&seed=7&play=1",
             "Nobody strikes the hour any more. Each node goes by itself, and the number in it is its pulse. What goes "
             "over the dotted link waits as long as it can, so the nodes on its left fall behind. Let the run play, or "
             "move the slider. The panel says how far apart the pulses are, and how far they have been so far.",
-            Said(
+            SaidExercise(
                 name="neighbours",
                 asks="How many pulses are two neighbours apart at most?",
                 right="1",
@@ -379,23 +379,23 @@ NO_CLOCK = Steps(
                 "*p*; so each neighbour is at pulse *p* at least.",
             ),
         ),
-        Step(
+        TableStep(
             "example=triangle&tab=adversary&node=1&steps=2-1_1-2_1-2&predict=1",
             "How does a node know when to go on? There are four kinds of messages. A *payload* is the algorithm's own "
             "message. An *ack* says: I have your payload. A *safe* says: all my payloads of this pulse are "
             "acknowledged. (A *close* ends a link.) A node makes its next pulse when its own payloads are acknowledged "
             "and all its neighbours are safe. Here node 2 has acknowledged node 1's payload, and nothing else has "
             "come. The panel asks what node 1 waits for: tick it.",
-            Predicted(
+            PredictedExercise(
                 name="waits",
                 hint="Node 1 has sent a payload to each of its neighbours, 2 and 3. One ack has come.",
                 answer="For the ack of 3, and for the safes of 2 and 3.",
             ),
         ),
-        Step(
+        TableStep(
             "example=chain6&tab=run&slow=2-3&seed=7",
             "Neighbours are at most one pulse apart. The six nodes of this row are joined by five links.",
-            Said(
+            SaidExercise(
                 name="ends",
                 asks="How many pulses can the two ends of the row be apart?",
                 right="5",
@@ -403,23 +403,23 @@ NO_CLOCK = Steps(
                 answer="Five: one for each link between them.",
             ),
         ),
-        Step(
+        TableStep(
             "example=chain6&tab=adversary&dare=ends&node=1",
             "Make it happen. Now you are the network, and say what comes next. In the panel press *hold its pulse* of "
             "node 1. Then press *20 by chance* again and again, until this card says that it is done.",
-            Seen(
+            SeenExercise(
                 name="far",
                 hint="As long as node 1 makes no pulse, node 2 comes to pulse 1 at most, node 3 to pulse 2, and so on.",
                 answer="Hold the pulse of node 1, and let everything else happen: node 6 comes to pulse 5, and node 1 "
                 "is still at pulse 0.",
             ),
         ),
-        Step(
+        TableStep(
             "example=chain6&tab=run&slow=2-3&seed=7&other=newest.2",
             "Here are two runs of the same six nodes, one below the other. In the second one other messages come "
             "first. Let them play. The lines *Beside the rounds* in the panel compare both with a run that has a "
             "clock.",
-            Said(
+            SaidExercise(
                 name="same",
                 asks="What is the same in both runs, and with a clock?",
                 right="the payloads that each pulse reads",
@@ -435,16 +435,16 @@ NO_CLOCK = Steps(
         ),
     ],
 )
-SCHEDULES = Steps(
+SCHEDULES = LessonSteps(
     "Every schedule",
     "A run is one order of events. Can you see all orders that there are? And what goes wrong if a rule is left out?",
     [
-        Step(
+        TableStep(
             "example=path&tab=adversary",
             "You are the network: you choose which message is taken next, and which node makes its pulse. Click a "
             "message on the network, or a button in the panel, until a node makes pulse 1. A node with a green ring "
             "can make its pulse now: click it.",
-            Seen(
+            SeenExercise(
                 name="pulse",
                 hint="Node 1 has one neighbour, node 2. It needs the ack and the safe of node 2. Node 2 can send its "
                 "safe only when both its neighbours have sent their acks.",
@@ -452,11 +452,11 @@ SCHEDULES = Steps(
                 "acks. Node 1 then takes the ack and the safe of node 2, and makes pulse 1.",
             ),
         ),
-        Step(
+        TableStep(
             "example=two&tab=adversary&dare=apart",
             "A *dare* is a goal: its card is in the panel. Bring two neighbours two pulses apart. All rules are kept. "
             "Try it for a moment.",
-            Said(
+            SaidExercise(
                 name="possible",
                 asks="Can you win this dare with all rules?",
                 right="no",
@@ -466,10 +466,10 @@ SCHEDULES = Steps(
                 "are at most one pulse apart. It is proved for every network.",
             ),
         ),
-        Step(
+        TableStep(
             "example=two&tab=adversary&without=safes&dare=apart",
             "Now a rule is left out: nodes don't wait for the safes of their neighbours. Win the same dare.",
-            Seen(
+            SeenExercise(
                 name="apart",
                 hint="Let one node go ahead. It still needs acks, so the other one has to take its payloads; but the "
                 "other one needn't make a pulse.",
@@ -477,23 +477,23 @@ SCHEDULES = Steps(
                 "1. Then let both take all that is on the link, until node 1 can make pulse 2. Node 2 makes no pulse.",
             ),
         ),
-        Step(
+        TableStep(
             "example=two&tab=adversary&without=safes&dare=wrong",
             "Still without the safes: have a node make a pulse with another inbox than that of its round. Chance wins "
             "this dare, too, but in many steps. Do it in at most five.",
-            Seen(
+            SeenExercise(
                 name="wrong",
                 hint="Node 2 sends no payload in pulse 1. So what does it wait for before pulse 2, if not for safes?",
                 answer="Node 1 takes the greeting of node 2, node 2 takes the greeting and the ack of node 1. Then "
                 "node 2 makes pulse 1 and at once pulse 2, without the label of node 1, which it hasn't taken.",
             ),
         ),
-        Step(
+        TableStep(
             "example=path&tab=adversary",
             "The studio plays the one order that you choose. The command `forestlab explore two` plays all orders of "
             "two nodes. There are 1.4·10²¹ of them, but only 281 states, so it takes a second. In every order each "
             "message is taken once, and each node makes each pulse once.",
-            Said(
+            SaidExercise(
                 name="events",
                 asks="In this row of three, 148 messages are sent in a whole run, and 21 is the last pulse. How many "
                 "takes and pulses has each order?",
@@ -502,12 +502,12 @@ SCHEDULES = Steps(
                 answer="211: 148 takes and 3·21 = 63 pulses.",
             ),
         ),
-        Step(
+        TableStep(
             "example=two&tab=adversary&without=acks",
             "Without the rule `acks` a node says safe at once, and still nothing goes wrong: the safe comes after the "
             "payload on the same link. It goes wrong if a second rule is left out, too. Open *leave out* in the panel "
             "to read the rules.",
-            Said(
+            SaidExercise(
                 name="second",
                 asks="Which rule, left out alone, gives no pulse a wrong inbox, but does so if `acks` is left out, "
                 "too?",
@@ -520,18 +520,18 @@ SCHEDULES = Steps(
         ),
     ],
 )
-MORE = Steps(
+MORE = LessonSteps(
     "More from the same forests",
     "The nodes know their forests and their colours. What else can they agree on with them?",
     [
-        Step(
+        TableStep(
             "example=triangle&tab=rounds&program=matching&at=12",
             "Two neighbours can become *partners*, and each node has at most one. After pulse 12 each forest has a "
             "turn for each of its three colours, one after another. In the first pulse of a turn all free nodes tell "
             "their parents that they are free. In the second, each free node of the turn's colour takes one of its "
             "free children. Below a node is the port of its partner. (A port counts a node's neighbours, the lowest "
             "first, from 0.) Press *next change* until the end.",
-            Said(
+            SaidExercise(
                 name="alone",
                 asks="Which node has no partner in the end?",
                 right="1",
@@ -540,22 +540,22 @@ MORE = Steps(
                 "is *maximal*.",
             ),
         ),
-        Step(
+        TableStep(
             "example=path&tab=rounds&program=matching&at=18&node=2&predict=1",
             "In this row of three, the panel asks what node 2 has found after pulse 19. Node 1 and node 2 are free, "
             "and the messages say who tells whom. Answer as the words below a node: *partner none*, or *partner* and "
             "the port.",
-            Predicted(
+            PredictedExercise(
                 name="partner",
                 hint="Node 3 takes its free child, node 2. Which port of node 2 leads to node 3? Its neighbours are 1 "
                 "and 3.",
                 answer="partner 1: port 0 leads to node 1, and port 1 to node 3.",
             ),
         ),
-        Step(
+        TableStep(
             "example=petersen&tab=rounds&program=matching&at=31",
             "The ten nodes have found their partners. A thick line joins two partners.",
-            Said(
+            SaidExercise(
                 name="pairs",
                 asks="How many pairs are there?",
                 right="4",
@@ -563,12 +563,12 @@ MORE = Steps(
                 answer="Four: eight nodes have a partner. The nodes 1 and 10 have none, and they aren't neighbours.",
             ),
         ),
-        Step(
+        TableStep(
             "example=petersen&tab=rounds&program=independent-set&at=52",
             "An *independent set* has no two neighbours in it. After the plan is made each channel has a pulse, "
             "channel 1 first. In the pulse of its channel a node joins the set (*in*), unless a neighbour has joined "
             "already. Until then it is *out*.",
-            Said(
+            SaidExercise(
                 name="in",
                 asks="How many of the ten nodes are in the set?",
                 right="3",
@@ -577,11 +577,11 @@ MORE = Steps(
                 "can join.",
             ),
         ),
-        Step(
+        TableStep(
             "example=drops&tab=rounds&program=recolouring&at=24",
             "With *recolouring* the nodes choose their channels again, those with the greatest channel first. The plan "
             "of this row had three channels.",
-            Said(
+            SaidExercise(
                 name="fewer",
                 asks="How many channels has the plan now?",
                 right="2",
@@ -640,12 +640,12 @@ LECTURE = (
 )
 
 
-def steps_in(lesson: int) -> Sequence[Step]:
+def steps_in(lesson: int) -> Sequence[TableStep]:
     """The steps of a lesson by its number, from 1."""
     return LESSONS[lesson - 1].steps
 
 
-def place_of(lesson: int, step: int = 1) -> str:
+def step_place(lesson: int, step: int = 1) -> str:
     """Where a step is done: at its own place, or at that of the step before which it goes on from."""
     return next(one.place for one in reversed(steps_in(lesson)[:step]) if one.place)
 
@@ -663,21 +663,21 @@ def tab_of(place: str) -> TabName:
     return cast(TabName, tab)
 
 
-def exercise_of(step: Step) -> Exercise | None:
+def exercise_of(step: TableStep) -> Exercise | None:
     """The exercise of a step, as the page has it: without the right answer."""
     is_ = step.exercise
     if is_ is None:
         return None
-    if isinstance(is_, Said):
+    if isinstance(is_, SaidExercise):
         return Exercise(is_.name, "said", is_.asks, is_.picks, is_.hint, is_.answer)
-    if isinstance(is_, Seen):
+    if isinstance(is_, SeenExercise):
         return Exercise(is_.name, "seen", "", (), is_.hint, is_.answer)
     values = values_in(step.place)
     pulse = int(values["at"]) + 1 if "at" in values else 0
     return Exercise(is_.name, "predicted", "", (), is_.hint, is_.answer, int(values["node"]), pulse)
 
 
-def whole_text(number: int) -> str:
+def page_text(number: int) -> str:
     """The text of a lesson's page for the studio, with links to lessons that lead to those of the studio. The page has
     it between two rules: what is outside them speaks of the page. Without the rules it is all of the page, and without
     the page a sentence."""
@@ -701,10 +701,10 @@ def lessons() -> list[Lesson]:
             of.title,
             of.ask,
             [
-                LessonStep(step.place, tab_of(place_of(number, k)), step.do, exercise_of(step))
+                LessonStep(step.place, tab_of(step_place(number, k)), step.do, exercise_of(step))
                 for k, step in enumerate(of.steps, 1)
             ],
-            whole_text(number),
+            page_text(number),
         )
         for number, of in enumerate(LESSONS, 1)
     ]

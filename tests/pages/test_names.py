@@ -28,7 +28,7 @@ SEVERAL = {
             "Message Node Player Pulse Sites about among as_json begin below box_of called "
             "checked circle code_of command_of decoded edges_of end head_of in_order is_below "
             "is_own items judge limited loaded made make moved near_order network_of "
-            "numbered of_nodes pairs_of place_of places_of plan plan_of plan_text played "
+            "of_nodes pairs_of place_of places_of plan plan_of plan_text played "
             "program_asked program_at program_of quoted read refuse_words replayed results_of "
             "rounds rounds_text row rows_of rules_of say smallest_wrong summary verdict_of "
             "wire_of wires_of words words_of write "

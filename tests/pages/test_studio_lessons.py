@@ -19,8 +19,15 @@ from lab.pictures.program_rounds import ProgramRounds
 from lab.schedules.stepwise import Stepwise
 from lab.studio import lessons as table
 from lab.studio.answers import ExerciseJudged
-from lab.studio.exercises import GOALS, judged
-from lab.studio.lessons import LECTURE, LESSONS, Predicted, Said, Seen, Step
+from lab.studio.exercises import GOALS, exercise_judged
+from lab.studio.lessons import (
+    LECTURE,
+    LESSONS,
+    PredictedExercise,
+    SaidExercise,
+    SeenExercise,
+    TableStep,
+)
 from lab.studio.messages import ExerciseCall
 from lab.studio.networks import opened_by
 from tests import TOP
@@ -57,7 +64,7 @@ def words_of(edges: list[tuple[int, int]], nodes: int, *more: str) -> str:
     return "\n".join(lines) + "\n"
 
 
-def steps() -> Iterator[tuple[int, int, Step]]:
+def steps() -> Iterator[tuple[int, int, TableStep]]:
     """All steps: the lesson, the number of the step, and it."""
     for number, lesson in enumerate(LESSONS, 1):
         for k, step in enumerate(lesson.steps, 1):
@@ -77,7 +84,7 @@ def step_of(lesson: int, name: str) -> int:
 def verdict(lesson: int, name: str, **asked: object) -> ExerciseJudged:
     call = {"network": "", "lesson": lesson, "step": step_of(lesson, name)} | asked
     try:
-        return judged(ExerciseCall(**call), tell)  # type: ignore[arg-type]
+        return exercise_judged(ExerciseCall(**call), tell)  # type: ignore[arg-type]
     except Fault as why:
         return ExerciseJudged(False, str(why))
 
@@ -119,7 +126,7 @@ class Table(Case):
     def test_places(self) -> None:
         """Each place of the table is read whole, opens a network and a tab, and is opened by its lesson and step."""
         for number, k, step in steps():
-            place = table.place_of(number, k)
+            place = table.step_place(number, k)
             opened = opened_by(place)
             self.same(f"lesson {number} step {k}", opened.address.faults(), "")
             self.note("has a network", opened.network)
@@ -131,7 +138,7 @@ class Table(Case):
                 (wanted.tab, wanted.at, k),
             )
             self.note("an own place, but for some", step.place or k > 1)
-            if isinstance(step.exercise, Predicted):
+            if isinstance(step.exercise, PredictedExercise):
                 self.note("a question", wanted.predict and wanted.node, place)
         for k, one in enumerate(LECTURE, 1):
             values = opened_by(f"lecture={k}").address.values
@@ -153,7 +160,11 @@ class Table(Case):
             names = [step.exercise.name for step in lesson.steps if step.exercise]
             self.same(f"lesson {number}", len(set(names)), len(names))
             self.note("and some exercises", len(names) >= 3, names)
-        seen = {(n, one.exercise.name) for n, _, one in steps() if isinstance(one.exercise, Seen)}
+        seen = {
+            (n, one.exercise.name)
+            for n, _, one in steps()
+            if isinstance(one.exercise, SeenExercise)
+        }
         self.same("goals", set(GOALS), seen)
 
     def test_changed_pages(self) -> None:
@@ -221,7 +232,7 @@ class Judged(Case):
         asked = {
             (n, step.exercise.name): step.exercise
             for n, _, step in steps()
-            if isinstance(step.exercise, Said)
+            if isinstance(step.exercise, SaidExercise)
         }
         for name, exercise in asked.items():
             if exercise.picks:
@@ -239,7 +250,7 @@ class Judged(Case):
     def test_the_second_rule(self) -> None:
         """Of the rules that can be picked it is the only one that gives no wrong inbox alone, but one with `acks`."""
         exercise = LESSONS[5].steps[-1].exercise
-        assert isinstance(exercise, Said)
+        assert isinstance(exercise, SaidExercise)
         for rule in exercise.picks:
             inboxes = [
                 "makes pulse" in said_by("explore", "two", "--without", rules)[1].split("\n")[0]
@@ -320,7 +331,7 @@ class Judged(Case):
     def test_refused(self) -> None:
         for lesson, step in ((0, 1), (8, 1), (1, 99), (3, 1), (3, 2)):
             with self.assertRaises(Fault):
-                judged(ExerciseCall(network="", lesson=lesson, step=step), tell)
+                exercise_judged(ExerciseCall(network="", lesson=lesson, step=step), tell)
 
 
 class Cards(Page):
@@ -423,10 +434,10 @@ class Cards(Page):
         answers = {"bit": "2", "root": "0", "again": "3", "shift": "5", "drop": "2", "turn": "3"}
         self.type_in("#question input", answers.get(name, "partner 1"))
 
-    def do(self, lesson: int, exercise: Said | Seen | Predicted) -> None:
-        if isinstance(exercise, Seen):
+    def do(self, lesson: int, exercise: SaidExercise | SeenExercise | PredictedExercise) -> None:
+        if isinstance(exercise, SeenExercise):
             self.do_seen(lesson, exercise.name)
-        elif isinstance(exercise, Predicted):
+        elif isinstance(exercise, PredictedExercise):
             self.do_predicted(lesson, exercise.name)
         elif exercise.picks:
             k = exercise.picks.index(exercise.right) + 1
@@ -462,7 +473,7 @@ class Cards(Page):
         )
         self.same("in the menu, too", menu, [True] * 7)
 
-    def own_words(self, exercise: Said | Seen | Predicted) -> None:
+    def own_words(self, exercise: SaidExercise | SeenExercise | PredictedExercise) -> None:
         """The hint and the answer are those of this exercise; they are read only when they are opened."""
         parts = "Array.from(lesson.querySelectorAll('.exercise details'))"
         before = self.value(f"{parts}.map(one => one.textContent)")
