@@ -1,6 +1,6 @@
 -- There is a thorough turn of each node in each state that is reached: events of the node, one after the other, as long
 -- as one is possible. This ends, since no run has more events than a whole one. Then all that was put for the node is
--- taken, no wire is in an out-list of it, and it can't make a pulse. So there are thorough passes in all orders.
+-- taken, no wire is in an out-list of it, and it can't make a pulse. So there are thorough laps in all orders.
 use Rattle.std.proofs.Common.{◌≡◌, ◌⊎◌, inl, inr, ⊎_elim, ℕ, zero, suc, ◌+◌, ◌<◌, ◌≤◌, false, List, [], ◌∷◌, ◌++◌, length, refl, ap, ◌∙◌, append-nil}
 use Rattle.std.proofs.Common.{arith, Ok}
 use Rattle.std.specs.Prelude.{All}
@@ -23,10 +23,10 @@ use Rattle.event_rule.specs.Step.{run}
 use Rattle.event_rule.specs.Events.{IsRunFrom, Possible}
 use Rattle.event_rule.proofs.KeptRuns.{reached_kept}
 use Rattle.event_rule.specs.Commute.{vertex_of}
-use Rattle.event_rule.specs.Passes.{AreThoroughPasses, AreThoroughTurns, HasAll, IsThoroughTurn, ThoroughPassesExist}
+use Rattle.event_rule.specs.Laps.{AreThoroughLaps, AreThoroughTurns, HasAll, IsThoroughTurn, ThoroughLapsExist}
 use Rattle.event_rule.proofs.Later.{led, rest_then}
 use Rattle.event_rule.proofs.Maximal.{bounded, leads_on, run_more}
-use Rattle.event_rule.proofs.Passes.{run_on}
+use Rattle.event_rule.proofs.Laps.{run_on}
 
 module _ {S M E : Type 0} {program : Program S M E} {net : Net} (ok : IsNetwork net) (runs : Runs program net) where
   abbrev last : ℕ
@@ -135,15 +135,15 @@ module _ {S M E : Type 0} {program : Program S M E} {net : Net} (ok : IsNetwork 
   abbrev Fair : List ℕ → Type 0
   Fair order = HasAll net order × All (λ v. IsVertex net v) order
 
-  passes_of : (orders : List (List ℕ)) → All Fair orders
+  laps_of : (orders : List (List ℕ)) → All Fair orders
       → (before : List Event) (state : State S M) → run program net before ≡ Ok state
-      → (final : State S M) × AreThoroughPasses program net state orders final
-  passes_of [] all before state is = (state, refl)
-  passes_of (order ∷ orders) all before state is =
+      → (final : State S M) × AreThoroughLaps program net state orders final
+  laps_of [] all before state is = (state, refl)
+  laps_of (order ∷ orders) all before state is =
       let here = All-head Fair order orders all in
       let turns = turns_of order here.1 before state is in
-      let more = passes_of orders (All-tail Fair order orders all) turns.0 turns.1 turns.2 in
+      let more = laps_of orders (All-tail Fair order orders all) turns.0 turns.1 turns.2 in
       (more.0, (here.0, (turns.1, turns.3, more.1)))
 
-  pub exist : ThoroughPassesExist program net
-  exist orders all = passes_of orders all [] (start program net) refl
+  pub exist : ThoroughLapsExist program net
+  exist orders all = laps_of orders all [] (start program net) refl

@@ -1,5 +1,5 @@
 -- Levels of a run: no wire waits in an out-list, and every node is at pulse m or past it. Then what a node emitted it has
--- put, so that the lists of its links have its payload of m, and as many safes as its pulse and its word say. A pass of
+-- put, so that the lists of its links have its payload of m, and as many safes as its pulse and its word say. A lap of
 -- thorough turns leaves the level that there was.
 use Rattle.std.proofs.Common.{◌≡◌, ⊎_elim, ℕ, ◌+◌, ◌<◌, ◌≤◌, false, List, [], ◌∷◌, ◌++◌, refl, sym, ap, ◌∙◌, append-nil, arith, subst, Bool}
 use Rattle.std.proofs.Common.{true, Option}

@@ -21,8 +21,8 @@ pub mod Later
 pub mod Turned
 pub mod Levels
 pub mod Enough
-pub mod ThreePasses
-pub mod LastPass
-pub mod Passes
+pub mod ThreeLaps
+pub mod LastLap
+pub mod Laps
 pub mod Existing
 pub mod PulseMachine

@@ -16,7 +16,7 @@ use Rattle.event_rule.specs.declared.event.Event.{Event}
 use Rattle.event_rule.specs.State.{State, link_to, node_of, sent_of}
 use Rattle.event_rule.specs.Events.{IsRunFrom}
 use Rattle.event_rule.proofs.NetKept.{NetKept}
-use Rattle.event_rule.specs.Passes.{AreThoroughTurns}
+use Rattle.event_rule.specs.Laps.{AreThoroughTurns}
 use Rattle.event_rule.proofs.Changes.{pulse_of}
 use Rattle.event_rule.proofs.Later.{Later, later_same, later_then, led, others_stay, rest_then}
 
@@ -44,8 +44,8 @@ module _ {S M E : Type 0} {program : Program S M E} {net : Net} (ok : IsNetwork 
   none_in : (v : ℕ) → Contains [] v → ⊥
   none_in v (k, lt, is) = omega (arith, lt)
 
-  pub passes : (vs : List ℕ) (state last : State S M) → NetKept program net state → AreThoroughTurns program net state vs last → Passed vs state last
-  passes [] state last kept same = subst (λ s. Passed [] state s) (sym same) record {
+  pub laps : (vs : List ℕ) (state last : State S M) → NetKept program net state → AreThoroughTurns program net state vs last → Passed vs state last
+  laps [] state last kept same = subst (λ s. Passed [] state s) (sym same) record {
     events = [];
     leads = refl;
     kept = kept;
@@ -55,9 +55,9 @@ module _ {S M E : Type 0} {program : Program S M E} {net : Net} (ok : IsNetwork 
     put = λ v i there. absurd (none_in v there);
     pulsed = λ v there. absurd (none_in v there);
   }
-  passes (u ∷ vs) state last kept (next, turn, rest) =
+  laps (u ∷ vs) state last kept (next, turn, rest) =
       let first = led ok runs turn.events state next kept turn.leads in
-      let on = passes vs next last first.kept rest in
+      let on = laps vs next last first.kept rest in
       record {
         events = turn.events ++ on.events;
         leads = one_run turn.events on.events state next last turn.leads on.leads;

@@ -11,5 +11,5 @@ pub mod Laws
 pub mod Endings
 pub mod Commute
 pub mod Progress
-pub mod Passes
+pub mod Laps
 pub mod PulseMachine

@@ -3,7 +3,7 @@
 ghost use Rattle.node_api.specs.Program.{Program};
 ghost use Rattle.alpha_laws.specs.Laws.{OnEveryNetwork};
 ghost use Rattle.event_rule.specs.Commute.{EventsCommute};
-ghost use Rattle.event_rule.specs.Passes.{ThoroughPassesEnd, ThoroughPassesExist};
+ghost use Rattle.event_rule.specs.Laps.{ThoroughLapsEnd, ThoroughLapsExist};
 ghost use Rattle.event_rule.specs.Progress.{MaximalRunsAgree, MaximalRunsEnd, NoDeadlock, RunsAreBounded};
 ghost use Rattle.event_rule.specs.Progress.{RunsAreCounted, RunsAreShort, RunsCanBeCompleted, RunsHaveRoom};
 ghost use Rattle.event_rule.specs.Progress.{WholeStatesAreTerminal};
@@ -49,13 +49,13 @@ pub fn runs_are_short<S, M, E>()
     ensures law { (program : Program S M E) → OnEveryNetwork program (RunsAreShort program) }
 {}
 
-/// If each turn leaves nothing for later, 3·R + 2 passes are enough, where R is the last pulse, whatever the orders of
-/// the turns are. In each pass every node has a turn that takes all that was put for it, or all that it expects, puts
-/// all that waits, and makes a pulse if it can. There are such passes for all orders of the network's nodes in which
+/// If each turn leaves nothing for later, 3·R + 2 laps are enough, where R is the last pulse, whatever the orders of
+/// the turns are. In each lap every node has a turn that takes all that was put for it, or all that it expects, puts
+/// all that waits, and makes a pulse if it can. There are such laps for all orders of the network's nodes in which
 /// every node has a turn.
-pub fn thorough_passes_end<S, M, E>()
-    ensures ends { (program : Program S M E) → OnEveryNetwork program (ThoroughPassesEnd program) }
-    ensures exist { (program : Program S M E) → OnEveryNetwork program (ThoroughPassesExist program) }
+pub fn thorough_laps_end<S, M, E>()
+    ensures ends { (program : Program S M E) → OnEveryNetwork program (ThoroughLapsEnd program) }
+    ensures exist { (program : Program S M E) → OnEveryNetwork program (ThoroughLapsExist program) }
 {}
 
 /// Every run simulates the pulse machine, which has the nodes' pulses and nothing else: a pulse is a step of it, which

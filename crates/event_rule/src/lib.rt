@@ -8,8 +8,8 @@
 //!
 //! `laws` has progress: whatever events have come, some event is possible or all is done (`no_deadlock`); no list of
 //! events goes on for ever (`runs_are_bounded`); and all that go on as far as they can lead to the same nodes
-//! (`one_end`), after few passes if no turn leaves anything for later (`thorough_passes_end`). `outcomes` has the same
-//! for runs of worker threads, but for passes. `runs_simulate_the_pulse_machine` relates each state that is reached to
+//! (`one_end`), after few laps if no turn leaves anything for later (`thorough_laps_end`). `outcomes` has the same
+//! for runs of worker threads, but for laps. `runs_simulate_the_pulse_machine` relates each state that is reached to
 //! a state of a machine of pulses, and each event to a step of it or to none; of traces it states nothing.
 //!
 //! ```text

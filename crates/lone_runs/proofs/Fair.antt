@@ -1,4 +1,4 @@
--- Passes in which each node has a turn. The plan: a pass makes an event, or nothing is possible before it (`pass_of`). So each pass comes
+-- Laps in which each node has a turn. The plan: a lap makes an event, or nothing is possible before it (`lap_of`). So each lap comes
 -- nearer to as many events as a whole run has, or the run is at its end (`ended`).
 use Rattle.std.proofs.Common.{◌≡◌, ◌∙◌, ◌⊎◌, inl, inr, ⊎_elim, ℕ, zero, suc, ◌+◌, ◌≤◌, List, [], ◌∷◌, ◌++◌, Ok, arith, length, refl, sym, subst}
 use Rattle.std.specs.Prelude.{Contains}
@@ -19,7 +19,7 @@ use Rattle.event_rule.specs.Endings.{IsTerminal}
 use Rattle.event_rule.specs.Progress.{IsEnd}
 use Rattle.event_rule.proofs.Deadlock.{whole_terminal}
 use Rattle.event_rule.proofs.Maximal.{bounded, counted_whole, end_of}
-use Rattle.lone_runs.specs.Fair.{ArePasses, AreTurns}
+use Rattle.lone_runs.specs.Fair.{AreLaps, AreTurns}
 
 module _ {S M E : Type 0} (program : Program S M E) (net : Net) where
   one_run : (some more : List Event) (state middle last : State S M) → IsRunFrom program net state some middle → IsRunFrom program net middle more last
@@ -43,11 +43,11 @@ module _ {S M E : Type 0} (program : Program S M E) (net : Net) where
   first_or u vs v (suc k, lt, is) = inr (k, omega (arith, lt), is)
 
   -- the events of turns: none only if nothing was possible
-  pass_of : (vs : List ℕ) (state last : State S M) → AreTurns program net state vs last
+  lap_of : (vs : List ℕ) (state last : State S M) → AreTurns program net state vs last
       → (events : List Event) × IsRunFrom program net state events last × (events ≡ [] → AreStuck state vs)
-  pass_of [] state last same = ([], same, λ e v there. absurd (none_in v there))
-  pass_of (u ∷ vs) state last (next, turn, rest) =
-      let on = pass_of vs next last rest in (
+  lap_of [] state last same = ([], same, λ e v there. absurd (none_in v there))
+  lap_of (u ∷ vs) state last (next, turn, rest) =
+      let on = lap_of vs next last rest in (
         turn.events ++ on.0,
         one_run turn.events on.0 state next last turn.leads on.1,
         λ e v there.
@@ -71,7 +71,7 @@ module _ {S M E : Type 0} (program : Program S M E) (net : Net) where
         ((runs-exactly ok runs (events ++ more)).accepts last).1
         (one_run events more (start program net) state last (((runs-exactly ok runs events).accepts state).0 is) on)
 
-    -- what a pass leaves to be done: one less at least, or nothing
+    -- what a lap leaves to be done: one less at least, or nothing
     nearer : (events more : List Event) (state : State S M) (n : ℕ) → run program net events ≡ Ok state
         → (more ≡ [] → IsTerminal program net state) → events_of_run program net ≤ length events + suc n
         → events_of_run program net ≤ length (events ++ more) + n
@@ -80,7 +80,7 @@ module _ {S M E : Type 0} (program : Program S M E) (net : Net) where
     nearer events (event ∷ more) state n is none enough = omega (arith, enough, length-append events (event ∷ more))
 
     pub ended : (orders : List (List ℕ)) (events : List Event) (state last : State S M) → run program net events ≡ Ok state
-        → ArePasses program net state orders last → events_of_run program net ≤ length events + length orders
+        → AreLaps program net state orders last → events_of_run program net ≤ length events + length orders
         → (all : List Event) × (run program net all ≡ Ok last) × IsEnd program net all last
     ended [] events state last is same enough =
         let many : length events ≡ events_of_run program net = omega (arith, enough, bounded ok runs events state is) in
@@ -89,8 +89,8 @@ module _ {S M E : Type 0} (program : Program S M E) (net : Net) where
         subst (λ s. (all : List Event) × (run program net all ≡ Ok s) × IsEnd program net all s) (sym same)
         (events, is, end_of ok runs events state is terminal)
     ended (order ∷ orders) events state last is (all, (next, turns, rest)) enough =
-        let pass = pass_of order state next turns in
-        let more = pass.0 in
-        ended orders (events ++ more) next last (run_on events more state next is pass.1) rest
+        let lap = lap_of order state next turns in
+        let more = lap.0 in
+        ended orders (events ++ more) next last (run_on events more state next is lap.1) rest
         (nearer events more state (length orders) is
-        (λ none event can. pass.2 none (vertex_of event) (all (vertex_of event) (vertex_is state event can)) event refl can) enough)
+        (λ none event can. lap.2 none (vertex_of event) (all (vertex_of event) (vertex_is state event can)) event refl can) enough)

@@ -15,11 +15,11 @@ use Rattle.event_rule.specs.State.{State, link_to, node_of, sent_of, start}
 use Rattle.event_rule.specs.Step.{run}
 use Rattle.event_rule.specs.Events.{Possible}
 use Rattle.event_rule.specs.Commute.{vertex_of}
-use Rattle.event_rule.specs.Passes.{HasAll}
+use Rattle.event_rule.specs.Laps.{HasAll}
 use Rattle.event_rule.proofs.KeptRuns.{reached_kept}
 use Rattle.event_rule.proofs.Maximal.{leads_on}
-use Rattle.event_rule.proofs.Passes.{run_on}
-use Rattle.lone_runs.specs.Fair.{ArePasses, AreTurns, FairPassesExist, IsTurn}
+use Rattle.event_rule.proofs.Laps.{run_on}
+use Rattle.lone_runs.specs.Fair.{AreLaps, AreTurns, FairLapsExist, IsTurn}
 
 module _ {S M E : Type 0} {program : Program S M E} {net : Net} (ok : IsNetwork net) (runs : Runs program net) where
   abbrev IsStuck : ℕ → State S M → Type 0
@@ -86,14 +86,14 @@ module _ {S M E : Type 0} {program : Program S M E} {net : Net} (ok : IsNetwork 
   abbrev Fair : List ℕ → Type 0
   Fair order = HasAll net order × All (λ v. IsVertex net v) order
 
-  passes_of : (orders : List (List ℕ)) → All Fair orders → (before : List Event) (state : State S M) → run program net before ≡ Ok state
-      → (last : State S M) × ArePasses program net state orders last
-  passes_of [] all before state is = (state, refl)
-  passes_of (order ∷ orders) all before state is =
+  laps_of : (orders : List (List ℕ)) → All Fair orders → (before : List Event) (state : State S M) → run program net before ≡ Ok state
+      → (last : State S M) × AreLaps program net state orders last
+  laps_of [] all before state is = (state, refl)
+  laps_of (order ∷ orders) all before state is =
       let here = All-head Fair order orders all in
       let turns = turns_of order here.1 before state is in
-      let more = passes_of orders (All-tail Fair order orders all) turns.0 turns.1 turns.2 in
+      let more = laps_of orders (All-tail Fair order orders all) turns.0 turns.1 turns.2 in
       (more.0, (here.0, (turns.1, turns.3, more.1)))
 
-  pub exist : FairPassesExist program net
-  exist orders all = passes_of orders all [] (start program net) refl
+  pub exist : FairLapsExist program net
+  exist orders all = laps_of orders all [] (start program net) refl

@@ -8,7 +8,7 @@ use Rattle.event_rule.specs.State.{State, start}
 use Rattle.event_rule.specs.Step.{run}
 use Rattle.event_rule.specs.Events.{IsRunFrom, Possible}
 use Rattle.event_rule.specs.Commute.{vertex_of}
-use Rattle.event_rule.specs.Passes.{HasAll}
+use Rattle.event_rule.specs.Laps.{HasAll}
 use Rattle.event_rule.specs.Progress.{IsEnd}
 
 -- A turn of v makes events of v, whichever and however many; it makes none only if none is possible.
@@ -24,22 +24,22 @@ AreTurns program net state [] last = last ≡ state
 AreTurns {S} {M} program net state (v ∷ vs) last =
     (next : State S M) × IsTurn program net v state next × AreTurns program net next vs last
 
--- Passes, one after the other, each of turns in an order of its own, in which every vertex has one at least.
-abbrev pub ArePasses : {S M E : Type 0} → Program S M E → Net → State S M → List (List ℕ) → State S M → Type 0
-ArePasses program net state [] last = last ≡ state
-ArePasses {S} {M} program net state (order ∷ orders) last =
+-- Laps, one after the other, each of turns in an order of its own, in which every vertex has one at least.
+abbrev pub AreLaps : {S M E : Type 0} → Program S M E → Net → State S M → List (List ℕ) → State S M → Type 0
+AreLaps program net state [] last = last ≡ state
+AreLaps {S} {M} program net state (order ∷ orders) last =
     HasAll net order
-    × ((next : State S M) × AreTurns program net state order next × ArePasses program net next orders last)
+    × ((next : State S M) × AreTurns program net state order next × AreLaps program net next orders last)
 
--- Whatever the orders are: after as many passes as a whole run has events, the run has come to its end.
+-- Whatever the orders are: after as many laps as a whole run has events, the run has come to its end.
 abbrev pub FairOrdersEnd : {S M E : Type 0} → Program S M E → Net → Type 0
 FairOrdersEnd {S} {M} program net =
-    (orders : List (List ℕ)) (last : State S M) → ArePasses program net (start program net) orders last
+    (orders : List (List ℕ)) (last : State S M) → AreLaps program net (start program net) orders last
     → events_of_run program net ≤ length orders
     → (events : List Event) × (run program net events ≡ Ok last) × IsEnd program net events last
 
 -- Fair turns exist in all orders of vertices in each of which every vertex has one.
-abbrev pub FairPassesExist : {S M E : Type 0} → Program S M E → Net → Type 0
-FairPassesExist {S} {M} program net =
+abbrev pub FairLapsExist : {S M E : Type 0} → Program S M E → Net → Type 0
+FairLapsExist {S} {M} program net =
     (orders : List (List ℕ)) → All (λ order. HasAll net order × All (λ v. IsVertex net v) order) orders
-    → (last : State S M) × ArePasses program net (start program net) orders last
+    → (last : State S M) × AreLaps program net (start program net) orders last

@@ -6,6 +6,6 @@ use Rattle.lone_runs.proofs.laws.fair_orders_end.Goals as goal
 
 pub returns : goal.returns
 returns g c = record {
-  law = λ program laws net ok orders last passes enough.
-      ended program net ok (runs program laws net ok) orders [] (start program net) last refl passes (omega (arith, enough));
+  law = λ program laws net ok orders last laps enough.
+      ended program net ok (runs program laws net ok) orders [] (start program net) last refl laps (omega (arith, enough));
 }

@@ -1,4 +1,4 @@
--- In one pass more, with every node at the last pulse, the closing marks are taken: nothing came behind them, so that all
+-- In one lap more, with every node at the last pulse, the closing marks are taken: nothing came behind them, so that all
 -- that was put was taken, or a port that expects nothing was closed. No wire waits then and no node can make a pulse, so
 -- no event is possible.
 use Rattle.std.proofs.Common.{◌≡◌, ⊎_elim, ℕ, ◌<◌, ◌≤◌, false, List, [], ◌∷◌, ◌++◌, length, refl, sym, ap, ◌∙◌, append_assoc, arith, Bool}
@@ -31,7 +31,7 @@ module _ {S M E : Type 0} {program : Program S M E} {net : Net} (ok : IsNetwork 
   abbrev last : ℕ
   last = last_pulse_on program net
 
-  -- the last pass: the closing marks are taken
+  -- the last lap: the closing marks are taken
   module _ (vs : List ℕ) (old new : State S M) (all : (v : ℕ) → IsVertex net v → Contains vs v) (level : Level program net last old)
       (passed : Passed ok runs vs old new) where
     at_last : (v : ℕ) → IsVertex net v → pulse_of program net new v ≡ last

@@ -1,4 +1,4 @@
--- Three passes of thorough turns make every node's pulse greater by one. In the first all payloads of m are taken, and
+-- Three laps of thorough turns make every node's pulse greater by one. In the first all payloads of m are taken, and
 -- their acknowledgements put; in the second these are taken, so each node at m says safe, and its safes are put; in the
 -- third these are taken, so each node at m makes its pulse.
 use Rattle.std.proofs.Common.{◌≡◌, ◌⊎◌, inl, inr, ⊎_elim, ℕ, suc, ◌+◌, ◌<◌, ◌≤◌, false, List, refl, sym, ap, arith, subst, Bool, true, not, ne_eqb}
@@ -32,7 +32,7 @@ module _ {S M E : Type 0} {program : Program S M E} {net : Net} (ok : IsNetwork 
   abbrev last : ℕ
   last = last_pulse_on program net
 
-  -- the first pass: the payloads of m are taken, and their acknowledgements put
+  -- the first lap: the payloads of m are taken, and their acknowledgements put
   acks_put : (m : ℕ) → m < last → (vs : List ℕ) (old new : State S M) → ((v : ℕ) → IsVertex net v → Contains vs v) → Level program net m old
       → Level program net m new → Passed ok runs vs old new
       → (v i : ℕ) → IsVertex net v → i < degree_of net v → is_some (other program net v i m) ≡ true → Contains (acks_of (sent new v i)) m
@@ -82,7 +82,7 @@ module _ {S M E : Type 0} {program : Program S M E} {net : Net} (ok : IsNetwork 
       subst (λ l. Contains (acks_of l) m) more.1
       (subst (λ l. Contains l m) (sym (acks-append (taken net old v i) more.0)) (Contains-append_left _ _ m has))
 
-  -- three passes
+  -- three laps
   module _ (m : ℕ) (below : m < last) (s0 s1 s2 s3 : State S M) (o1 o2 o3 : List ℕ) (all1 : (v : ℕ) → IsVertex net v → Contains o1 v)
       (all2 : (v : ℕ) → IsVertex net v → Contains o2 v) (all3 : (v : ℕ) → IsVertex net v → Contains o3 v) (level : Level program net m s0)
       (one : Passed ok runs o1 s0 s1) (two : Passed ok runs o2 s1 s2) (three : Passed ok runs o3 s2 s3) where

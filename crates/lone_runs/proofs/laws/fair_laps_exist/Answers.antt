@@ -1,6 +1,6 @@
 use Rattle.alpha_laws.proofs.Runs.{runs}
 use Rattle.lone_runs.proofs.FairTurns.{exist}
-use Rattle.lone_runs.proofs.laws.fair_passes_exist.Goals as goal
+use Rattle.lone_runs.proofs.laws.fair_laps_exist.Goals as goal
 
 pub returns : goal.returns
 returns g c = record { law = λ program laws net ok. exist ok (runs program laws net ok) }

@@ -1,4 +1,4 @@
--- Turns that leave nothing for later, and how many passes of them a run takes.
+-- Turns that leave nothing for later, and how many laps of them a run takes.
 use Rattle.std.specs.Prelude.{◌≡◌, ◌⊎◌, ℕ, ◌+◌, ◌*◌, ◌<◌, ◌≤◌, false, List, [], ◌∷◌, All, Contains, Ok, length}
 use Rattle.interference.specs.Net.{Net, IsVertex, degree_of}
 use Rattle.node_api.specs.Program.{Program, last_pulse_on}
@@ -42,23 +42,23 @@ AreThoroughTurns {S} {M} program net state (v ∷ vs) last =
 abbrev pub HasAll : Net → List ℕ → Type 0
 HasAll net order = (v : ℕ) → IsVertex net v → Contains order v
 
--- Passes, one after the other, each of thorough turns in an order of its own, in which every vertex has one.
-abbrev pub AreThoroughPasses : {S M E : Type 0} → Program S M E → Net → State S M → List (List ℕ) → State S M → Type 0
-AreThoroughPasses program net state [] last = last ≡ state
-AreThoroughPasses {S} {M} program net state (order ∷ orders) last =
+-- Laps, one after the other, each of thorough turns in an order of its own, in which every vertex has one.
+abbrev pub AreThoroughLaps : {S M E : Type 0} → Program S M E → Net → State S M → List (List ℕ) → State S M → Type 0
+AreThoroughLaps program net state [] last = last ≡ state
+AreThoroughLaps {S} {M} program net state (order ∷ orders) last =
     HasAll net order
     × ((next : State S M) × AreThoroughTurns program net state order next
-    × AreThoroughPasses program net next orders last)
+    × AreThoroughLaps program net next orders last)
 
--- Whatever the orders are: after 3·R + 2 passes, where R is the last pulse, the run has come to its end.
-abbrev pub ThoroughPassesEnd : {S M E : Type 0} → Program S M E → Net → Type 0
-ThoroughPassesEnd {S} {M} program net =
-    (orders : List (List ℕ)) (last : State S M) → AreThoroughPasses program net (start program net) orders last
+-- Whatever the orders are: after 3·R + 2 laps, where R is the last pulse, the run has come to its end.
+abbrev pub ThoroughLapsEnd : {S M E : Type 0} → Program S M E → Net → Type 0
+ThoroughLapsEnd {S} {M} program net =
+    (orders : List (List ℕ)) (last : State S M) → AreThoroughLaps program net (start program net) orders last
     → 3 * last_pulse_on program net + 2 ≤ length orders
     → (events : List Event) × (run program net events ≡ Ok last) × IsEnd program net events last
 
--- There are such passes: for all orders of vertices in which every vertex has a turn.
-abbrev pub ThoroughPassesExist : {S M E : Type 0} → Program S M E → Net → Type 0
-ThoroughPassesExist {S} {M} program net =
+-- There are such laps: for all orders of vertices in which every vertex has a turn.
+abbrev pub ThoroughLapsExist : {S M E : Type 0} → Program S M E → Net → Type 0
+ThoroughLapsExist {S} {M} program net =
     (orders : List (List ℕ)) → All (λ order. HasAll net order × All (λ v. IsVertex net v) order) orders
-    → (last : State S M) × AreThoroughPasses program net (start program net) orders last
+    → (last : State S M) × AreThoroughLaps program net (start program net) orders last

@@ -1,7 +1,7 @@
 use Rattle.alpha_laws.proofs.Runs.{runs}
 use Rattle.event_rule.proofs.Existing.{exist}
-use Rattle.event_rule.proofs.Passes.{few}
-use Rattle.event_rule.proofs.laws.thorough_passes_end.Goals as goal
+use Rattle.event_rule.proofs.Laps.{few}
+use Rattle.event_rule.proofs.laws.thorough_laps_end.Goals as goal
 
 pub returns : goal.returns
 returns g c = record {
