@@ -21,7 +21,7 @@ from lab.schedules import reacting_words
 from lab.schedules.alpha_space import AlphaSpace, Status
 from lab.schedules.own_rounds import verdict_of, verdict_on_many
 from lab.schedules.reacting_runs import Runs
-from lab.schedules.reacting_space import ReactingSpace
+from lab.schedules.reacting_space import MOST_KEPT, ReactingSpace
 from lab.schedules.ruled_rounds import looked_at
 from lab.schedules.rules import ALL, OF_SCHEDULES, program_of, table, unknown_to
 from lab.schedules.space import AnySearched, Space
@@ -350,6 +350,11 @@ def search(given: Namespace, space: Space[AnySearched]) -> None:
     finally:
         if show:
             sys.stderr.write("\r\033[K")
+    if space.is_full:
+        raise Fault(
+            f"what the nodes keep or the links hold grows too large: after {space.expanded:,} states it has more than "
+            f"{MOST_KEPT:,} parts. Does it grow without end?"
+        )
     if space.is_cut:
         can_reduce = not given.reduce and not set(given.without) & {"safes", "fifo"}
         instead = "--reduce leaves most of them out, " if can_reduce else ""

@@ -327,7 +327,12 @@ class Space(Generic[AnySearched]):
 
     @property
     def is_cut(self) -> bool:
-        return self.count > self.limit
+        return self.count > self.limit or self.is_full
+
+    @property
+    def is_full(self) -> bool:
+        """Whether what nodes keep or links hold has grown too much to go on."""
+        return False
 
     def steps(self, s: int) -> list[tuple[Event, int | None]]:
         if s >= self.expanded:

@@ -16,7 +16,7 @@ from lab.definitions.reacting import Reacting, ReactingNode, results_in
 from lab.faults import Fault
 from lab.networks.network_text import network_of
 from lab.networks.sources import network_at
-from lab.schedules import simulate
+from lab.schedules import reacting_space, simulate
 from lab.schedules.alpha_space import AlphaSpace
 from lab.schedules.extent import endless, extent_of
 from lab.schedules.policies import POLICIES
@@ -270,6 +270,60 @@ class Samples(Case):
             good = done[0] == 1 and first.startswith("broken after ") and said in first
             self.note(f"{name} on {wrong}", good, done)
 
+    def answer(self, name: str, *pairs: str) -> str:
+        """A sample with an answer to its exercise (docs/learn/ANSWERS.md)."""
+        text = text_in("examples", "algorithms", f"{name}.py")
+        for old, new in zip(pairs[::2], pairs[1::2]):
+            self.same(f"{name} has {old!r}", text.count(old) > 0, True)
+            text = text.replace(old, new, 1)
+        return self.file(f"{name}.py", text)
+
+    def test_answers(self) -> None:
+        best = self.answer(
+            *("ring_leader", "me.leader = None", "me.leader, me.best = None, me.id"),
+            *("    if id > me.id:\n", "    if id > me.best:\n        me.best = id\n"),
+        )
+        done = said_by("explore", "ring5", "--program", best)
+        self.note("C (b)", done[0] == 0 and "each has 14 to 20 messages;" in done[1], done)
+        twice = self.answer(
+            *(
+                "exclusion",
+                'me.later = "idle", 0, None, 0, []',
+                'me.later = "idle", 0, None, 0, []\n    me.visits = 0',
+            ),
+            *('"done"\n', '"idle" if me.visits == 0 else "done"\n        me.visits += 1\n'),
+            *(
+                '        me.state, me.time = "asks"',
+                '        me.answers = 0\n        me.state, me.time = "asks"',
+            ),
+        )
+        done = said_by("explore", "two", "--program", twice)
+        self.note("C (c)", done[0] == 0 and "each has 8 messages and 8 acts;" in done[1], done)
+        awake = self.answer("async_layers", "me.unanswered > 0 or me.id == 1", "True")
+        done = said_by("explore", "two", "--program", awake)
+        said = "(3 takes): node 1 says that it has ended, and messages are under way\n"
+        self.note("D (a)", done[0] == 1 and said in done[1], done)
+        at_once = self.answer("alpha", "        me.waits = me.degree\n", "")
+        for path, options, status in (
+            (at_once, "", 0),
+            (at_once, "--without fifo", 1),
+            (sample("alpha"), "--without fifo", 0),
+        ):
+            done = said_by("explore", "two", "--program", path, *options.split())
+            self.same(f"D (c) {options}", (done[0], done[2]), (status, ""))
+        # Hirschberg and Sinclair's, on an ascending ring of n = 2^m: in phase 0 all send 2, and n are answered; then
+        # the greatest is alone, with 4 * 2^k messages in phase k below m, 2 n in phase m, and n to tell it: 10 n - 8.
+        for n, name, count in (
+            (16, "leader", 16 * 17 // 2 + 16),
+            (16, "phases", 10 * 16 - 8),
+            (32, "leader", 32 * 33 // 2 + 32),
+            (32, "phases", 10 * 32 - 8),
+        ):
+            done = said_by(
+                "explore", f"ring{n}", "--program", sample(f"ring_{name}"), "--runs", "1"
+            )
+            self.note(f"D (d) {name} {n}", f": each has {count} messages\n" in done[1], done)
+
     def test_links_without_order(self) -> None:
         """Ricart and Agrawala need no order of the messages of a link, and Chandy and Lamport do."""
         for name, status in (("exclusion", 0), ("snapshot", 1)):
@@ -509,6 +563,25 @@ class Refused(Case):
         done = said_by("explore", "ring3", "--program", path, "--runs", "1")
         self.refusal(
             "a run", done, 1, "a run under the policy random hasn't ended after 100,000 events"
+        )
+
+    def test_growing(self) -> None:
+        """What a node keeps, and what a link holds, may not grow for ever."""
+        kept = TOKEN.replace("me.send(1 - port", "me.kept.append(me.id)\n    me.send(1 - port")
+        kept = kept.replace("    me.has =", "    me.kept = []\n    me.has =")
+        held = TRAP.replace("me.left = 0", "pass").replace('"WORD"', '"end"')
+        for name, text, network in (("kept", kept, "ring3"), ("held", held, "two")):
+            with unittest.mock.patch.object(reacting_space, "MOST_KEPT", 20_000):
+                space = ReactingSpace(network_at(network), program(self.file(f"{name}.py", text)))
+                space.search()
+                self.same(name, (space.is_cut, space.is_full), (True, True))
+        path = self.file("kept.py", kept)
+        done = said_by("explore", "ring3", "--program", path)
+        self.refusal(
+            "said",
+            done,
+            1,
+            "explore: what the nodes keep or the links hold grows too large: after ",
         )
 
     def test_own_chance(self) -> None:
