@@ -153,6 +153,21 @@ class Look(Page):
             )
         self.page.size(1280, 800)
 
+    def test_crowds(self) -> None:
+        """Above sixty messages they are dots, but for those of the chosen node, so that the network is seen."""
+        dots = "document.querySelectorAll('#net [data-mark=dot]').length"
+        pills = (
+            "document.querySelectorAll('#net .token:is([data-mark=payload], :has(text))').length"
+        )
+        self.go_and_wait("example=disk100&tab=rounds&at=0")
+        edges = self.value("studio.net.edges.length")
+        self.sees("a dot for each greeting", f"{dots} === {2 * edges} && {pills} === 0")
+        self.go_and_wait("example=disk100&tab=rounds&at=0&node=1")
+        near = self.value("studio.net.edges.filter(edge => edge.includes(1)).length")
+        self.sees("those of node 1 have numbers", f"{pills} === {2 * near}")
+        self.go_and_wait("example=petersen&tab=rounds&at=0")
+        self.sees("thirty are pills", f"{dots} === 0 && {pills} === 30")
+
     def test_large(self) -> None:
         """The key F makes all large, for a projector; the speaker's words aren't on it; F again takes that back."""
         self.go_and_wait("lecture=3")

@@ -35,6 +35,7 @@ const KINDS = {
   await_safe: [() => port({fill: "var(--paper)", stroke: WIRES.safe}), "it waits for a safe or a close from there"],
   early: [() => port({fill: WIRES.payload, stroke: WIRES.payload}), "it keeps what came early from there"],
   payload: [() => pill(X, Y, "7", "payload", 10), "a payload"],
+  dot: [() => [mark("circle", {cx: X, cy: Y, r: 2.5, fill: WIRES.payload})], "a message; click a node to see its own ones"],
   ack: [() => pill(X, Y, "a", "ack", 10), "an ack"],
   safe: [() => pill(X, Y, "s", "safe", 10), "a safe"],
   close: [() => pill(X, Y, "c", "close", 10), "a close"],

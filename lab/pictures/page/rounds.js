@@ -1,9 +1,12 @@
 // The rounds of a network, pulse by pulse, by what lab/ has worked out.
+import {WIRES} from "./hues.js";
 import {FADED, HALO, blank, channelCircle, colourSquare, discOf, html, mark, pill, pillWidth, resultWords, short,
   words} from "./marks.js";
 import {nameOf} from "./stage.js";
 
 const ORIENT = 1, SEED = 2, LAST_BIT_STEP = 6, LAST_COLOUR = 12;
+// Above so many messages they are dots, this wide.
+const CROWD = 60, DOT = 5;
 // How far what lights a node up goes beyond its circle, in radiuses.
 const LIT = 0.4;
 // What some marks mean in rounds.
@@ -143,15 +146,23 @@ export class RoundsFilm {
     return links;
   }
   // The messages of a pulse, `part` of the way. `why` fades those that didn't decide the chosen node's channel.
-  /** @param {Stage} stage @param {number} p @param {number} part @param {number} chosen @param {WhyFound | null} why @returns {Marks} */
-  messages(stage, p, part, chosen, why) {
+  // Of a crowd only those of the chosen node have their numbers: pills would hide the network.
+  /** @param {Stage} stage @param {number} p @param {number} part @param {number} chosen @param {{why: WhyFound | null, node: number | null}} of @returns {Marks} */
+  messages(stage, p, part, chosen, {why, node}) {
     const heard = new Set(why ? why.messages.map(m => m.join(" ")) : []), shown = [];
-    const size = Math.max(9, Math.min(12, stage.radius * 0.6));
-    for (const [v, w, word, sent] of this.found.pulses[p].puts) {
-      if (word === "colour" && this.parent.get(w + " " + chosen) !== v) continue;
+    const size = Math.max(9, Math.min(stage.largest - 10, stage.radius * 0.6));
+    const puts = this.found.pulses[p].puts.filter(([v, w, word]) => word !== "colour" || this.parent.get(w + " " + chosen) === v);
+    // They begin and end slowly.
+    const far = part * part * (3 - 2 * part), isCrowd = puts.length > CROWD;
+    for (const [v, w, word, sent] of puts) {
       const said = short(word === "chosen" || word === "anew" ? Number(sent) + 1 : sent);
       const whole = Math.hypot(stage.X(v) - stage.X(w), stage.Y(v) - stage.Y(w)), start = Math.min(0.12, 12 / whole);
-      const [x, y] = stage.beside(v, w, start + (1 - start) * part, pillWidth(said, size), size + 6);
+      if (isCrowd && v !== node && w !== node) {
+        const [x, y] = stage.beside(v, w, start + (1 - start) * far, DOT, DOT);
+        shown.push(mark("circle", {class: "token", cx: x, cy: y, r: DOT / 2, fill: WIRES.payload, "data-mark": "dot"}));
+        continue;
+      }
+      const [x, y] = stage.beside(v, w, start + (1 - start) * far, pillWidth(said, size), size + 6);
       const look = why && !heard.has([p, v, w].join(" ")) ? FADED : {};
       shown.push(mark("g", {class: "token"},
         [mark("title", {}, `${v} tells ${w}: ${word} ${sent}`), ...pill(x, y, said, "payload", size, look)]));
@@ -166,7 +177,7 @@ export class RoundsFilm {
     const turn = (v, x, y, r) => plain || !pulse.step || this.hasChosen(v, p) ? []
       : this.turnMark(p, pulse.step[0], v, x, y, r);
     stage.draw({node: (v, x, y, r) => [...this.node(stage, p, shown, v, x, y, r), ...turn(v, x, y, r)], links: () => this.arrows(stage, p, shown),
-      above: () => quiet ? [] : this.messages(stage, p, at - p, forest, why),
+      above: () => quiet ? [] : this.messages(stage, p, at - p, forest, {why, node}),
       below: Boolean(pulse.results && !this.channels || pulse.step && !plain),
       says: v => `pulse ${p}, ${this.words(v, p, shown)}`,
       label: pulse.results && !this.channels ? v => nameOf(this.net, v).slice(String(v).length).trim()

@@ -23,7 +23,7 @@ function wireWords(said, isLong) {
 // A wire's mark at a place of its way, 0 at its start and 1 at its end.
 /** @type {(stage: Stage, v: number, w: number, far: number, said: string, isLong: boolean, more?: Attributes, look?: Attributes & {ink?: string}) => Mark} */
 function wireMark(stage, v, w, far, said, isLong, more = {}, look = {}) {
-  const kind = said.split(" ")[0], size = Math.max(9, Math.min(11.5, stage.radius * 0.55));
+  const kind = said.split(" ")[0], size = Math.max(9, Math.min(stage.largest - 10.5, stage.radius * 0.55));
   const shown = wireWords(said, isLong), [x, y] = stage.beside(v, w, far, pillWidth(shown, size), size + 6, 3);
   return mark("g", {class: "wire", ...more},
     [mark("title", {}, `${said}, from ${v} to ${w}`), ...pill(x, y, shown, kind, size, look)]);

@@ -53,7 +53,8 @@ export class Stage {
     this.high = box.height || 1;
     this.isZoomed = false;
     const names = Math.max(0, ...this.net.nodes.map(n => Math.min(12, n.name.length) + Math.min(8, n.id.length)));
-    const margin = Math.max(42, Math.min(64, 12 + this.wide / 14)) + Math.min(6 * names, this.wide / 8);
+    const margin = Math.max(42, Math.min(64, 12 + this.wide / 14)) + Math.min(6 * names, this.wide / 8)
+      + 2 * (this.largest - 22);
     /** @type {(size: number, part: number) => number} */
     const room = (size, part) => size - 2 * Math.min(margin, size / part);
     if (xs.length < 2) {

@@ -40,7 +40,8 @@ hooks.show = () => {
   say("name", [net.name, seen.program].filter(one => one && one !== "colouring").map(one => "· " + one).join(" "));
   document.title = titleSeen();
   by("slider").setAttribute("aria-valuetext", by("when").textContent || "");
-  legend(by("legend"), seen.tab === "pictures" ? [] : [stage.svg], LEGENDS[seen.tab]);
+  by("legend").hidden = seen.tab === "pictures";
+  legend(by("legend"), [stage.svg, by("second")].filter(one => !one.hasAttribute("hidden")), LEGENDS[seen.tab]);
   look();
   hooks.link();
 };
@@ -357,6 +358,7 @@ function turnLarge(isLarge = !document.documentElement.classList.contains("large
   document.documentElement.classList.toggle("large", isLarge);
   by("large").setAttribute("aria-pressed", String(isLarge));
   stage.largest = isLarge ? 34 : 22;
+  stage.fit();
   if (isLarge) document.documentElement.requestFullscreen().catch(() => 0);
   else if (document.fullscreenElement) document.exitFullscreen();
   show();
