@@ -197,15 +197,19 @@ class Look(Page):
         """Each control has a name in the accessibility tree."""
         for place in [*PLACES.values(), "lesson=1", "lesson=6&step=3", "lecture=2"]:
             self.go_and_wait(place)
-            tree = self.page.ask("Accessibility.getFullAXTree")["nodes"]
-            used = [
-                one
-                for one in tree
-                if one.get("role", {}).get("value") in ROLES and not one.get("ignored")
-            ]
-            nameless = [one for one in used if not one.get("name", {}).get("value", "").strip()]
-            self.note(f"{place}: there are controls", len(used) > 12, len(used))
-            self.same(f"{place}: controls without a name", [one["role"] for one in nameless], [])
+            count, nameless = self.controls()
+            self.note(f"{place}: there are controls", count > 12, count)
+            self.same(f"{place}: controls without a name", nameless, [])
+        self.value("side.append(document.createElement('button'))")
+        self.same("one without a name is found", self.controls()[1], ["button"])
+        self.value("side.lastElementChild.remove()")
+
+    def controls(self) -> tuple[int, list[str]]:
+        """How many controls the accessibility tree has, and the roles of those without a name."""
+        tree = self.page.ask("Accessibility.getFullAXTree")["nodes"]
+        used = [one for one in tree if not one.get("ignored") and one["role"]["value"] in ROLES]
+        nameless = [one for one in used if not one.get("name", {}).get("value", "").strip()]
+        return len(used), [one["role"]["value"] for one in nameless]
 
     def test_best_so_far(self) -> None:
         """The card of a dare keeps the least steps in which this task was won."""
