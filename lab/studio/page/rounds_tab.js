@@ -48,10 +48,12 @@ function endOf(chosen) {
   return alike ? `${count(alike, "link")} have one channel at both ends.`
     : `Done: ${count(new Set(Object.values(chosen)).size, "channel")}, no two neighbours alike, and nobody was in charge.`;
 }
-// What has been reached at the last pulse.
-/** @param {RoundsFilm} film @param {number} p */
-function endSaid(film, p) {
-  return film.forests || film.channels ? endOf(film.merged[p]) : "Done: below each node is what it has found.";
+// What has been reached at the last pulse; of another program with what the chosen node has found.
+/** @param {RoundsFilm} film @param {number} p @param {string} told */
+function endSaid(film, p, told) {
+  if (film.forests) return endOf(film.merged[p]);
+  const done = film.channels ? endOf(film.merged[p]) : "Done: below each node is what it has found.";
+  return `${done} ${told.replace(/^.*Nothing is sent\./, "")}`.trim();
 }
 function showAt() {
   const film = ready();
@@ -61,7 +63,7 @@ function showAt() {
   const why = rounds.whyOf === node && !rounds.predicts ? rounds.why : null;
   rounds.forest = Math.min(rounds.forest, Math.max(0, film.forests - 1));
   const isFirst = !by("welcome").hidden, p = film.draw(stage, time.at, {forest: rounds.forest, node, why, plain: isFirst});
-  const [caption, told] = film.said(p, node), said = p === film.last ? `${endSaid(film, p)} ${told}`.replace(/ (There is none|Nothing is sent)\.$/, "") : told;
+  const [caption, told] = film.said(p, node), said = p === film.last ? endSaid(film, p, told) : told;
   say("when", `pulse ${p} of ${film.last}`);
   if (isFirst) say("story", storyOf(film, p));
   const ofNode = node ? ` Node ${node}: ${film.words(node, p, film.forestAt(p, rounds.forest))}.` : "";
