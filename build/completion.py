@@ -13,7 +13,7 @@ from lab.pictures.run_picture import KINDS
 from lab.pictures.sheet import LESSONS
 from lab.schedules.policies import POLICIES
 from lab.schedules.rules import OF_ANY_ROUNDS, OF_SCHEDULES
-from lab.transcripts.convert import FORMS
+from lab.transcripts.convert import FORMS, ROUNDS
 from lab.transcripts.fields import PAYLOADS
 
 COMMANDS = ("forestplan", "forestplay", "forestlab")
@@ -23,7 +23,10 @@ Help = tuple[tuple[str, ...], str, list[str]]
 WITH_COMMANDS = ((), ("picture",), ("network",), ("transcript",))
 OF_WORKSHOP = ["grade", "class"]
 # The words that a first argument, or an option, may be; with a command's name before it, of that command alone.
-ARGUMENTS: dict[str, Iterable[str]] = {"convert": FORMS, "workshop": ("rounds", "alpha", "open")}
+ARGUMENTS: dict[str, Iterable[str]] = {
+    "convert": (*FORMS, ROUNDS),
+    "workshop": ("rounds", "alpha", "open"),
+}
 VALUES: dict[str, Iterable[str]] = {
     "--as": ENDINGS,
     "--edition": ("1", "2"),

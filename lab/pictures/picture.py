@@ -492,13 +492,18 @@ def progress(states: int, events: int) -> None:
     note(f"{states:,} states, up to {events} events")
 
 
-def drawn(given: Namespace) -> str:
-    """The picture that the command line asks for."""
-    stored = given.stored or []
+def check_texts(given: Namespace, stored: Sequence[str]) -> None:
+    """Refuses more texts than there are, or than a page has room for."""
     if given.kind == "watch" and len(stored) > 2:
         raise Fault("a page has room for two runs")
     if [given.network, *stored].count("-") > 1:
         raise Fault("standard input has one text: name a file for each other one")
+
+
+def drawn(given: Namespace) -> str:
+    """The picture that the command line asks for."""
+    stored = given.stored or []
+    check_texts(given, stored)
     of = Source(title=given.title, progress=progress if sys.stderr.isatty() else None)
     if given.network is None:
         of.program = program_asked("picture", given)

@@ -85,6 +85,8 @@ def as_shiviz(_: Head, entries: Made) -> Iterator[str]:
 
 
 FORMS = {"json": as_json, "shiviz": as_shiviz}
+# The form that needs a program, too.
+ROUNDS = "rounds"
 
 
 def as_rounds(head: Head, entries: Made, program: str) -> Iterator[str]:

@@ -67,10 +67,8 @@ def refusal(
     if code == "NoSuch":
         return WrongEntry(entry.line, code, said)
     at = standing(state, entry.node)
-    if code == "NotReady" and not at:
-        said += missing_words(state, event_of(state, entry))
-    elif code == "NotReady" and at and at.lacks:
-        said += f", but it lacks {at.lacks}"
+    if code == "NotReady":
+        said += not_ready_words(state, entry, at)
     elif code == "WrongWire":
         said += f", but the next one there is {state.carried(event_of(state, entry))}"
     elif code == "LinkEmpty":
@@ -84,6 +82,13 @@ def refusal(
         what = "pulse" if entry.kind is PULSE else f"put {entry.neighbour}"
         said += f"; {rule_of(at, f'{what} {entry.what}', says_lacks=False)}"
     return WrongEntry(entry.line, code, said)
+
+
+def not_ready_words(state: NetState[Node], entry: Entry, at: Standing | None) -> str:
+    """What a node's own step lacks that isn't possible."""
+    if at is None:
+        return missing_words(state, event_of(state, entry))
+    return f", but it lacks {at.lacks}" if at.lacks else ""
 
 
 def why_link_empty(entry: Entry, entries: list[Entry]) -> str:

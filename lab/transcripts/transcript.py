@@ -14,7 +14,7 @@ from lab.network import Network
 from lab.networks.sources import network_bytes
 from lab.networks.network_text import network_of
 from lab.transcripts.check import in_order, not_right, whole_run
-from lab.transcripts.convert import FORMS, as_rounds, entries_of
+from lab.transcripts.convert import FORMS, ROUNDS, as_rounds, entries_of
 from lab.transcripts.reading import WrongEntry
 from lab.words import (
     MOST_OF_TRANSCRIPT,
@@ -40,8 +40,6 @@ Judges a transcript of a run without a clock, whoever wrote it.
 Status: 0 done, 1 the transcript isn't right, a file can't be read, or forestplay isn't
 built, 2 the command line is refused; else what forestplay ends with.
 """
-# The form of `convert` that needs a program.
-ROUNDS = "rounds"
 # By command: its words, what it does, more of that, and an example.
 COMMANDS = {
     "check": (

@@ -64,23 +64,20 @@ def places_of(tree: ast.Module) -> list:
     functions = [
         it for it in tree.body if isinstance(it, ast.FunctionDef) and it.name not in JUDGES
     ]
-    found = []
-    for function in functions:
-        for node in ast.walk(function):
-            is_statement = isinstance(
-                node, (ast.Assign, ast.AugAssign, ast.Expr, ast.Return, ast.If)
-            )
-            is_text = isinstance(node, ast.Expr) and isinstance(node.value, ast.Constant)
-            is_number = isinstance(node, ast.Constant) and isinstance(node.value, int)
-            if (
-                is_statement
-                and not is_text
-                or is_number
-                or isinstance(node, (ast.Compare, ast.BoolOp))
-            ):
-                if not isinstance(node, ast.Compare) or type(node.ops[0]) in OTHERS:
-                    found.append(node)
-    return found
+    return [node for function in functions for node in ast.walk(function) if may_change(node)]
+
+
+def may_change(node: ast.AST) -> bool:
+    match node:
+        case ast.Expr(ast.Constant()):
+            return False
+        case ast.Assign() | ast.AugAssign() | ast.Expr() | ast.Return() | ast.If() | ast.BoolOp():
+            return True
+        case ast.Compare():
+            return type(node.ops[0]) in OTHERS
+        case ast.Constant():
+            return isinstance(node.value, int)
+    return False
 
 
 def leave_out(tree: ast.Module, place: ast.stmt) -> None:

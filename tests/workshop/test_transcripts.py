@@ -194,7 +194,8 @@ class Transcripts(Case):
             (
                 "lay\x1bers",
                 "layers",
-                "line 1: X1: neither `transcript 1 N`, `transcript 2 N`, `transcript 3 NAME N` nor `trans",
+                "line 1: X1: neither `transcript 1 N`, `transcript 2 N`, `transcript 3 NAME N` nor "
+                "`transcript 4 NAME N`",
             ),
         ):
             self.says(named.format(name), line, "--program", program)
