@@ -6,7 +6,8 @@ import re
 
 from build.crate_lists import TOP, lines_of
 from build.kit import PARTS
-from lab.faults import Fault
+from lab.fault_codes import Code
+from lab.faults import Fault, InText
 from lab.words import parser_of
 from lab.workshop.class_files import write
 
@@ -62,9 +63,9 @@ def copy(name: str, top: str, model: Model = MODEL) -> None:
     """Writes the crate, of which nothing is there before, and its line of crates.txt, after the model's.
     Its test makes rounds, so the line has `sync_rounds`, too."""
     if not re.fullmatch("[a-z]{1,20}", name):
-        raise Fault(f"{name}: a program's name is one word of at most 20 small letters, a to z")
+        raise Fault(Code.NO_NAME_FOR_A_PROGRAM, InText(name))
     if os.path.exists(os.path.join(top, "crates", name)) or name == "colouring":
-        raise Fault(f"{name}: there is a crate or a program of this name")
+        raise Fault(Code.NAME_TAKEN, InText(name))
     source = os.path.join(TOP, "crates", model[0])
     for part in PARTS:
         for path in glob.glob(os.path.join(source, part, "**", "*.*"), recursive=True):

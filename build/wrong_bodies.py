@@ -27,6 +27,7 @@ from collections.abc import Collection, Iterable, Mapping
 
 from build import gate, kit
 from build.crate_lists import TOP, listed
+from lab.fault_codes import Code
 from lab.faults import Fault
 from lab.words import parser_of
 
@@ -62,7 +63,7 @@ def changed_since(rev: str, given: Mapping[str, list[str]], at_hand: list[str]) 
     asked = ["git", "-C", TOP, "diff", "--name-only", "--no-renames", rev, "--", "crates"]
     done = subprocess.run(asked, capture_output=True, text=True)
     if done.returncode:
-        raise Fault(f"git knows no commit {rev}")
+        raise Fault(Code.NO_COMMIT, rev=rev)
     parts = [line.split("/") for line in done.stdout.splitlines()]
     own = {part[1] for part in parts if part[2] in ("wrong-bodies", "src", "specs", "proofs")}
     said = {part[1] for part in parts if part[2] in ("src", "specs")}
@@ -77,7 +78,7 @@ def chosen(names: Iterable[str], at_hand: Collection[str]) -> dict[str, list[str
         there = edits_of(crate) if crate in at_hand else []
         found = [path for path in there if not edit or os.path.basename(path) == f"{edit}.edit"]
         if not found:
-            raise Fault(f"there is no crates/{crate}/wrong-bodies/{edit}")
+            raise Fault(Code.NO_WRONG_BODY, crate=crate, edit=edit)
         edits[crate] = list(dict.fromkeys(edits.get(crate, []) + found))
     return edits
 

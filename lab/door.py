@@ -13,6 +13,7 @@ from collections.abc import Callable, Iterator
 from types import FrameType
 from typing import NoReturn
 
+from lab.fault_codes import Code
 from lab.faults import Fault
 
 # What ends a command so that nothing is left of it and of what it runs.
@@ -106,6 +107,7 @@ def status_of(child: int, reader: int) -> int:
         os.waitpid(child, 0)
         raise
     if not os.read(reader, 1):
-        how = f"by signal {os.WTERMSIG(ended)}" if os.WIFSIGNALED(ended) else "by itself"
-        raise Fault(f"the program's file has ended the command {how}, before it was done")
+        if os.WIFSIGNALED(ended):
+            raise Fault(Code.ENDED_BY_SIGNAL, signal=os.WTERMSIG(ended))
+        raise Fault(Code.ENDED_BY_ITSELF)
     return os.waitstatus_to_exitcode(ended)

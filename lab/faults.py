@@ -1,17 +1,46 @@
-"""What ends a command before anything is drawn or written; its script writes it as one line on standard error."""
+"""Why something can't be done. A fault has a code, a place and a subject. sentences.py makes its sentence where a
+command or a page shows it, and nothing in lab/ reads one. A script writes it as one line on standard error."""
+from typing import NamedTuple
+
+from lab.fault_codes import Code
+from lab.sentences import place_words, sentence_of
+
+
+class InText(NamedTuple):
+    """Where a fault is: what the text is called, and the number of a line, or where else in the text, in words.
+
+    >>> str(InText("net.col", 3)), str(InText("net.json", "nodes[0]")), str(InText("net.col"))
+    ('net.col line 3', 'net.json nodes[0]', 'net.col')
+    """
+
+    name: str
+    where: int | str | None = None
+
+    def __str__(self) -> str:
+        return place_words(self.name, self.where)
 
 
 class Fault(Exception):
-    """A text is wrong, or a network is too large for what is asked."""
+    """Says with a code that a text is wrong, or a network is too large for what is asked. `place` is where, if it is
+    about a text, and `subject` has what its sentence names.
 
+    >>> fault = Fault(Code.SECOND_PROBLEM_LINE, InText("net.col", 3))
+    >>> fault.place.where, str(fault)
+    (3, 'net.col line 3: a second `p` line (F2)')
+    """
 
-def wrong_line(name: str, line: int | str, what: str) -> Fault:
-    """A fault of a line; or at another place of a text, in words."""
-    where = line if isinstance(line, str) else f"line {line}"
-    return Fault(f"{name} {where}: {what}")
+    def __init__(self, code: Code, place: InText | None = None, **subject: object) -> None:
+        super().__init__(code, place, subject)
+        self.code = code
+        self.place = place
+        self.subject = subject
+
+    def __str__(self) -> str:
+        return sentence_of(self.code, "" if self.place is None else str(self.place), self.subject)
 
 
 def at_most(kind: str, count: float, what: str, limit: int, instead: str) -> None:
     """Refuses what would be no picture any more, and names the kind to use."""
     if count > limit:
-        raise Fault(f"{kind} draws at most {limit} {what}, and here are {count}: use {instead}")
+        subject = {"kind": kind, "most": limit, "what": what, "count": count, "instead": instead}
+        raise Fault(Code.TOO_MANY_OF_KIND, None, **subject)

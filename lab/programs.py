@@ -6,6 +6,7 @@ import subprocess
 import sys
 from collections.abc import Iterable
 
+from lab.fault_codes import Code
 from lab.faults import Fault
 from lab.unbuilt import how_to_build
 
@@ -50,7 +51,7 @@ def program_file(name: str) -> str:
     """The program's file; refused if it isn't built."""
     path = built(name)
     if path is None:
-        raise Fault(f"{name} isn't built: {how_to_build(name)}")
+        raise Fault(Code.NOT_BUILT, name=name, how=how_to_build(name))
     return path
 
 
@@ -64,7 +65,7 @@ def called(name: str, arguments: Iterable[str], data: bytes) -> subprocess.Compl
             env={"GLIBC_TUNABLES": TUNABLES, **os.environ},
         )
     except OSError as why:
-        raise Fault(f"{name} can't be run: {why.strerror}") from None
+        raise Fault(Code.CANT_BE_RUN, name=name, why=why.strerror) from None
 
 
 def text_of(name: str, arguments: Iterable[str], data: bytes) -> str:

@@ -9,7 +9,8 @@ import sys
 from collections.abc import Callable, Iterable, Sequence
 from typing import IO, BinaryIO, NoReturn, TypeAlias
 
-from lab.faults import Fault
+from lab.fault_codes import Code
+from lab.faults import Fault, InText
 
 
 class Parser(argparse.ArgumentParser):
@@ -138,9 +139,9 @@ def bytes_at(path: str, most: int = MOST_BYTES, why: str = "the most that is rea
             with open(path, "rb") as file:
                 data = bytes_in(file, most)
     except OSError as fault:
-        raise Fault(f"{text_name(path)}: {fault.strerror}") from None
+        raise Fault(Code.NOT_READ, InText(text_name(path)), why=fault.strerror) from None
     if data is None:
-        raise Fault(f"{text_name(path)}: more than {most >> 20} MiB, {why}")
+        raise Fault(Code.TEXT_TOO_LONG, InText(text_name(path)), most=most >> 20, why=why)
     return data
 
 

@@ -9,11 +9,16 @@ from dataclasses import dataclass, field
 from typing import Generic, Protocol, TypeVar
 
 from lab.definitions.events import PUT, TAKE, Entry, Event, Kind, Message
+from lab.fault_codes import Code
 from lab.network import Network
 
 
 class Refused(Exception):
-    """Why an event isn't possible, in one word of docs/claim/FORMATS.md; of a message that isn't due, which it is."""
+    """Why an event isn't possible: a code; of a message that isn't due, which it is."""
+
+    def __init__(self, code: Code, message: str = "") -> None:
+        super().__init__(code, message)
+        self.code = code
 
 
 @dataclass(eq=False)
@@ -89,22 +94,22 @@ class NetState(Generic[AnyNode]):
         taken."""
         v, port = event.node, event.port
         if v not in self.nodes or port is not None and port >= len(self.nodes[v].ports):
-            raise Refused("NoSuch")
+            raise Refused(Code.NO_SUCH)
         node = self.nodes[v]
         if port is None:
             if not node.may_act():
-                raise Refused("NotReady")
+                raise Refused(Code.NOT_READY)
             return node.next_act()
         wires = node.ports[port].out if event.kind is PUT else self.link_to(v, port)
         if not wires:
-            raise Refused("NothingToPut" if event.kind is PUT else "LinkEmpty")
+            raise Refused(Code.NOTHING_TO_PUT if event.kind is PUT else Code.LINK_EMPTY)
         return wires[0]
 
     def step(self, event: Event, what: int | Message | None = None) -> int | Message:
         """Makes an event that is possible, and carries this if that is given; returns what it carries."""
         carried = self.carried(event)
         if what is not None and what is not carried and what != carried:
-            raise Refused("WrongWire")
+            raise Refused(Code.WRONG_WIRE)
         v, port = event.node, event.port
         if port is None or isinstance(carried, int):
             self.nodes[v].act()
@@ -143,17 +148,17 @@ def event_of(state: NetState[Node], entry: Entry) -> Event:
     """The event of an entry of a transcript."""
     event = state.events.get((entry.kind, entry.node, entry.neighbour))
     if event is None:
-        raise Refused("NoSuch")
+        raise Refused(Code.NO_SUCH)
     return event
 
 
 def entry_words(state: NetState[Node], entry: Entry, refused: Refused) -> str:
     """What comes after the line of a refused entry: what its event lacks, or the step or message to which its event
     comes."""
-    if str(refused) == "NoSuch":
+    if refused.code is Code.NO_SUCH:
         return ""
     event = event_of(state, entry)
-    if str(refused) != "WrongWire":
+    if refused.code is not Code.WRONG_WIRE:
         return missing_words(state, event)
     due = state.carried(event)
     return f": expected {entry.kind.value} {due}" if isinstance(due, int) else f": expected {due}"

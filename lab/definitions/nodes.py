@@ -12,6 +12,7 @@ from lab.definitions.colours import other_than
 from lab.definitions.events import CLOSE, PULSE, Message, ack, safe
 from lab.definitions.machine import NetState, Node, Outgoing, Refused
 from lab.definitions.program import Payload, Program, RoundsNode, Slot
+from lab.fault_codes import Code
 from lab.network import Network
 from lab.words import in_words
 
@@ -265,7 +266,7 @@ class AlphaNode(Node):
     def act(self) -> None:
         """It begins its next pulse."""
         if not self.may_act():
-            raise Refused("NotReady")
+            raise Refused(Code.NOT_READY)
         sent = self.simulated.next(self.pulse_number + 1, [port.present for port in self.ports])
         self.pulse_number, self.said = self.pulse_number + 1, False
         for port in self.ports:
@@ -294,7 +295,7 @@ class AlphaNode(Node):
         """It takes a wire by a port."""
         port = self.ports[at]
         if port.closed or not self.is_due(port, wire):
-            raise Refused(f"{wire} at port {at}")
+            raise Refused(Code.NOT_DUE, f"{wire} at port {at}")
         match wire.word, wire.fields:
             case "safe", (q,):
                 if q == self.pulse_number:

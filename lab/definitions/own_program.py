@@ -38,7 +38,8 @@ from typing import TypeGuard, TypeVar
 
 from lab.definitions.program import Payload, Program, ProgramFile, Slot, pulses_of, synchronous_run
 from lab.definitions.values import by_name, frozen
-from lab.faults import Fault, wrong_line
+from lab.fault_codes import Code
+from lab.faults import Fault, InText
 from lab.network import Network
 from lab.words import bytes_at
 
@@ -48,7 +49,6 @@ MAY_BE = ("last_pulse", "right", "always", "drawn")
 COLOURS = 8
 # After so many seconds a call of one function is ended.
 LONGEST = 20
-AGAIN = "does it use chance other than `me.random`, or a variable outside `me`?"
 LONGEST_INBOX = 200
 # Of a file. Nobody writes a longer one, and Python takes hundreds of times as much memory to read it.
 MOST_BYTES = 1 << 20
@@ -85,7 +85,7 @@ def check_functions(
     ]
     missing += [name for name in may_be if name in file.others]
     if missing:
-        raise Fault(f"{file.path} has no function {' and no function '.join(missing)}")
+        raise Fault(Code.NO_FUNCTION, file=file.path, missing=" and no function ".join(missing))
 
 
 def program_name(file: ProgramFile) -> str:
@@ -98,16 +98,16 @@ def code_of(path: str) -> CodeType:
     try:
         text = bytes_at(path, MOST_BYTES).decode("utf-8-sig")
         if marks_in_a_row(text) > MOST_MARKS:
-            raise Fault(f"{path}: more than {MOST_MARKS} marks over one letter")
+            raise Fault(Code.TOO_MANY_MARKS, InText(path), most_marks=MOST_MARKS)
         code: CodeType = compile(text, path, "exec")
         return code
     except SyntaxError as why:
-        raise wrong_line(path, why.lineno or 1, why.msg) from None
+        raise Fault(Code.NOT_PYTHON, InText(path, why.lineno or 1), why=why.msg) from None
     except (RecursionError, MemoryError):
         # Python's parser says that memory is out, too.
-        raise Fault(f"{path}: it is nested too deep for Python") from None
+        raise Fault(Code.NESTED_TOO_DEEP, InText(path)) from None
     except ValueError as why:
-        raise Fault(f"{path}: {why}") from None
+        raise Fault(Code.NOT_COMPILED, InText(path), why=why) from None
 
 
 def marks_in_a_row(text: str) -> int:
@@ -169,10 +169,9 @@ def call(path: str, where: str, function: Callable[..., Returned], *values: obje
             if frame.filename == path
         ]
         kind = "" if isinstance(why, (TooLong, Misuse)) else type(why).__name__
-        said = ": ".join(filter(None, [kind, str(why)])) + (f", in {where}" if where else "")
-        raise (
-            wrong_line(path, lines[-1] or 1, said) if lines else Fault(f"{path}: {said}")
-        ) from None
+        said = ": ".join(filter(None, [kind, str(why)]))
+        place = InText(path, (lines[-1] or 1) if lines else None)
+        raise Fault(Code.RAISED, place, why=said, function=where) from None
 
 
 def variables_of(functions: dict[str, object]) -> dict[str, Hashable]:
@@ -218,7 +217,7 @@ class LoadedFile:
     def needed(self, *names: str) -> Callable[..., object]:
         function = self.function(*names)
         if function is None:
-            raise Fault(f"{self.path} has no function {' or '.join(names)} when it is run again")
+            raise Fault(Code.FUNCTION_GONE, file=self.path, names=" or ".join(names))
         return function
 
     def changed_variable(self) -> str | None:
@@ -276,7 +275,7 @@ class OwnNode:
         sizes = (net.nodes, net.greatest_degree, net.forest_count, net.greatest_bars)
         last = call(file.path, "`last_pulse`", function, *sizes[: 4 if takes(function, 4) else 2])
         if not isinstance(last, int) or isinstance(last, bool) or not 0 <= last < 2**32:
-            raise Fault(f"{file.path}: `last_pulse` returns {last!r}, which is no pulse")
+            raise Fault(Code.NO_PULSE_RETURNED, InText(file.path), last=last)
         return last
 
     def where(self, function: str, pulse: int) -> str:
@@ -296,20 +295,27 @@ class OwnNode:
 
     def sent(self, where: str, pulse: int, what: object) -> list[Slot]:
         """By port, what a function returned, with the words of payloads as the definitions write them."""
-        where = f"{self.of_file.path}: {where}"
+        place = InText(self.of_file.path)
         if isinstance(what, (dict, set)):
-            raise Fault(f"{where} returns a {type(what).__name__}: {ALL_THAT_IS_SENT}")
+            kind = type(what).__name__
+            raise Fault(Code.NOTHING_TO_SEND, place, where=where, kind=kind)
         found: list[object] = list(what) if isinstance(what, list) else [what] * self.degree
         if len(found) != self.degree:
-            raise Fault(f"{where} returns a list of {len(found)} for {self.degree} ports")
+            raise Fault(
+                Code.LIST_OF_OTHER_LENGTH,
+                place,
+                where=where,
+                payloads=len(found),
+                ports=self.degree,
+            )
         slots: list[Slot] = []
         for slot in found:
             try:
                 slots.append(None if slot is None else payload_of(slot))
             except NoPayload as why:
-                raise Fault(f"{where} sends {slot!r}: {why}") from None
+                raise Fault(Code.SENDS_NO_PAYLOAD, place, where=where, slot=slot, why=why) from None
         if pulse == self.last and any(slot is not None for slot in slots):
-            raise Fault(f"{where} sends something, and {pulse} is the last pulse")
+            raise Fault(Code.SENDS_IN_LAST_PULSE, place, where=where, pulse=pulse)
         return slots
 
     def result(self) -> str:
@@ -327,8 +333,11 @@ class OwnNode:
             if is_below(colour, COLOURS) and is_below(port, self.degree):
                 return colour, port
         raise Fault(
-            f"{path}: `drawn` returns {pair!r} at the node of identifier {self.id}: it must be a "
-            f"pair, a colour below {COLOURS} or None, and a port or None"
+            Code.NOTHING_TO_DRAW_RETURNED,
+            InText(path),
+            pair=pair,
+            identifier=self.id,
+            colours=COLOURS,
         )
 
 
@@ -336,7 +345,7 @@ def found_by(file: LoadedFile, me: Me, identifier: int) -> str:
     """What a node of a file has found so far, in words."""
     words = call(file.path, f"`result` of the node of identifier {identifier}", file.finding, me)
     if not isinstance(words, str) or "\n" in words:
-        raise Fault(f"{file.path}: `result` returns {words!r}: it must be words on one line")
+        raise Fault(Code.NO_WORDS_RETURNED, InText(file.path), returned=words)
     return words
 
 
@@ -344,11 +353,6 @@ def takes(function: object, count: int) -> bool:
     """Whether a function of a file takes so many values."""
     code = getattr(function, "__code__", None)
     return isinstance(code, CodeType) and code.co_argcount == count
-
-
-ALL_THAT_IS_SENT = (
-    "one payload for all ports, a list with a payload or None for each port, or None can be sent"
-)
 
 
 def cut(words: str) -> str:
@@ -401,12 +405,9 @@ def check_repeats(net: Network, program: Program) -> None:
         rounds_of(net, file, vertices), rounds_of(net, file, vertices[::-1])
     ):
         if one != two:
-            raise Fault(f"{file.path}: {where} does something else the second time: {AGAIN}")
+            raise Fault(Code.NOT_REPEATED, InText(file.path), where=where)
         if name := node.of_file.changed_variable():
-            raise Fault(
-                f"{file.path}: {where} changes the variable `{name}` outside `me`: keep everything in `me`, "
-                "since orders of events play on copies of it"
-            )
+            raise Fault(Code.VARIABLE_CHANGED, InText(file.path), where=where, name=name)
 
 
 def rounds_of(
@@ -463,10 +464,7 @@ def what_is_wrong(
         return f"`{function}` says that it isn't right"
     if isinstance(said, str) and said.strip() and "\n" not in said:
         return said
-    raise Fault(
-        f"{file.path}: `{function}` returns {said!r}: it must be True, False, or what isn't right in "
-        "words on one line"
-    )
+    raise Fault(Code.NO_TRUTH_RETURNED, InText(file.path), function=function, returned=said)
 
 
 def by_identifier(

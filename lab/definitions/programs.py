@@ -14,6 +14,7 @@ from lab.definitions.own_program import file_at, own_program
 from lab.definitions.program import Program
 from lab.definitions.reacting import AnyProgram, Reacting, reacting_program, reacts, words_taken
 from lab.definitions.recolouring import recolouring
+from lab.fault_codes import Code
 from lab.faults import Fault
 from lab.network import Network
 from lab.words import as_utf8, count
@@ -31,7 +32,6 @@ OPTIONS: dict[str, tuple[str, Callable[[int], Program]]] = {
 # How often recolouring may choose anew.
 MAX_PASSES = 64
 # What takes a file whose nodes react to messages, too.
-TAKE_BOTH = "only `explore`, `simulate`, `transcript check` and `picture run` take such a file"
 HELP = f"what the nodes run: {', '.join(PROGRAMS)}, or a file of your own, as NAME.py; default: colouring"
 
 
@@ -46,7 +46,7 @@ def by_rounds(program: AnyProgram) -> Program:
     """A program, if its nodes make rounds."""
     if isinstance(program, Reacting):
         path, word = program.file.path, words_taken(program.file)[0]
-        raise Fault(f"{path} has a function `on_{word}`, so its nodes make no rounds: {TAKE_BOTH}")
+        raise Fault(Code.NO_ROUNDS, file=path, word=word)
     return program
 
 
@@ -56,7 +56,7 @@ def any_program_at(name: str, lots: str = "1", **options: int | None) -> AnyProg
     for option in given:
         of, _ = OPTIONS[option]
         if name != of:
-            raise Fault(f"--{option} is for --program {of}, not for {name}")
+            raise Fault(Code.OPTION_OF_OTHER_PROGRAM, option=option, of=of, name=name)
     # Each option is another program's, so there is one at most.
     for option, value in given.items():
         _, with_option = OPTIONS[option]
@@ -66,11 +66,9 @@ def any_program_at(name: str, lots: str = "1", **options: int | None) -> AnyProg
     if name.endswith(".py"):
         file = file_at(name, lots)
         return reacting_program(file) if reacts(file) else own_program(file)
-    raise Fault(
-        f"there is no program {name}: there are {', '.join(PROGRAMS)}, and a file of your own, as {name}.py"
-        if os.sep not in name
-        else f"{name} is no name of a program, and doesn't end in .py"
-    )
+    if os.sep in name:
+        raise Fault(Code.NO_NAME_OF_A_PROGRAM, name=name)
+    raise Fault(Code.NO_PROGRAM, name=name, names=", ".join(PROGRAMS))
 
 
 def program_words(program: Program) -> list[str]:
@@ -100,9 +98,7 @@ def any_program_asked(command: str, given: Namespace, network: Network | None = 
     if isinstance(program, Reacting):
         return program
     if network and options["root"] not in (None, *network.vertices):
-        raise Fault(
-            f"there is no node {program.root} that could be the root: the network has {network.nodes}"
-        )
+        raise Fault(Code.NO_ROOT, root=program.root, nodes=network.nodes)
     if network and network.bars and not program.reads_bars:
         print(
             f"{command}: {program.name} ignores the bars of the network, its lines `b`",

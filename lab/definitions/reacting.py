@@ -21,7 +21,6 @@ from lab.definitions.events import ACT, Kind, Message
 from lab.definitions.machine import NetState, Node, Outgoing
 from lab.definitions.nodes import alpha_start
 from lab.definitions.own_program import (
-    AGAIN,
     LoadedFile,
     Me,
     Misuse,
@@ -37,7 +36,8 @@ from lab.definitions.own_program import (
 )
 from lab.definitions.program import Program, ProgramFile
 from lab.definitions.values import by_name, frozen
-from lab.faults import Fault
+from lab.fault_codes import Code
+from lab.faults import Fault, InText
 from lab.network import Network
 from lab.words import counted
 
@@ -151,16 +151,11 @@ class ReactingNode(Node):
         returned = call(file.path, where, function, self.me, *values)
         self.me._sent = None
         if returned is not None:
-            raise Fault(
-                f"{file.path}: {where} returns {returned!r}: it returns nothing, and sends with `me.send`"
-            )
+            raise Fault(Code.RETURNS_SOMETHING, InText(file.path), where=where, returned=returned)
         for port, message in sent:
             self.ports[port].out.append(message)
         if changed := file.changed_variable():
-            raise Fault(
-                f"{file.path}: {where} changes the variable `{changed}` outside `me`: keep everything in `me`, "
-                "since orders of events play on copies of it"
-            )
+            raise Fault(Code.VARIABLE_CHANGED, InText(file.path), where=where, name=changed)
         self.kept = self.key_of_kept()
         self.is_able = self.says_able()
 
@@ -171,16 +166,14 @@ class ReactingNode(Node):
             return False
         may = call(file.path, self.where("may_act"), file.asking, self.me)
         if not isinstance(may, bool):
-            raise Fault(f"{file.path}: `may_act` returns {may!r}: it must be True or False")
+            raise Fault(Code.MAY_ACT_NO_TRUTH, InText(file.path), returned=may)
         self.check_unchanged("may_act")
         return may
 
     def check_unchanged(self, name: str) -> None:
         """Refuses a question of the file that changes the node."""
         if self.key_of_kept() != self.kept:
-            raise Fault(
-                f"{self.of_file.path}: {self.where(name)} changes `me`: it only says what is so"
-            )
+            raise Fault(Code.CHANGES_ME, InText(self.of_file.path), function=self.where(name))
 
     def on_wire(self, at: int, wire: Message) -> None:
         self.play(ON + wire.word, self.of_file.reactions[wire.word], at, *wire.fields)
@@ -238,10 +231,7 @@ class ReactingNode(Node):
         return self.kept
 
     def not_plain(self, why: Exception) -> Fault:
-        return Fault(
-            f"{self.of_file.path}: what `me` keeps can't be copied and compared, as each order of events needs it "
-            f"({why}): keep plain values there"
-        )
+        return Fault(Code.CANT_BE_COPIED, InText(self.of_file.path), why=why)
 
 
 # What the file doesn't know that `me` has.
@@ -286,16 +276,14 @@ def reacting_program(file: ProgramFile) -> Reacting:
     """The program of a file with a function `on_WORD`."""
     for word in words_taken(file):
         if not is_word(word):
-            raise Fault(
-                f"{file.path}: the function `{ON}{word}` is of no word: a word has small letters alone"
-            )
+            raise Fault(Code.NO_WORD_OF_MESSAGE, InText(file.path), begin=ON, word=word)
     has = [name for name in OWN_STEPS if name in file.functions]
     needed = [("start",), ("result",), *[(name,) for name in OWN_STEPS if has]]
     try:
         check_functions(file, needed, ("right", "always"))
     except Fault as why:
         raise Fault(
-            f"{why}; it has `{ON}{words_taken(file)[0]}`, so its nodes react to messages, without rounds"
+            Code.LACKS_FUNCTIONS_OF_REACTING, why=why, begin=ON, word=words_taken(file)[0]
         ) from None
     return Reacting(program_name(file), file)
 
@@ -337,9 +325,7 @@ def check_reactions(net: Network, program: Reacting) -> None:
 def check_same(program: Reacting, one: ReactingNode, two: ReactingNode) -> None:
     """Refuses two nodes that differ, and have made the same events."""
     if seen_of(one) != seen_of(two):
-        raise Fault(
-            f"{program.file.path}: the node of identifier {one.id} does something else the second time: {AGAIN}"
-        )
+        raise Fault(Code.NODE_NOT_REPEATED, InText(program.file.path), identifier=one.id)
 
 
 def seen_of(node: ReactingNode) -> Hashable:

@@ -9,6 +9,7 @@ from operator import itemgetter
 from lab.definitions.colours import Colours, text_of
 from lab.definitions.nodes import Colouring, last_pulse
 from lab.definitions.program import Slot, pulses_of
+from lab.fault_codes import Code
 from lab.faults import Fault
 from lab.network import Network
 
@@ -145,11 +146,12 @@ class Rounds:
     def asked_forests(self, asked: tuple[int, int] | None, usual: int = 1) -> range:
         """The forests A to B that are asked for, if the network has them; else the `usual` first ones."""
         if not self.forests:
-            raise Fault(f"{self.network.name} has no edge, so no forest")
+            raise Fault(Code.NO_FOREST, name=self.network.name)
         first, last = asked or (0, min(self.forests, usual) - 1)
         if not 0 <= first <= last < self.forests:
-            there = "forest 0 alone" if self.forests == 1 else f"forests 0 to {self.forests - 1}"
-            raise Fault(f"{self.network.name} has {there}")
+            if self.forests == 1:
+                raise Fault(Code.ONE_FOREST, name=self.network.name)
+            raise Fault(Code.FORESTS, name=self.network.name, last=self.forests - 1)
         return range(first, last + 1)
 
     def in_forest(self, v: int, f: int) -> bool:

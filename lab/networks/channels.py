@@ -4,7 +4,8 @@ import re
 import sys
 from argparse import ArgumentParser, Namespace
 
-from lab.faults import Fault, wrong_line
+from lab.fault_codes import Code
+from lab.faults import Fault, InText
 from lab.networks.fields import shown
 from lab.networks.network_text import MAX_CHANNEL
 from lab.networks.options import add_stated, commands_for, stated_by
@@ -62,7 +63,7 @@ def channels_asked(given: Namespace, words: list[str], command: str) -> list[int
         numbers, notes = licence_of(text, name, given.stated)
         for note in notes:
             print(f"{command}: {name}: {note}", file=sys.stderr)
-        return each_once(numbers, f"{name}: ")
+        return each_once(numbers, InText(name))
     try:
         return each_once(numbers_of(words))
     except Fault as why:
@@ -70,9 +71,9 @@ def channels_asked(given: Namespace, words: list[str], command: str) -> list[int
         raise
 
 
-def each_once(numbers: list[int], begin: str = "") -> list[int]:
+def each_once(numbers: list[int], place: InText | None = None) -> list[int]:
     if len(set(numbers)) != len(numbers) or len(numbers) > MAX_CHANNEL:
-        raise Fault(f"{begin}the table names a channel twice, or more than {MAX_CHANNEL} channels")
+        raise Fault(Code.CHANNEL_TWICE, place, most=MAX_CHANNEL)
     return numbers
 
 
@@ -89,15 +90,13 @@ def range_of(word: str) -> range:
     digits = f"([0-9]{{1,{MOST_DIGITS}}})"
     parts = re.fullmatch(f"{digits}(?:-{digits}(?:/([0-9]{{1,6}}))?)?", word)
     if not parts:
-        raise Fault(f"`{shown(word)}` is no file, no channel, and no range as 1-13 or 36-64/4")
+        raise Fault(Code.NO_CHANNELS, word=shown(word))
     first = int(parts[1])
     last = int(parts[2] or first)
     step = int(parts[3] or 1)
     numbers = range(first, last + 1, step) if step else range(0)
     if not numbers or len(numbers) > MAX_CHANNEL or numbers[-1] != last:
-        raise Fault(
-            f"`{word}` names no channel, or more than {MAX_CHANNEL}, or its last one isn't reached"
-        )
+        raise Fault(Code.NO_RANGE, word=word, most=MAX_CHANNEL)
     return numbers
 
 
@@ -112,7 +111,7 @@ def rows_of_run(text: str, name: str) -> list[PlanRow]:
         if parts:
             found.append((at, int(parts[1]), int(parts[2])))
         elif line:
-            raise wrong_line(name, at, f"no node with a channel: `{shown(line)}`")
+            raise Fault(Code.NO_NODE_WITH_CHANNEL, InText(name, at), row=shown(line))
     return found
 
 
@@ -128,14 +127,14 @@ def numbers_for(rows: list[PlanRow], table: list[int] | None, given: Namespace) 
         found = {number: channel for channel, number in found.items()}
     for line, _, number in rows:
         if number not in found:
-            what = " isn't one of the table" if given.back else too_many(rows, table)
-            raise wrong_line("the plan", line, f"channel {number}{what}")
+            place = InText("the plan", line)
+            if given.back:
+                raise Fault(Code.CHANNEL_OUTSIDE_TABLE, place, number=number)
+            most = max(channel for _, _, channel in rows)
+            raise Fault(
+                Code.CHANNEL_ABOVE_TABLE, place, number=number, table=len(table), channels=most
+            )
     return found
-
-
-def too_many(rows: list[PlanRow], table: list[int]) -> str:
-    most = max(channel for _, _, channel in rows)
-    return f", and the table has {len(table)}: it takes {most} channels"
 
 
 def command_line() -> ArgumentParser:
@@ -181,7 +180,7 @@ def main(words: list[str]) -> int:
         table = channels_asked(given, given.table, "channels")
         given.stated.check_found()
     except Unsaid as why:
-        raise Fault(commands_for(why, ["channels"], words)) from None
+        raise commands_for(why, ["channels"], words) from None
     text = text_at("-")
     if given.run:
         rows = rows_of_run(text, "the run")

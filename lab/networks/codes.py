@@ -185,20 +185,23 @@ def code_of(words: str) -> Told | None:
     found = WRITTEN.fullmatch(words)
     if found is None:
         return None
+    at = f"{found[2]} {' and '.join(found[3].split())}" if found[2] else ""
+    return told_of(found[1], at, found[4] or "")
+
+
+def told_of(code: str, at: str = "", more: str = "") -> Told | None:
+    """What is told of a code, of the fault at a line, a vertex or two; None if there is no such code.
+
+    >>> told_of("C3", "vertex 5").what
+    'vertex 5 has a second line in the plan'
+    """
     for of, codes in CODES.items():
         for names, (what, do) in codes.items():
-            if found[1] in names.split():
+            if code in names.split():
                 name, *numbers = names.split()
                 number = f" ({', '.join(numbers)})" if numbers else ""
-                at = found[2] and f"{found[2]} {' and '.join(found[3].split())}"
-                return Told(
-                    name,
-                    number,
-                    of,
-                    re.sub("{(.*?)}", lambda to: at or to[1], what),
-                    do,
-                    found[4] or "",
-                )
+                meaning = re.sub("{(.*?)}", lambda to: at or to[1], what)
+                return Told(name, number, of, meaning, do, more)
     return None
 
 

@@ -10,7 +10,8 @@ from collections.abc import Mapping
 from dataclasses import dataclass, field
 from xml.parsers import expat
 
-from lab.faults import Fault, wrong_line
+from lab.fault_codes import Code
+from lab.faults import Fault, InText
 from lab.networks.fields import shown
 from lab.networks.listing import Where
 
@@ -40,25 +41,25 @@ class Declared:
         if kind == "graph":
             self.graphs += 1
             if self.graphs > 1:
-                raise self.wrong(where, "a second graph, or one in a node: one graph is read")
+                raise self.fault(where, Code.SECOND_GRAPH)
         elif kind == "node":
             if has.get("id") in self.nodes:
-                raise self.wrong(where, f"a second node of the id {shown(str(has['id']))}")
+                raise self.fault(where, Code.SECOND_NODE_OF_ID, name=shown(str(has["id"])))
             self.nodes[has.get("id", where)] = where
         elif kind == "edge":
             self.edges.append((where, has.get("source"), has.get("target")))
         elif "source" in has and "target" in has:
-            raise self.wrong(where, f"`{kind}` joins nodes and isn't an edge")
+            raise self.fault(where, Code.JOINS_BUT_NO_EDGE, kind=kind)
 
-    def wrong(self, where: Where, what: str) -> Fault:
-        return wrong_line(self.path, where, what)
+    def fault(self, where: Where, code: Code, **subject: object) -> Fault:
+        return Fault(code, InText(self.path, where), **subject)
 
     def checked(self) -> "Declared":
         """The same, if each end of an edge is the id of a node, which may come after it."""
         for where, *ends in self.edges:
             for end in ends:
                 if end not in self.nodes:
-                    raise self.wrong(where, f"{shown(str(end))} isn't the id of a node")
+                    raise self.fault(where, Code.NO_NODE_OF_ID, name=shown(str(end)))
         return self
 
 
@@ -74,7 +75,7 @@ def in_xml(data: bytes, path: str) -> Declared:
     for found in TAG.finditer(data):
         if found.end() - found.start() > LONGEST_TAG:
             line = data.count(b"\n", 0, found.start()) + 1
-            raise declared.wrong(line, f"a tag or a comment of more than {LONGEST_TAG >> 20} MiB")
+            raise declared.fault(line, Code.TAG_TOO_LONG, most=LONGEST_TAG >> 20)
     spaces: list[str] = []
     parser = expat.ParserCreate(namespace_separator=" ")
 
@@ -86,12 +87,10 @@ def in_xml(data: bytes, path: str) -> Declared:
 
     def begin_space(_prefix: str | None, uri: str | None) -> None:
         if len(uri or "") > LONGEST_SPACE:
-            what = f"a namespace of more than {LONGEST_SPACE:,} letters"
-            raise declared.wrong(parser.CurrentLineNumber, what)
+            raise declared.fault(parser.CurrentLineNumber, Code.SPACE_TOO_LONG, most=LONGEST_SPACE)
 
     def define(name: str, *_: object) -> None:
-        what = f"the text defines `{shown(name)}`: write what it stands for in its place"
-        raise declared.wrong(parser.CurrentLineNumber, what)
+        raise declared.fault(parser.CurrentLineNumber, Code.TEXT_DEFINED, name=shown(name))
 
     parser.StartElementHandler = begin
     parser.StartNamespaceDeclHandler = begin_space
@@ -99,9 +98,11 @@ def in_xml(data: bytes, path: str) -> Declared:
     try:
         parser.Parse(data, True)
     except expat.ExpatError as why:
-        raise wrong_line(path, why.lineno, f"no XML: {expat.ErrorString(why.code)}") from None
+        raise Fault(
+            Code.NO_XML, InText(path, why.lineno), why=expat.ErrorString(why.code)
+        ) from None
     except (ValueError, LookupError) as why:
-        raise Fault(f"{path}: no XML: {why}") from None
+        raise Fault(Code.NO_XML, InText(path), why=why) from None
     return declared.checked()
 
 
@@ -111,18 +112,18 @@ def loaded(data: bytes, path: str) -> dict[str, object]:
     def once(pairs: list[tuple[str, object]]) -> dict[str, object]:
         found = dict(pairs)
         if len(found) < len(pairs):
-            raise Fault(f"{path}: an object has a key twice: {shown(', '.join(found))}")
+            raise Fault(Code.KEY_TWICE, InText(path), keys=shown(", ".join(found)))
         return found
 
     def number(digits: str) -> int:
         if len(digits) > MOST_DIGITS:
-            raise Fault(f"{path}: no JSON: a number of more than {MOST_DIGITS:,} digits")
+            raise Fault(Code.JSON_NUMBER_TOO_LONG, InText(path), most=MOST_DIGITS)
         return int(digits)
 
     try:
         whole = json.loads(data, object_pairs_hook=once, parse_int=number)
     except json.JSONDecodeError as why:
-        raise wrong_line(path, why.lineno, f"no JSON: {why.msg}") from None
+        raise Fault(Code.NO_JSON, InText(path, why.lineno), why=why.msg) from None
     except RecursionError:
         return {}
     return whole if isinstance(whole, dict) else {}
@@ -139,8 +140,7 @@ def in_json(data: bytes, path: str) -> Declared:
     whole = loaded(data, path)
     lists = {key: value for key, value in whole.items() if isinstance(value, list)}
     if sorted(lists) not in (["links", "nodes"], ["edges", "nodes"]):
-        what = "a list `nodes`, a list `links` or `edges`, and no other"
-        raise Fault(f"{path}: no JSON of nodes and links, as networkx writes it: {what}")
+        raise Fault(Code.NO_JSON_OF_NODES, InText(path))
     declared = Declared(path)
     for key, items in lists.items():
         kind, wanted = ("node", ["id"]) if key == "nodes" else ("edge", ["source", "target"])
@@ -148,6 +148,6 @@ def in_json(data: bytes, path: str) -> Declared:
             where = f"{key}[{at}]"
             for own in wanted:
                 if not isinstance(item, dict) or type(item.get(own)) not in (str, int):
-                    raise declared.wrong(where, f"its `{own}` is no text and no whole number")
+                    raise declared.fault(where, Code.NO_TEXT_AND_NO_NUMBER, key=own)
             declared.declare(kind, where, item)
     return declared.checked()

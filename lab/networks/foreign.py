@@ -13,7 +13,8 @@ import warnings
 from collections.abc import Callable, Collection, Iterable
 from types import ModuleType
 
-from lab.faults import Fault, wrong_line
+from lab.fault_codes import Code
+from lab.faults import Fault, InText
 from lab.networks.cross_check import Declared, in_json, in_xml
 from lab.networks.fields import shown
 from lab.networks.gml import in_gml, with_multigraph
@@ -93,7 +94,7 @@ def read(data: bytes, name: str, form: str, stated: Stated) -> Listed:
     """What networkx reads, if it has all nodes and edges that the text declares."""
     nx = networkx()
     if nx is None:
-        raise Fault(f"{name}: {form} is read by networkx, which isn't installed ({PACKAGE})")
+        raise Fault(Code.NO_NETWORKX, InText(name), form=form, package=PACKAGE)
     reader, declares = READERS[form]
     # XML says its encoding itself, if nothing else is stated.
     if declares != in_xml or stated.encoding:
@@ -109,12 +110,19 @@ def read(data: bytes, name: str, form: str, stated: Stated) -> Listed:
         raise
     except Exception as why:
         said = one_line(str(why))[:MOST_SAID] or type(why).__name__
-        raise Fault(f"{name}: networkx can't read it as {form}: {said}") from None
+        raise Fault(Code.NETWORKX_REFUSES, InText(name), form=form, why=said) from None
     if declared:
-        there = f"{len(declared.nodes)} nodes and {len(declared.edges)} edges"
-        got = f"{graph.number_of_nodes()} nodes and {graph.number_of_edges()} edges"
+        there = len(declared.nodes), len(declared.edges)
+        got = graph.number_of_nodes(), graph.number_of_edges()
         if there != got:
-            raise Fault(f"{name}: the text has {there}, and networkx reads {got}")
+            raise Fault(
+                Code.NETWORKX_READS_OTHERS,
+                InText(name),
+                nodes=there[0],
+                edges=there[1],
+                nodes_read=got[0],
+                edges_read=got[1],
+            )
     found = listed(graph, form, declared or Declared(name))
     found.notes += [f"networkx warns: {one_line(str(one.message))[:MOST_SAID]}" for one in warned]
     return found
@@ -133,7 +141,9 @@ def listed(graph: Graph, form: str, declared: Declared) -> Listed:
         line = where.get(node, 1)
         own[node] = name_of(str(has[key] if key else node), declared.path, line)
         if own[node] in nodes:
-            raise wrong_line(declared.path, line, f"a second node is called {shown(own[node])}")
+            raise Fault(
+                Code.SECOND_NODE_OF_NAME, InText(declared.path, line), name=shown(own[node])
+            )
         nodes[own[node]] = line
     found.edges = [(nodes[own[v]], own[v], own[w]) for v, w, _ in graph.edges(data=True)]
     found.places = places_of({own[node]: has for node, has in rows.items()})

@@ -8,7 +8,8 @@ import shlex
 from collections.abc import Sequence
 from dataclasses import dataclass, field
 
-from lab.faults import Fault, wrong_line
+from lab.fault_codes import Code
+from lab.faults import Fault, InText
 
 # The forms, each with the ending of files that states it.
 ENDINGS = {
@@ -72,9 +73,9 @@ class Stated:
         """Refuses what is stated of columns that no table had."""
         for column, title in self.columns.items():
             if column not in self.found:
-                raise Fault(f"--columns: no table here has {title} as its column {column}")
+                raise Fault(Code.COLUMN_NOT_THERE, title=title, column=column)
         if not self.has_heading and not self.found:
-            raise Fault("--no-heading: no table is read here")
+            raise Fault(Code.NO_TABLE)
 
 
 class Unsaid(Fault):
@@ -85,12 +86,12 @@ class Unsaid(Fault):
 
     def __init__(
         self,
-        what: object,
+        what: Fault,
         choices: Sequence[tuple[list[str], str]],
         wanted: Sequence[str] = (),
         titles: Sequence[str] = (),
     ) -> None:
-        super().__init__(str(what))
+        super().__init__(what.code, what.place, **what.subject)
         self.choices = choices
         self.wanted = wanted
         self.titles = titles
@@ -112,17 +113,16 @@ def form_of(path: str, name: str, stated: Stated = Stated()) -> str:
         if ending in endings:
             return form
     if ending in (".xls", ".xlsx", ".ods"):
-        raise Fault(f"{name}: a spreadsheet isn't read: save its sheet as CSV")
+        raise Fault(Code.SPREADSHEET, InText(name))
     if ending not in OTHERS:
-        raise Unsaid(f"{name}: its ending doesn't say what it is", COMMON)
+        raise Unsaid(Fault(Code.FORM_UNSAID, InText(name)), COMMON)
     package, new_ending, words = OTHERS[ending]
     # A name that begins with a hyphen is no option if it begins with its folder.
     old = f"./{path}" if path.startswith("-") else path
     new = os.path.splitext(old)[0] + new_ending
     made = shlex.join({"OLD": old, "NEW": new}.get(word, word) for word in words)
     raise Fault(
-        f"{name}: it isn't read, but what this makes of it is (apt install {package}):\n"
-        f"  {made}\n  forestlab network read {shlex.quote(new)}"
+        Code.FORM_TO_CONVERT, InText(name), package=package, made=made, new=shlex.quote(new)
     )
 
 
@@ -138,7 +138,7 @@ def letters_of(data: bytes, name: str, stated: str | None) -> str:
     Raises `Fault` of what isn't in a stated encoding, and `Unsaid` of what isn't in UTF-8.
     """
     if data.startswith(COMPRESSED):
-        raise Fault(f"{name}: it is compressed: unpack it by gunzip")
+        raise Fault(Code.COMPRESSED, InText(name))
     encoding = stated or "utf-8"
     for mark, marked in BY_MARK.items():
         if data.startswith(mark):
@@ -149,10 +149,10 @@ def letters_of(data: bytes, name: str, stated: str | None) -> str:
         text.encode()
         return text
     except LookupError:
-        raise Fault(f"{name}: there is no encoding {encoding}") from None
+        raise Fault(Code.NO_ENCODING, InText(name), encoding=encoding) from None
     except UnicodeError as why:
         line = data.count(b"\n", 0, getattr(why, "start", 0)) + 1
-        what = wrong_line(name, line, f"it isn't in {encoding.upper()}")
+        what = Fault(Code.NOT_IN_ENCODING, InText(name, line), encoding=encoding.upper())
     raise what if stated else Unsaid(what, WINDOWS)
 
 
@@ -167,5 +167,5 @@ def decoded(data: bytes, name: str, stated: str | None) -> str:
     text = letters_of(data, name, stated).replace("\r\n", "\n").replace("\r", "\n")
     before, zero, _ = text.partition("\0")
     if zero:
-        raise wrong_line(name, before.count("\n") + 1, "a letter of value zero, so it is no text")
+        raise Fault(Code.ZERO_LETTER, InText(name, before.count("\n") + 1))
     return text

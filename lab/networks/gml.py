@@ -5,7 +5,8 @@ from collections.abc import Iterator
 from dataclasses import dataclass, field
 from typing import NamedTuple
 
-from lab.faults import Fault, wrong_line
+from lab.fault_codes import Code
+from lab.faults import Fault, InText
 from lab.networks.cross_check import Declared
 from lab.networks.fields import shown
 
@@ -42,10 +43,9 @@ def tokens_of(text: str, path: str) -> Iterator[Token]:
         kind = found.lastgroup
         end = found.end()
         if word == '"':
-            raise wrong_line(path, line, "a quotation mark without a second one")
+            raise Fault(Code.OPEN_QUOTATION, InText(path, line))
         if kind == "text" and text[end : end + 1] not in AFTER_TEXT:
-            what = "a quotation mark within a text, which GML writes as &quot;"
-            raise wrong_line(path, line, what)
+            raise Fault(Code.QUOTATION_IN_TEXT, InText(path, line))
         if kind != "between":
             yield Token(word, line, end)
         line += word.count("\n")
@@ -65,7 +65,7 @@ class Reader:
             self.close(token)
         elif not self.key:
             if token.word[0] in '["':
-                raise self.wrong(token, "no key")
+                raise self.fault(token, Code.NO_KEY_OF_GML)
             self.key = token.word
         elif token.word == "[":
             self.begin(token)
@@ -83,27 +83,29 @@ class Reader:
         """The value of a key."""
         top = self.lists[-1]
         if top.key == "node" and self.key in ("label", "name") and self.key in top.has:
-            raise self.declared.wrong(token.line, "a second name of one node")
+            raise self.declared.fault(token.line, Code.SECOND_NAME_OF_NODE)
         top.has[self.key] = token.word
         self.key = ""
 
     def close(self, token: Token) -> None:
         """A list ends, and what it has is known."""
         if self.key or len(self.lists) == 1:
-            raise self.wrong(token, "no value" if self.key else "no list to close")
+            code = Code.NO_VALUE_OF_GML if self.key else Code.NO_LIST_OF_GML
+            raise self.fault(token, code)
         done = self.lists.pop()
         if done.key != "graph":
             self.declared.declare(done.key, done.line, done.has)
 
-    def wrong(self, token: Token, what: str) -> Fault:
-        return self.declared.wrong(token.line, f"no GML: {what}: `{shown(token.word)}`")
+    def fault(self, token: Token, code: Code) -> Fault:
+        return self.declared.fault(token.line, code, word=shown(token.word))
 
     def end(self) -> Declared:
         """What the whole text declares."""
         if self.key or len(self.lists) > 1:
             last = self.lists[-1]
-            what = f"no GML: `{shown(self.key or last.key)}` has no end: is the text cut?"
-            raise self.declared.wrong(last.line, what)
+            raise self.declared.fault(
+                last.line, Code.GML_WITHOUT_END, word=shown(self.key or last.key)
+            )
         return self.declared.checked()
 
 

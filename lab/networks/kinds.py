@@ -7,6 +7,7 @@ from itertools import combinations, islice
 from math import cos, pi, prod, sin
 from typing import NamedTuple
 
+from lab.fault_codes import Code
 from lab.faults import Fault
 from lab.network import Edge, Network, Places
 from lab.networks.network_text import MAX_EDGES, MAX_NODES, checked
@@ -82,7 +83,7 @@ def tree(nodes: int, seed: str | int) -> Network:
 def disk(nodes: int, radius: float, seed: str | int) -> Network:
     """Places in a square of side 1000, and an edge if two are less than `radius` sides apart."""
     if not 0 < radius <= 2:
-        raise Fault(f"the radius is {radius}, and has to be above 0 and at most 2")
+        raise Fault(Code.RADIUS, radius=radius)
     source = random.Random(seed)
     free = set()
     places: dict[int, tuple[int, int]] = {}
@@ -106,12 +107,12 @@ def any_edges(
     """So many different edges, each set of them as likely as any other; or with the wishes of `alike_edges`."""
     pairs = nodes * (nodes - 1) // 2
     if not 0 <= edges <= min(pairs, MAX_EDGES):
-        raise Fault(f"EDGES is {edges}, and {nodes} nodes have 0 to {min(pairs, MAX_EDGES)}")
+        raise Fault(Code.EDGES_OF_NODES, edges=edges, nodes=nodes, most=min(pairs, MAX_EDGES))
     source = random.Random(seed)
     if connected or (neighbours, forests) != (None, None):
         found = alike_edges(source, nodes, edges, connected, neighbours, forests)
         if found is None:
-            raise Fault("no network with these wishes was found: change their numbers")
+            raise Fault(Code.NO_NETWORK_WITH_WISHES)
         return made(nodes, found)
     chosen: set[Edge] = set()
     while len(chosen) < min(edges, pairs - edges):
@@ -137,11 +138,9 @@ class NetworkKind(NamedTuple):
         sizes = {name: chosen[name] for name in self.sizes if name != "edges"}
         for name, size in sizes.items():
             if size < self.least:
-                raise Fault(f"{name.upper()} is {size}, and has to be at least {self.least}")
+                raise Fault(Code.SIZE_BELOW_LEAST, name=name.upper(), size=size, least=self.least)
         if prod(sizes.values()) > MAX_NODES:
-            raise Fault(
-                f"that would be {prod(sizes.values())} nodes, and a network has at most {MAX_NODES}"
-            )
+            raise Fault(Code.NODES_OF_KIND_ABOVE_LIMIT, nodes=prod(sizes.values()), most=MAX_NODES)
         return self.function(*words, **named)
 
     @property

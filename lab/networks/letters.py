@@ -4,11 +4,11 @@ import re
 from math import isqrt
 from types import ModuleType
 
-from lab.faults import wrong_line
+from lab.fault_codes import Code
+from lab.faults import Fault, InText
 from lab.networks.fields import shown
 from lab.networks.network_text import MAX_EDGES, MAX_NODES
 from lab.networks.networkx_graph import Graph
-from lab.words import counted
 
 FIRST, LAST = b"?~"
 # What may stand before the letters of a form: the name of the form, and the mark of sparse6.
@@ -30,11 +30,15 @@ def in_graph6(data: bytes, path: str) -> None:
     pairs = nodes * (nodes - 1) // 2
     wanted = (pairs + 5) // 6
     if len(letters) != wanted:
-        take = f"the bits of {counted(nodes, 'node')} take {counted(wanted, 'letter')}"
-        what = f"{take}, and here are {len(letters):,}"
-        raise wrong_line(path, 1, f"no graph6: {what}")
+        raise Fault(
+            Code.OTHER_NUMBER_OF_LETTERS,
+            InText(path, 1),
+            nodes=nodes,
+            wanted=wanted,
+            letters=len(letters),
+        )
     if edges_in(letters) > MAX_EDGES:
-        raise wrong_line(path, 1, f"more than {MAX_EDGES} edges")
+        raise Fault(Code.EDGES_ABOVE_LIMIT, InText(path, 1), most=MAX_EDGES)
 
 
 def in_sparse6(data: bytes, path: str) -> None:
@@ -48,31 +52,36 @@ def in_sparse6(data: bytes, path: str) -> None:
     """
     _, letters = declared("sparse6", data, path)
     if len(letters) > LONGEST_SPARSE:
-        raise wrong_line(path, 1, f"more than {MAX_EDGES} edges")
+        raise Fault(Code.EDGES_ABOVE_LIMIT, InText(path, 1), most=MAX_EDGES)
 
 
 def declared(form: str, data: bytes, path: str) -> tuple[int, bytes]:
     """How many nodes the one line of a text declares, and the letters after that number."""
     line, *others = data.strip().split(b"\n")
     if others:
-        raise wrong_line(path, 2, "a second graph: a file of one graph is read")
+        raise Fault(Code.SECOND_GRAPH_OF_FILE, InText(path, 2))
     head = HEADS[form].match(line)
     letters = line[head.end() :] if head else b""
     if not letters:
-        raise wrong_line(path, 1, f"no {form}: `{shown(line[:41].decode('utf-8', 'replace'))}`")
+        raise Fault(
+            Code.NO_LETTERS_OF_FORM,
+            InText(path, 1),
+            form=form,
+            row=shown(line[:41].decode("utf-8", "replace")),
+        )
     other = OTHER.search(letters)
     if other:
         letter = shown(letters[other.start() :].decode("utf-8", "replace")[0])
-        raise wrong_line(path, 1, f"no {form}: `{letter}` isn't one of the letters from ? to ~")
+        raise Fault(Code.NO_LETTER_OF_FORM, InText(path, 1), form=form, letter=letter)
     # Up to 62 nodes are one letter; more are three after a `~`, or six after two, and so many no network has.
     begin, end = (0, 1) if letters[0] < LAST else (1, 4)
     nodes = 0
     for six in letters[begin:end]:
         nodes = nodes << 6 | six - FIRST
     if nodes > MAX_NODES:
-        raise wrong_line(path, 1, f"more than {MAX_NODES} nodes")
+        raise Fault(Code.NODES_OF_LINE_ABOVE_LIMIT, InText(path, 1), most=MAX_NODES)
     if len(letters) < end:
-        raise wrong_line(path, 1, f"no {form}: its number of nodes is cut")
+        raise Fault(Code.NUMBER_OF_NODES_CUT, InText(path, 1), form=form)
     return nodes, letters[end:]
 
 

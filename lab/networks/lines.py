@@ -2,13 +2,13 @@
 before it."""
 import re
 
-from lab.faults import Fault, wrong_line
+from lab.fault_codes import Code
+from lab.faults import Fault, InText
 from lab.networks.fields import shown
 from lab.networks.listing import Listed, Where, name_of
 from lab.networks.table import NUMBER, TITLES
 from lab.words import counted
 
-TABLE = "a table is read --as pairs"
 NO_NAME = re.compile('[,;"]|^#')
 COMMENT = re.compile("#( .*)?")
 BETWEEN = re.compile("[ \t]+")
@@ -21,7 +21,7 @@ def rows_in(text: str, name: str) -> tuple[list[tuple[int, str]], list[str]]:
     rows = [(line, row.strip(" \t")) for line, row in enumerate(text.split("\n"), 1)]
     found = [(line, row) for line, row in rows if row and not COMMENT.fullmatch(row)]
     if not found:
-        raise Fault(f"{name}: it has no row")
+        raise Fault(Code.NO_ROW, InText(name))
     comments = sum(bool(COMMENT.fullmatch(row)) for _, row in rows)
     said = counted(comments, "line that begins", "lines that begin")
     return found, [f"{said} with # left out"] if comments else []
@@ -30,7 +30,7 @@ def rows_in(text: str, name: str) -> tuple[list[tuple[int, str]], list[str]]:
 def node_of(word: str, name: str, line: int) -> str:
     """A node of a line. Its name has no mark of a table, and doesn't begin as a comment."""
     if NO_NAME.search(word):
-        raise wrong_line(name, line, f"no name of a node: `{shown(word)}`; {TABLE}")
+        raise Fault(Code.NO_NAME_IN_LIST, InText(name, line), word=shown(word))
     return name_of(word, name, line)
 
 
@@ -56,15 +56,14 @@ def edges(text: str, name: str) -> Listed:
     for line, row in rows:
         parts = EDGE.fullmatch(row)
         if not parts:
-            what = "no two nodes, maybe with a number or {data}"
-            raise wrong_line(name, line, f"{what}: `{shown(row)}`")
+            raise Fault(Code.NO_TWO_NODES, InText(name, line), row=shown(row))
         one, other, more = parts.groups()
         tails.add(tail_of(more))
         if len(tails) > 1:
-            raise wrong_line(name, line, f"not as many words as in the rows before: `{shown(row)}`")
+            raise Fault(Code.OTHER_NUMBER_OF_WORDS, InText(name, line), row=shown(row))
         is_heading = one.casefold() in TITLES["source"] and other.casefold() in TITLES["target"]
         if is_heading and not found.edges:
-            raise wrong_line(name, line, f"it is a heading, and lines of nodes have none; {TABLE}")
+            raise Fault(Code.HEADING_IN_LIST, InText(name, line))
         found.edges.append((line, node_of(one, name, line), node_of(other, name, line)))
     if tails != {"nothing"}:
         found.notes.append("numbers or data after the nodes aren't read")
@@ -87,9 +86,9 @@ def adjacency(text: str, name: str) -> Listed:
         first, *others = BETWEEN.split(row)
         node = node_of(first.removesuffix(":"), name, line)
         if nodes.setdefault(node, line) != line:
-            raise wrong_line(name, line, f"a second line of {shown(node)}")
+            raise Fault(Code.SECOND_LINE_OF_NODE, InText(name, line), node=shown(node))
         found.edges += [(line, node, node_of(other, name, line)) for other in others]
     for end, where in found.ends():
         if end not in nodes:
-            raise wrong_line(name, where, f"{shown(end)} has no line of its own: is the text cut?")
+            raise Fault(Code.NODE_WITHOUT_LINE, InText(name, where), node=shown(end))
     return found

@@ -6,7 +6,8 @@ from collections.abc import Collection
 from dataclasses import dataclass, field
 from functools import lru_cache
 
-from lab.faults import wrong_line
+from lab.fault_codes import Code
+from lab.faults import Fault, InText
 from lab.networks.fields import shown
 
 LONGEST_NAME = 200
@@ -69,7 +70,7 @@ def name_of(word: str, path: str, where: Where) -> str:
     """
     name = composed(word)
     if name is None:
-        raise wrong_line(path, where, f"no name of a node: `{shown(word)}`")
+        raise Fault(Code.NO_NAME, InText(path, where), word=shown(word))
     return name
 
 
@@ -82,16 +83,18 @@ def not_read(what: str, names: Collection[str]) -> list[str]:
     return [f"{what} that aren't read: {', '.join(map(shown, names))}"] if names else []
 
 
-def check_known(name: str, known: Collection[str], path: str, where: Where, what: str) -> None:
+def check_known(
+    name: str, known: Collection[str], path: str, where: Where, code: Code, **subject: object
+) -> None:
     """Refuses a node that isn't known.
 
-    >>> check_known("Ulmm", ["Ulm", "Hof"], "pairs.csv", 3, "isn't a site")
+    >>> check_known("Ulmm", ["Ulm", "Hof"], "pairs.csv", 3, Code.NO_SITE)
     Traceback (most recent call last):
-    lab.faults.Fault: pairs.csv line 3: Ulmm isn't a site, is it Ulm?
+    lab.faults.Fault: pairs.csv line 3: Ulmm is no site, is it Ulm?
 
     Raises `Fault`, which names the known one that is written most alike.
     """
     if name not in known:
         alike = difflib.get_close_matches(name, known, n=1, cutoff=0.7)
-        asked = f", is it {shown(alike[0])}?" if alike else ""
-        raise wrong_line(path, where, f"{shown(name)} {what}{asked}")
+        meant = shown(alike[0]) if alike else None
+        raise Fault(code, InText(path, where), name=shown(name), alike=meant, **subject)

@@ -5,6 +5,7 @@ from argparse import Namespace
 from collections.abc import Iterable
 import sys
 
+from lab.fault_codes import Code
 from lab.faults import Fault
 from lab.network import Network
 from lab.networks import tables
@@ -120,7 +121,7 @@ def file_listed(given: Namespace, name: str) -> Listed:
     except Fault as why:
         if given.file != "-" or given.stated.form:
             raise
-        raise Fault(f"{why}; standard input is read as DIMACS, unless --as says its form") from None
+        raise Fault(Code.NOT_DIMACS, why=why) from None
 
 
 def was_told(given: Namespace) -> str:
@@ -145,12 +146,12 @@ def was_numbered(given: Namespace) -> str:
 
 def was_named(given: Namespace) -> str:
     if given.file == "-":
-        raise Fault("names: standard input has the plan, so the network has to be a file")
+        raise Fault(Code.NETWORK_FROM_STANDARD_INPUT)
     network = network_at(given.file)
     name = "the plan"
     rows = rows_of(text_at("-"), name, 0, 10**MOST_DIGITS)
     if [v for _, v, _ in rows] != list(network.vertices):
-        raise Fault(f"{name} isn't of this network, whose vertices have a line each, in order")
+        raise Fault(Code.PLAN_OF_OTHER_NETWORK, name=name)
     return as_text(f"{network.names.get(v, v)} {channel}" for _, v, channel in rows)
 
 
@@ -162,6 +163,6 @@ def main(words: list[str]) -> int:
     try:
         text = doers[given.command](given) if given.command in doers else made(given)
     except Unsaid as why:
-        raise Fault(commands_for(why, ["network", words[0]], words[1:])) from None
+        raise commands_for(why, ["network", words[0]], words[1:]) from None
     write(given, text)
     return 0

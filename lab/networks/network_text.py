@@ -5,7 +5,8 @@ Comment lines may give places (`c at V X Y`) and names (`c name V NAME`); to the
 other."""
 import re
 
-from lab.faults import Fault, wrong_line
+from lab.fault_codes import Code
+from lab.faults import Fault, InText
 from lab.network import Edge, Network
 from lab.networks.fields import fields_of, shown, whole
 
@@ -37,9 +38,9 @@ NAME = re.compile("[ \t]*c[ \t]+name[ \t]+([0-9]+)[ \t]+([^ \t].*)")
 # The words of a line after its first field, how many of them are vertices, what it says, and the fault of one that
 # comes before the `p` line.
 LINES = {
-    "e": ("V W", 2, "an edge", "F3"),
-    "i": ("V NUMBER", 1, "an identifier", "F10"),
-    "b": ("V CHANNEL", 1, "a barred channel", "F10"),
+    "e": ("V W", 2, "an edge", Code.EDGE_BEFORE_PROBLEM_LINE),
+    "i": ("V NUMBER", 1, "an identifier", Code.BEFORE_PROBLEM_LINE),
+    "b": ("V CHANNEL", 1, "a barred channel", Code.BEFORE_PROBLEM_LINE),
 }
 
 
@@ -65,8 +66,8 @@ class Reading:
         self.identifiers: dict[int, int] = {}
         self.bars: dict[int, set[int]] = {}
 
-    def wrong(self, what: str, code: str) -> Fault:
-        return wrong_line(self.path, self.line, f"{what} ({code})")
+    def fault(self, code: Code, **subject: object) -> Fault:
+        return Fault(code, InText(self.path, self.line), **subject)
 
     def read(self, raw: str) -> None:
         """The next line, or its fault."""
@@ -81,7 +82,7 @@ class Reading:
             one, other = self.numbers(fields)
             {"e": self.edge, "i": self.identifier, "b": self.bar}[word](one, other)
         elif word not in SKIPPED:
-            raise self.wrong(f"`{shown(word)}` begins no line of a network", "F8")
+            raise self.fault(Code.NO_LINE_OF_A_NETWORK, word=shown(word))
 
     def comment(self, raw: str) -> None:
         """Keeps a place or a name of a vertex."""
@@ -95,58 +96,56 @@ class Reading:
     def problem(self, fields: list[str]) -> None:
         """NODES and EDGES of the `p` line."""
         if self.nodes is not None:
-            raise self.wrong("a second `p` line", "F2")
+            raise self.fault(Code.SECOND_PROBLEM_LINE)
         pair = two_numbers(fields[2:4])
         if pair is None or fields[1] not in FORMATS:
-            raise self.wrong(f"no `p edge NODES EDGES`: `{shown(' '.join(fields))}`", "F4")
+            raise self.fault(Code.NO_PROBLEM_LINE, row=shown(" ".join(fields)))
         if pair[0] > MAX_NODES:
-            raise self.wrong(f"more than {MAX_NODES} nodes", "F7")
+            raise self.fault(Code.NODES_ABOVE_LIMIT, most=MAX_NODES)
         self.nodes, self.promised = pair
 
     def numbers(self, fields: list[str]) -> tuple[int, int]:
         """The two numbers of a line; a vertex that isn't there is named with the digits that the text has."""
         words, count, what, code = LINES[fields[0]]
         if self.nodes is None:
-            raise self.wrong(f"{what} before the line `p edge NODES EDGES`", code)
+            raise self.fault(code, what=what)
         pair = two_numbers(fields[1:3])
         if pair is None:
-            raise self.wrong(f"no `{fields[0]} {words}`: `{shown(' '.join(fields))}`", "F4")
+            raise self.fault(
+                Code.NO_SUCH_LINE, word=fields[0], form=words, row=shown(" ".join(fields))
+            )
         for field, v in zip(fields[1 : 1 + count], pair):
             if not 1 <= v <= self.nodes:
-                raise self.wrong(
-                    f"there is no vertex {shown(field)}: there are {self.nodes}, from 1 on", "F5"
-                )
+                raise self.fault(Code.NO_VERTEX, vertex=shown(field), nodes=self.nodes)
         if fields[0] == "b" and not 1 <= pair[1] <= MAX_CHANNEL:
-            raise self.wrong(
-                f"channel {shown(fields[2])} can't be barred, only 1 to {MAX_CHANNEL} can", "F13"
-            )
+            raise self.fault(Code.NO_CHANNEL_TO_BAR, channel=shown(fields[2]), most=MAX_CHANNEL)
         return pair
 
     def edge(self, v: int, w: int) -> None:
         if v == w:
-            raise self.wrong(f"an edge from vertex {v} to itself", "F6")
+            raise self.fault(Code.LOOP, vertex=v)
         self.edges.add((min(v, w), max(v, w)))
         self.edge_lines += 1
         if len(self.edges) > MAX_EDGES:
-            raise self.wrong(f"more than {MAX_EDGES} different edges", "F7")
+            raise self.fault(Code.SECOND_EDGE_LIMIT, most=MAX_EDGES)
 
     def identifier(self, v: int, number: int) -> None:
         if number >= IDENTIFIERS:
-            raise self.wrong("the identifier is 2^128 or more", "F11")
+            raise self.fault(Code.IDENTIFIER_ABOVE_LIMIT)
         if v in self.identifiers:
-            raise self.wrong(f"a second identifier of vertex {v}", "F12")
+            raise self.fault(Code.SECOND_IDENTIFIER, vertex=v)
         self.identifiers[v] = number
 
     def bar(self, v: int, channel: int) -> None:
         barred = self.bars.setdefault(v, set())
         barred.add(channel)
         if len(barred) > MAX_BARS:
-            raise self.wrong(f"more than {MAX_BARS} channels are barred at vertex {v}", "F14")
+            raise self.fault(Code.BARS_ABOVE_LIMIT, most=MAX_BARS, vertex=v)
 
     def count(self) -> int:
         """How many nodes there are, by the `p` line."""
         if self.nodes is None:
-            raise Fault(f"{self.path}: there is no line `p edge NODES EDGES` (F1)")
+            raise Fault(Code.PROBLEM_LINE_MISSING, InText(self.path))
         return self.nodes
 
     def network(self) -> Network:
@@ -189,22 +188,26 @@ def checked(network: Network, path: str) -> Network:
     Raises `Fault` of too many nodes, edges or neighbours, and of an identifier that two vertices have.
     """
     if network.nodes > MAX_NODES:
-        raise Fault(f"{path}: {network.nodes} nodes, and a network has at most {MAX_NODES}")
+        raise Fault(Code.TOO_MANY_NODES, InText(path), nodes=network.nodes, most=MAX_NODES)
     if len(network.edges) > MAX_EDGES:
-        raise Fault(f"{path}: more than {MAX_EDGES} edges, the most that a network has")
+        raise Fault(Code.TOO_MANY_EDGES, InText(path), most=MAX_EDGES)
     for v in network.vertices:
         if len(network.neighbours[v]) > MAX_DEGREE:
-            name = f" ({shown(network.names[v])})" if v in network.names else ""
+            name = network.names.get(v)
             raise Fault(
-                f"{path}: vertex {v}{name} has {len(network.neighbours[v])} neighbours, more than {MAX_DEGREE} "
-                "(N1)"
+                Code.TOO_MANY_NEIGHBOURS,
+                InText(path),
+                vertex=v,
+                name=name and shown(name),
+                neighbours=len(network.neighbours[v]),
+                most=MAX_DEGREE,
             )
     alike: dict[int, list[int]] = {}
     for v, number in network.identifiers.items():
         alike.setdefault(number, []).append(v)
     same = min((found for found in alike.values() if len(found) > 1), default=None)
     if same:
-        raise Fault(f"{path}: vertices {same[0]} and {same[1]} have one identifier (N2)")
+        raise Fault(Code.ONE_IDENTIFIER_TWICE, InText(path), vertex=same[0], other=same[1])
     return network
 
 

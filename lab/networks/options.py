@@ -3,8 +3,11 @@ import argparse
 import csv
 import shlex
 
+from lab.fault_codes import Code
+from lab.faults import Fault
 from lab.networks.forms import ENDINGS, Stated, Unsaid
 from lab.networks.table import TITLES
+from lab.words import as_text
 
 
 def titles_of(words: str) -> list[tuple[str, str]]:
@@ -63,18 +66,20 @@ def stated_by(given: argparse.Namespace) -> Stated:
     return Stated(given.form, columns, not given.no_heading, given.encoding)
 
 
-def commands_for(why: Unsaid, begin: list[str], words: list[str], after: str = "") -> str:
-    """What isn't stated, and the commands to choose from, ready to be copied.
+def commands_for(why: Unsaid, begin: list[str], words: list[str], after: str = "") -> Fault:
+    """The fault of what isn't stated, with the commands to choose from, ready to be copied.
 
-    >>> why = Unsaid("net.txt: its ending doesn't say what it is", [(["--as", "pairs"], "a table")])
+    >>> from lab.faults import InText
+    >>> fault = Fault(Code.FORM_UNSAID, InText("net.txt"))
+    >>> why = Unsaid(fault, [(["--as", "pairs"], "a table")])
     >>> print(commands_for(why, ["network", "read"], ["net.txt"]))
     net.txt: its ending doesn't say what it is; say what it is:
       a table:
         forestlab network read --as pairs net.txt
     """
     if not why.choices:
-        return str(why)
-    lines = [f"{why}; say what it is:"]
+        return why
+    lines = []
     for stated, means in why.choices:
         lines += [f"  {means}:", f"    {shlex.join(['forestlab', *begin, *stated, *words])}{after}"]
-    return "\n".join(lines)
+    return Fault(Code.UNSAID, what=why, commands=as_text(["", *lines]).rstrip("\n"))

@@ -1,7 +1,8 @@
 """The plan of a text, beside its network."""
 from collections.abc import Iterator
 
-from lab.faults import Fault, wrong_line
+from lab.fault_codes import Code
+from lab.faults import Fault, InText
 from lab.network import Edge, Network
 from lab.networks.fields import fields_of, shown, whole
 
@@ -21,13 +22,12 @@ def rows_of(text: str, name: str, least: int = 1, below: int = 2**32) -> list[Pl
     rows = fields_by_line(text)
     line, fields = next(rows, (1, []))
     if fields != ["plan"]:
-        raise wrong_line(name, line, "no line `plan` (C6)")
+        raise Fault(Code.NO_PLAN, InText(name, line))
     found = []
     for line, fields in rows:
         numbers = [number for number in map(whole, fields) if number is not None and number < below]
         if not len(numbers) == len(fields) == 2 or numbers[1] < least:
-            what = f"no vertex and its channel: `{shown(' '.join(fields))}` (C6)"
-            raise wrong_line(name, line, what)
+            raise Fault(Code.NO_LINE_OF_A_PLAN, InText(name, line), row=shown(" ".join(fields)))
         found.append((line, numbers[0], numbers[1]))
     return found
 
@@ -51,24 +51,25 @@ def read_plan(text: str, name: str, network: Network) -> dict[int, int]:
     plan = {}
     for line, vertex, channel in rows_of(text, name):
         if vertex not in network.vertices:
-            raise wrong_line(name, line, f"vertex {vertex} is not one of 1 to {network.nodes} (C2)")
+            raise Fault(
+                Code.PLAN_OF_OTHER_VERTEX, InText(name, line), vertex=vertex, nodes=network.nodes
+            )
         if vertex in plan:
-            raise wrong_line(name, line, f"vertex {vertex} has a second line (C3)")
+            raise Fault(Code.SECOND_LINE_OF_VERTEX, InText(name, line), vertex=vertex)
         if channel > network.channels:
-            raise wrong_line(
-                name,
-                line,
-                f"vertex {vertex} has channel {channel}, which is above {network.channels} "
-                "(C5); if it is a real channel number: forestlab channels --back TABLE",
+            raise Fault(
+                Code.CHANNEL_ABOVE_LIMIT,
+                InText(name, line),
+                vertex=vertex,
+                channel=channel,
+                channels=network.channels,
             )
         if channel in network.bars.get(vertex, ()):
-            raise wrong_line(
-                name, line, f"vertex {vertex} has channel {channel}, which is barred at it (C8)"
-            )
+            raise Fault(Code.CHANNEL_BARRED, InText(name, line), vertex=vertex, channel=channel)
         plan[vertex] = channel
     for vertex in network.vertices:
         if vertex not in plan:
-            raise Fault(f"{name}: vertex {vertex} has no line (C1)")
+            raise Fault(Code.VERTEX_WITHOUT_LINE, InText(name), vertex=vertex)
     return plan
 
 

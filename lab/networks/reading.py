@@ -1,5 +1,6 @@
 """`forestlab network read`: a text of another form as a network, and what of it isn't read."""
-from lab.faults import Fault
+from lab.fault_codes import Code
+from lab.faults import Fault, InText
 from lab.network import Edge, Network
 from lab.networks import foreign, lines, tables
 from lab.networks.fields import whole
@@ -37,7 +38,7 @@ def listed_in(network: Network, path: str) -> Listed:
     vertices = {own: v for v, own in names.items()}
     for v, own in names.items():
         if vertices[own] != v:
-            raise Fault(f"{path}: vertices {v} and {vertices[own]} are both called {own}")
+            raise Fault(Code.ONE_NAME_TWICE, InText(path), vertex=v, other=vertices[own], name=own)
     return Listed(
         "dimacs",
         edges=[(f"vertex {v}", names[v], names[w]) for v, w in network.edges],

@@ -2,7 +2,8 @@
 import os
 import re
 
-from lab.faults import Fault
+from lab.fault_codes import Code
+from lab.faults import Fault, InText
 from lab.network import Network
 from lab.networks.kinds import KINDS
 from lab.networks.network_text import network_of
@@ -63,15 +64,13 @@ def network_bytes(name: str) -> bytes:
         kind, sizes = found
         return text_of(KINDS[kind].make(*sizes)).encode()
     if not MADE.fullmatch(name):
-        raise Fault(f"{text_name(name)}: No such file or directory")
+        raise Fault(Code.NO_FILE, InText(text_name(name)))
     made = [
         kind + ("N" if len(of.sizes) == 1 else "RxC")
         for kind, of in KINDS.items()
         if not of.is_by_chance
     ]
-    raise Fault(
-        f"{name}: there is no such file or example, and no network of this name is made, as {', '.join(made)} are"
-    )
+    raise Fault(Code.NO_FILE_AND_NO_NETWORK, InText(name), made=", ".join(made))
 
 
 def network_at(name: str) -> Network:

@@ -6,11 +6,12 @@ from collections import Counter
 from collections.abc import Iterator
 from itertools import islice
 
-from lab.faults import Fault, wrong_line
+from lab.fault_codes import Code
+from lab.faults import Fault, InText
 from lab.networks.fields import shown
 from lab.networks.listing import not_read
 from lab.networks.forms import Stated, Unsaid
-from lab.words import counted, in_words
+from lab.words import in_words
 
 # The standard titles of each column, in small letters. A column of places has its unit in its title.
 TITLES = {
@@ -47,7 +48,7 @@ def rows_of(text: str, name: str, mark: str) -> Iterator[Row]:
                 yield line, fields
             line = reader.line_num + 1
     except csv.Error as why:
-        raise wrong_line(name, line, f"no row of a table: {why}") from None
+        raise Fault(Code.NO_ROW_OF_A_TABLE, InText(name, line), why=why) from None
 
 
 def words_of(columns: dict[str, str]) -> list[str]:
@@ -100,11 +101,11 @@ class Table:
         self.rows = [self.row_of(line, fields) for line, fields in below]
         self.decimals = "." if mark == "," else ".,"
         if not self.rows:
-            raise self.wrong(self.line, "it has no row below its heading")
+            raise self.fault(self.line, Code.NO_ROW_BELOW_HEADING)
         return self
 
-    def wrong(self, line: int, what: str) -> Fault:
-        return wrong_line(self.name, line, what)
+    def fault(self, line: int, code: Code, **subject: object) -> Fault:
+        return Fault(code, InText(self.name, line), **subject)
 
     def begin(self, text: str) -> Begin:
         """The first row with the mark with which it has all wanted columns."""
@@ -113,17 +114,16 @@ class Table:
         if not fits:
             raise self.unsaid(*max(firsts, key=lambda first: len(first[1]))[:2])
         if len(fits) > 1:
-            what = "several marks may be between the fields: put a heading above"
-            raise self.wrong(fits[0][0], what)
+            raise self.fault(fits[0][0], Code.SEVERAL_MARKS)
         return fits[0]
 
     def first_rows(self, text: str) -> list[Begin]:
         """The first row with each mark that is in the first line, and with which it is a row."""
         first_line = text.lstrip("\n ").partition("\n")[0]
         if first_line.startswith("sep="):
-            raise self.wrong(1, f"`{shown(first_line)}` is for Excel alone: delete this line")
+            raise self.fault(1, Code.FOR_EXCEL, row=shown(first_line))
         found = []
-        fault = Fault(f"{self.name}: it has no row")
+        fault = Fault(Code.NO_ROW, InText(self.name))
         for mark in [mark for mark in MARKS if mark in first_line] or [","]:
             try:
                 for line, first in islice(rows_of(text, self.name, mark), 1):
@@ -143,7 +143,7 @@ class Table:
             return first
         small = {title.casefold() for title in first}
         if all(small & set(TITLES[column]) for column in self.wanted):
-            raise self.wrong(line, "it is a heading, and --no-heading says that there is none")
+            raise self.fault(line, Code.HEADING_IN_SPITE)
         return [str(at) for at in range(1, len(first) + 1)]
 
     def places_of(self, column: str, titles: list[str]) -> list[int]:
@@ -158,19 +158,19 @@ class Table:
         places = self.places_of(column, self.titles)
         if len(places) > 1:
             titles = in_words(shown(self.titles[at]) for at in places)
-            raise self.wrong(self.line, f"{titles} may each be the column {column}: rename one")
+            raise self.fault(self.line, Code.TWO_TITLES, titles=titles, column=column)
         return places[0] if places else None
 
     def unsaid(self, line: int, first: list[str]) -> Fault:
         """The refusal of a first row that doesn't have all wanted columns."""
         columns = in_words(self.named.get(column, column) for column in self.wanted)
-        kind = "heading" if self.has_heading else "row"
-        what = self.wrong(line, f"no {kind} with {columns}: `{shown(','.join(first))}`")
+        code = Code.NO_HEADING_WITH if self.has_heading else Code.NO_ROW_WITH
+        names = {"columns": columns, "row": shown(",".join(first))}
         titles = [title for title, count in Counter(first).items() if title and count == 1]
         if len(titles) < len(self.wanted) or set(self.wanted) & self.named.keys():
-            return what
+            return self.fault(line, code, **names)
         return Unsaid(
-            what,
+            Fault(code, InText(self.name, line), **names),
             [
                 choice_of(self.wanted, titles),
                 (["--no-heading"], f"it is a row, and begins with {columns}"),
@@ -183,10 +183,11 @@ class Table:
 
     def row_of(self, line: int, fields: list[str]) -> tuple[int, dict[str, str]]:
         if fields == self.titles and self.has_heading:
-            raise self.wrong(line, "the heading a second time")
+            raise self.fault(line, Code.HEADING_TWICE)
         if len(fields) != len(self.titles):
-            count = counted(len(fields), "field")
-            raise self.wrong(line, f"{count}, and the first row has {len(self.titles)}")
+            raise self.fault(
+                line, Code.OTHER_NUMBER_OF_FIELDS, fields=len(fields), wanted=len(self.titles)
+            )
         return line, {column: fields[at] for column, at in self.columns.items()}
 
     def unread(self) -> list[str]:
@@ -203,10 +204,10 @@ class Table:
     def number(self, line: int, field: str) -> float:
         """A number with a point, or with a comma if commas don't separate the fields."""
         if not NUMBER.fullmatch(field) or "," in field and "," not in self.decimals:
-            raise self.wrong(line, f"no number, or one with thousands: `{shown(field)}`")
+            raise self.fault(line, Code.NO_NUMBER, field=shown(field))
         number = float(field.replace(",", "."))
         if abs(number) >= FARTHEST:
-            raise self.wrong(line, f"no place on this earth: `{shown(field)}`")
+            raise self.fault(line, Code.NO_PLACE_ON_EARTH, field=shown(field))
         return number
 
 

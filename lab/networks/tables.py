@@ -1,7 +1,8 @@
 """Tables of pairs, of sites with places, of barred channels, and of the channels of a licence."""
 import re
 
-from lab.faults import Fault
+from lab.fault_codes import Code
+from lab.faults import Fault, InText
 from lab.networks.fields import shown, whole
 from lab.networks.listing import Listed, Where, check_known, name_of
 from lab.networks.network_text import IDENTIFIERS, MAX_BARS, MAX_CHANNEL, MAX_EDGES, MAX_NODES
@@ -49,7 +50,7 @@ def licence_of(text: str, name: str, stated: Stated) -> tuple[list[int], list[st
 def real_channel(table: Table, line: int, row: dict[str, str]) -> int:
     field = row["channel"]
     if not re.fullmatch(r"[0-9]{1,%d}" % MOST_DIGITS, field):
-        raise table.wrong(line, f"no channel: `{shown(field)}`")
+        raise table.fault(line, Code.NO_CHANNEL_IN_FIELD, field=shown(field))
     return int(field)
 
 
@@ -95,9 +96,9 @@ class Sites:
     def add(self, name: str, line: int, row: dict[str, str]) -> None:
         """A site: no name and no identifier comes twice."""
         if self.lines.setdefault(name, line) != line:
-            raise self.table.wrong(line, f"a second site {shown(name)}")
+            raise self.table.fault(line, Code.SECOND_SITE, name=shown(name))
         if len(self.lines) > MAX_NODES:
-            raise self.table.wrong(line, f"more than {MAX_NODES} sites")
+            raise self.table.fault(line, Code.TOO_MANY_SITES, most=MAX_NODES)
         if self.columns and any(row[column] for column in self.columns):
             self.places[name] = self.place_of(line, row, self.columns)
         field = row.get("identifier", "")
@@ -105,17 +106,15 @@ class Sites:
             return
         number = whole(field)
         if number is None or number >= IDENTIFIERS:
-            raise self.table.wrong(line, f"no identifier below 2^128: `{shown(field)}`")
+            raise self.table.fault(line, Code.NO_IDENTIFIER, field=shown(field))
         if self.owners.setdefault(number, name) != name:
-            raise self.table.wrong(line, f"a second site of the identifier {number}")
+            raise self.table.fault(line, Code.SECOND_SITE_OF_IDENTIFIER, number=number)
         self.identifiers[name] = number
 
     def place_of(self, line: int, row: dict[str, str], columns: tuple[str, str]) -> Place:
         x, y = (self.table.number(line, row[column]) * UNITS[columns] for column in columns)
         if self.is_globe and not (-90 <= x <= 90 and -180 <= y <= 360):
-            raise self.table.wrong(
-                line, "no latitude and longitude in degrees: are they exchanged?"
-            )
+            raise self.table.fault(line, Code.NO_DEGREES)
         return x, y
 
     @property
@@ -134,7 +133,7 @@ def with_sites(found: Listed, sites: Sites, path: str) -> None:
     table = sites.table.name
     named = found.ends() if found.nodes is None else list(found.nodes.items())
     for node, where in named:
-        check_known(node, sites.lines, path, where, f"isn't a site of {table}")
+        check_known(node, sites.lines, path, where, Code.NOT_A_SITE_OF, table=table)
     found.nodes = sites.lines
     found.identifiers |= sites.identifiers
     found.places |= sites.on_picture()
@@ -146,7 +145,7 @@ def join_near(found: Listed, sites: Sites, reach: float) -> None:
     """Joins the sites that are less than the reach apart."""
     table = sites.table
     if not sites.places:
-        raise table.wrong(table.line, "no site has a place, so --reach joins none")
+        raise table.fault(table.line, Code.NO_SITE_HAS_A_PLACE)
     names = list(sites.places)
     points = [
         on_ground(*place) if sites.is_globe else (*place, 0.0) for place in sites.places.values()
@@ -158,7 +157,7 @@ def join_near(found: Listed, sites: Sites, reach: float) -> None:
         if frozenset(ends) not in there:
             found.edges.append((sites.lines[names[at]], *ends))
         if len(found.edges) > before + MAX_EDGES:
-            raise Fault(f"{table.name}: more than {MAX_EDGES} edges within {reach:g} km")
+            raise Fault(Code.TOO_MANY_NEAR_EDGES, InText(table.name), most=MAX_EDGES, reach=reach)
     joined = counted(len(found.edges) - before, "pair")
     without = counted(len(sites.lines) - len(names), "site")
     found.notes.append(
@@ -179,16 +178,16 @@ def with_bars(
     outside = 0
     for line, row in table.rows:
         site = name_of(row["site"], name, line)
-        check_known(site, known, name, line, "is no site")
+        check_known(site, known, name, line, Code.NO_SITE)
         channel = real_channel(table, line, row)
         if channel in numbers:
             found.bars.setdefault(site, set()).add(numbers.index(channel) + 1)
         elif licence is None:
-            raise table.wrong(line, f"no channel from 1 to {MAX_CHANNEL}: `{channel}`")
+            raise table.fault(line, Code.NO_CHANNEL_WITHIN, most=MAX_CHANNEL, channel=channel)
         else:
             outside += 1
         if len(found.bars.get(site, ())) > MAX_BARS:
-            raise table.wrong(line, f"more than {MAX_BARS} channels are barred at {shown(site)}")
+            raise table.fault(line, Code.BARS_OF_SITE_ABOVE_LIMIT, most=MAX_BARS, site=shown(site))
     found.notes += [f"{name}: {note}" for note in table.notes()]
     if outside:
         found.notes.append(f"{counted(outside, 'bar')} of {name} of a channel outside the licence")

@@ -1,7 +1,8 @@
 """The bit lens: one node above its parent, digit by digit, over the four bit steps."""
 from lab.definitions.nodes import bit_step
 from lab.definitions.rounds import Rounds
-from lab.faults import Fault
+from lab.fault_codes import Code
+from lab.faults import Fault, InText
 from lab.pictures.marks import colour_square
 from lab.pictures.palette import INK, PAPER, digits
 from lab.pictures.svg import Svg
@@ -21,8 +22,9 @@ def child_asked(rounds: Rounds, forest: int, vertex: int | None) -> int:
     if vertex is None and children:
         return children[0]
     if vertex not in children:
-        whom = f"node {vertex}" if vertex else "any node"
-        raise Fault(f"{network.name}: forest {forest} gives no parent to {whom}")
+        if vertex:
+            raise Fault(Code.NO_PARENT_OF_NODE, InText(network.name), forest=forest, vertex=vertex)
+        raise Fault(Code.NO_PARENT, InText(network.name), forest=forest)
     return vertex
 
 

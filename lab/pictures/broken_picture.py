@@ -6,6 +6,7 @@ from typing import Protocol
 
 from lab.definitions.nodes import COLOURING
 from lab.definitions.program import Program
+from lab.fault_codes import Code
 from lab.faults import Fault, at_most
 from lab.network import Network
 from lab.pictures.map_picture import box_of, draw_map
@@ -78,7 +79,7 @@ def draw(network: Network | None, without: tuple[str, ...], program: Program = C
     rounds, where = looked_at(network, without, program)
     left_out = " and ".join(f"‘{rule}’" for rule in without)
     if rounds is None:
-        raise Fault(f"{where} without {','.join(without)}")
+        raise Fault(Code.GOES_RIGHT, where=where, without=",".join(without))
     picture = drawn_by(rounds, ruled(program, rounds.net, ()))
     width, (right, down) = max(picture.width, LEAST_WIDTH), picture.step
     said = [

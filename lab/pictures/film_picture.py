@@ -4,7 +4,8 @@ shows it as an image. A reader whose browser asks for less motion sees its end."
 from collections.abc import Iterator, Mapping
 
 from lab.definitions.rounds import FIRST_MERGE, Pulse, Rounds
-from lab.faults import Fault
+from lab.fault_codes import Code
+from lab.faults import Fault, InText
 from lab.network import Network
 from lab.pictures.map_picture import EDGE, Vertex, begun, draw_map
 from lab.pictures.marks import Map, short_name
@@ -118,10 +119,7 @@ def draw(rounds: Rounds) -> str:
     network = rounds.network
     messages = sum(len(pulse.puts) for pulse in rounds.pulses)
     if messages > MOST_MESSAGES:
-        raise Fault(
-            f"{network.name}: a film has at most {MOST_MESSAGES:,} messages, and these rounds have {messages:,}: use "
-            "the kind player"
-        )
+        raise Fault(Code.FILM_TOO_LONG, InText(network.name), most=MOST_MESSAGES, messages=messages)
     film = Film(rounds)
     scenes = list(film.channels())
     vertices = {

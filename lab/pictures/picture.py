@@ -24,7 +24,8 @@ from lab.definitions.programs import (
 )
 from lab.definitions.reacting import Reacting
 from lab.definitions.rounds import Rounds
-from lab.faults import Fault, at_most
+from lab.fault_codes import Code
+from lab.faults import Fault, InText, at_most
 from lab.network import Network
 from lab.networks.sources import network_bytes
 from lab.networks.network_text import network_of, stem
@@ -99,7 +100,7 @@ class Source:
         if self.texts:
             return self.texts[0]
         if not self.written:
-            raise Fault(f"there is no {form} to draw")
+            raise Fault(Code.NO_TEXT_TO_DRAW, form=form)
         return Text(self.network.name, self.written(form))
 
     def plan(self) -> dict[int, int]:
@@ -124,14 +125,14 @@ def draw_rounds(of: Source, forests: tuple[int, int] | None, pulses: tuple[int, 
     if isinstance(rounds, Rounds):
         return rounds_picture.draw(rounds, forests)
     if forests:
-        raise Fault(f"{of.program.name} has no forests")
+        raise Fault(Code.NO_FORESTS, name=of.program.name)
     return program_picture.draw(rounds, pulses)
 
 
 def draw_why(of: Source, vertex: int | None, in_words: bool | None) -> str:
     rounds = of.rounds()
     if not isinstance(rounds, Rounds):
-        raise Fault(f"{of.program.name} has no channels")
+        raise Fault(Code.NO_CHANNELS_OF_PROGRAM, name=of.program.name)
     cone = why_picture.Cone(rounds, vertex)
     return why_picture.text(cone) if in_words else why_picture.draw(cone)
 
@@ -430,7 +431,7 @@ def drawing(kind: str, of: Source, **options: object) -> str:
     is read, and nothing said: a fault raises `Fault`."""
     if of.network is not None:
         if of.network.nodes == 0:
-            raise Fault(f"{of.network.name}: no node, so nothing to draw")
+            raise Fault(Code.NO_NODE_TO_DRAW, InText(of.network.name))
         most = KINDS[kind].most
         if most:
             limit, instead = most
@@ -461,7 +462,7 @@ def run_text(kind: str, network: Network, network_text: bytes, program: Program)
     wires = least_wires(network, program)
     if wires > MOST_WIRES:
         raise Fault(
-            f"{kind} draws a run of at most {MOST_WIRES:,} wires, and one of {network.name} has more than {wires:,}"
+            Code.RUN_TOO_LONG_TO_DRAW, kind=kind, most=MOST_WIRES, name=network.name, wires=wires
         )
     if is_own(program):
         return text_of_run(network.nodes, played(network, program=program), program)
@@ -475,9 +476,7 @@ def reacting_run(given: Namespace, network: Network, program: Reacting) -> str:
     """The picture of a run of nodes that react to messages: of a stored one, or of one by a seed."""
     for option in ("pulses", "only", "wrong", "stopped"):
         if getattr(given, option):
-            raise Fault(
-                f"--{option} is for runs of rounds, and the nodes of {program.name} make none"
-            )
+            raise Fault(Code.OPTION_OF_ROUNDS, option=option, name=program.name)
     at_most("run", network.nodes, "nodes", *(KINDS["run"].most or (0, "")))
     if given.stored:
         text = Text(text_name(given.stored[0]), text_at(given.stored[0], MOST_OF_TRANSCRIPT))
@@ -495,9 +494,9 @@ def progress(states: int, events: int) -> None:
 def check_texts(given: Namespace, stored: Sequence[str]) -> None:
     """Refuses more texts than there are, or than a page has room for."""
     if given.kind == "watch" and len(stored) > 2:
-        raise Fault("a page has room for two runs")
+        raise Fault(Code.TWO_RUNS)
     if [given.network, *stored].count("-") > 1:
-        raise Fault("standard input has one text: name a file for each other one")
+        raise Fault(Code.ONE_STANDARD_INPUT)
 
 
 def drawn(given: Namespace) -> str:

@@ -1,4 +1,5 @@
 """The plan on the map: who has which channel."""
+from lab.fault_codes import Code
 from lab.faults import Fault
 from lab.network import Network
 from lab.networks.plan_text import clashes
@@ -27,7 +28,7 @@ def draw(network: Network, plan: dict[int, int]) -> str:
     clash = clashes(network, plan)
     if clash:
         v, w = clash[0]
-        raise Fault(f"the plan is not proper: neighbours {v} and {w} share channel {plan[v]} (C4)")
+        raise Fault(Code.PLAN_NOT_PROPER, node=v, neighbour=w, channel=plan[v])
     vertices = {v: Planned(network, v, plan[v]) for v in network.vertices}
     used = f"In the circles are the channels: {len(set(plan.values()))} of the {network.channels} allowed"
     svg, box = begun(

@@ -5,7 +5,8 @@ from lab.definitions.nodes import COLOURING
 from lab.definitions.own_program import check_repeats, what_is_wrong
 from lab.definitions.program import DrawnNode, Program, synchronous_pulses
 from lab.definitions.rounds import Pulse, Rounds, puts_of
-from lab.faults import Fault
+from lab.fault_codes import Code
+from lab.faults import Fault, InText
 from lab.network import Network
 
 # Rounds of more steps of nodes than this take minutes to work out.
@@ -25,7 +26,7 @@ class ProgramRounds:
         self.last = program.last_pulse(network)
         if self.last * network.nodes > MOST_STEPS:
             raise Fault(
-                f"{network.name}: {self.last} pulses of {network.nodes} nodes are too many to be drawn"
+                Code.TOO_MANY_PULSES, InText(network.name), last=self.last, nodes=network.nodes
             )
         check_repeats(network, program)
         self.pulses, ports = [], network.neighbours

@@ -6,7 +6,8 @@ counted in words.
 A pale bar goes from where a payload is taken to the tick at which it is read, and that tick is p + 1's."""
 import math
 
-from lab.faults import Fault, at_most
+from lab.fault_codes import Code
+from lab.faults import Fault, InText, at_most
 from lab.pictures.marks import dash_of, short_name, wire_arrow
 from lab.pictures.palette import BAND, BORDER, INK, PAPER, PULSE, WIRES, WRONG
 from lab.pictures.places import Point
@@ -44,7 +45,7 @@ class Window:
         ]
         self.left = LEFT + max(names, default=-6) + 6
         if not any(self.first in ticks for ticks in run.ticks.values()):
-            raise Fault(f"{run.name}: no node begins pulse {self.first}")
+            raise Fault(Code.NO_NODE_BEGINS_PULSE, InText(run.name), pulse=self.first)
         self.ends = {
             v: ticks.get(self.last + 1, run.reached[v] + 1) for v, ticks in run.ticks.items()
         }

@@ -4,6 +4,7 @@ import re
 
 from lab.definitions.nodes import COLOURING
 from lab.definitions.program import Program
+from lab.fault_codes import Code
 from lab.faults import Fault
 from lab.network import Network
 from lab.schedules.alpha_space import AlphaSpace
@@ -23,9 +24,7 @@ def space_of(
     and events there are so far."""
     space = AlphaSpace(network, without, MAX_STATES, program=program).search(progress)
     if space.is_cut:
-        raise Fault(
-            f"schedules draws at most {MAX_STATES:,} states, and {network.name} has more: leave out an edge or a node"
-        )
+        raise Fault(Code.TOO_MANY_STATES_TO_DRAW, most=MAX_STATES, name=network.name)
     return space
 
 

@@ -8,7 +8,8 @@ from typing import NamedTuple
 from lab.definitions.events import Entry, Kind, Message
 from lab.definitions.program import Program
 from lab.definitions.reacting import AnyProgram
-from lab.faults import Fault, wrong_line
+from lab.fault_codes import Code
+from lab.faults import Fault, InText
 from lab.network import Edge, Network
 from lab.transcripts.check import Found, check_form, find_order
 from lab.transcripts.reading import WrongEntry, read_to_fault
@@ -111,7 +112,9 @@ def window_of(
     ones."""
     first, last = asked or (0, min(greatest, usual - 1))
     if not 0 <= first <= last <= greatest:
-        raise Fault(f"{name}: {what} {first} to {last} are not among 0 to {greatest}")
+        raise Fault(
+            Code.OUTSIDE_OF_RUN, InText(name), what=what, first=first, last=last, greatest=greatest
+        )
     return first, last
 
 
@@ -141,16 +144,20 @@ def ordered(
         head, read, fault = read_to_fault(text.encode(), program.name)
         check_form(head, program)
     except WrongEntry as why:
-        raise Fault(f"{name} {why}") from None
+        raise Fault(Code.TRANSCRIPT_REFUSED, name=name, why=why) from None
     if head.nodes != network.nodes:
-        raise wrong_line(
-            name, head.line, f"{head.nodes} nodes, and {network.name} has {network.nodes} (Nodes)"
+        raise Fault(
+            Code.NODES_OF_TRANSCRIPT,
+            InText(name, head.line),
+            nodes=head.nodes,
+            name=network.name,
+            of_network=network.nodes,
         )
     order = find_order(network, read, program)
     wrong = order.wrong(fault)
     is_drawn = is_wrong_drawn and order.first_refused() is not None
-    if wrong and not (is_drawn and wrong.code not in ("X1", "NoSuch")):
-        raise Fault(f"{name} {wrong}")
+    if wrong and not (is_drawn and wrong.word not in ("X1", "NoSuch")):
+        raise Fault(Code.TRANSCRIPT_REFUSED, name=name, why=wrong)
     order.made.sort(key=lambda entry: (entry.stamp, entry.node))
     first = order.first_refused()
     return order, (first, wrong) if wrong and first else None

@@ -12,7 +12,8 @@ from lab.definitions.machine import NetState, make
 from lab.definitions.nodes import COLOURING, AlphaNode, Colouring, alpha_start, lacks_of
 from lab.definitions.program import Program
 from lab.definitions.rounds import FIRST_MERGE
-from lab.faults import Fault
+from lab.fault_codes import Code
+from lab.faults import Fault, InText
 from lab.network import Edge, Network
 from lab.pictures.page_data import Look, Row, RunTable, WatchData, WireRow
 from lab.pictures.pages import net_of, page
@@ -175,8 +176,12 @@ class Run:
         first, end = (shown[0], shown[-1] + 1) if shown else (0, 0)
         if end - first > MOST_ENTRIES:
             raise Fault(
-                f"{self.name}: pulses {self.pulses[0]} to {self.pulses[1]} have {end - first:,} entries, and a "
-                f"page shows at most {MOST_ENTRIES:,}: name fewer with --pulses"
+                Code.TOO_MANY_ENTRIES,
+                InText(self.name),
+                first=self.pulses[0],
+                last=self.pulses[1],
+                entries=end - first,
+                most=MOST_ENTRIES,
             )
         return first, end
 

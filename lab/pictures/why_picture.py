@@ -8,6 +8,7 @@ from collections.abc import Iterable, Iterator
 
 from lab.definitions.nodes import DROPPED
 from lab.definitions.rounds import LAST_COLOUR, Rounds, SEED
+from lab.fault_codes import Code
 from lab.faults import Fault, at_most
 from lab.pictures.layout import distances
 from lab.pictures.rounds_picture import MOST_ROWS, draw_strips
@@ -29,7 +30,7 @@ class Cone:
     def __init__(self, rounds: Rounds, vertex: int | None) -> None:
         self.rounds, self.network = rounds, rounds.network
         if vertex is None or vertex not in self.network.vertices:
-            raise Fault(f"{self.network.name} has no vertex {vertex}")
+            raise Fault(Code.NO_VERTEX_OF_NETWORK, name=self.network.name, vertex=vertex)
         self.vertex = vertex
         # The pulse, from, to, and what was said.
         self.messages: set[tuple[int, int, int, str]] = set()
@@ -196,9 +197,7 @@ def draw(cone: Cone) -> str:
     rounds, network = cone.rounds, cone.network
     forests = cone.forests()
     if not forests:
-        raise Fault(
-            f"node {cone.vertex} of {network.name} is in no forest, so no message decided its channel"
-        )
+        raise Fault(Code.NODE_IN_NO_FOREST, node=cone.vertex, name=network.name)
     at_most("why", len(forests) * network.nodes, "rows", MOST_ROWS, "--text, which has no limit")
     title = f"{network.name}: why node {cone.vertex} has channel {channel_of(cone)}"
     pale = "Pale is what didn’t decide it; the last column, with the channels after a merge, is never pale."

@@ -4,6 +4,7 @@ from collections.abc import Collection
 from typing import TYPE_CHECKING
 
 from lab.definitions.events import Entry, Kind
+from lab.fault_codes import Code
 from lab.faults import Fault
 from lab.pictures.palette import WIRES, WRONG
 from lab.pictures.svg import Svg
@@ -21,7 +22,7 @@ def said_of(run: Run, stopped: int | None) -> str:
     """What is wrong with a run, if something is. Of one that isn't whole `stopped` may say at which vertex it
     stopped."""
     if stopped is not None and stopped not in run.network.vertices:
-        raise Fault(f"{run.network.name} has no vertex {stopped}")
+        raise Fault(Code.NO_VERTEX_OF_NETWORK, name=run.network.name, vertex=stopped)
     if run.wrong:
         return f"Red: {run.wrong[1]}."
     where = "" if stopped is None else f": it stops at node {stopped}"

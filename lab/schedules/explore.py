@@ -10,10 +10,11 @@ from functools import partial
 from typing import NamedTuple
 
 from lab.definitions.events import Event, Kind
-from lab.definitions.own_program import AGAIN, OwnNode, check_repeats, has_verdict, wrong_end
+from lab.definitions.own_program import OwnNode, check_repeats, has_verdict, wrong_end
 from lab.definitions.program import Program, RoundsNode
 from lab.definitions.programs import add_program, any_program_asked, program_asked
 from lab.definitions.reacting import Reacting, ReactingNode, check_reactions
+from lab.fault_codes import Code
 from lab.faults import Fault
 from lab.network import Network
 from lab.networks.sources import network_at
@@ -240,9 +241,7 @@ def networks_found(given: Namespace) -> Found:
     """Whether the rounds of a file end right on networks by chance, by its `right`."""
     program = program_asked("explore", given)
     if not has_verdict(program):
-        raise Fault(
-            f"--networks is for a file with a function `right`, and {given.program} has none"
-        )
+        raise Fault(Code.NO_FUNCTION_RIGHT, program=given.program)
     is_right, words = verdict_on_many(program, given.networks, given.seed, given.connected)
     return Found(not is_right, words)
 
@@ -256,18 +255,13 @@ def schedules_found(given: Namespace) -> Found:
     if isinstance(program, Reacting):
         return reacting_found(given, net, program)
     if given.runs:
-        raise Fault(
-            f"--runs is for a file whose nodes react to messages, and {given.program} has rounds"
-        )
+        raise Fault(Code.RUNS_OF_ROUNDS, program=given.program)
     check_repeats(net, program)
     if (found := found_by_rounds(given, net, program)) is not None:
         return found
     if net.nodes > MOST_NODES:
-        asks = " (of more the rounds are, if the file has a function `right`)"
-        raise Fault(
-            f"{net.name} has {net.nodes} nodes, and every schedule is played of at most {MOST_NODES}"
-            + (asks if program.file is not None else "")
-        )
+        code = Code.TOO_MANY_FOR_SCHEDULES if program.file is None else Code.TOO_MANY_WITHOUT_RIGHT
+        raise Fault(code, name=net.name, nodes=net.nodes, most=MOST_NODES)
     space = AlphaSpace(net, given.without, given.limit, given.reduce, program)
     search(given, space)
     events = space.with_puts(space.path_to_fault() if space.faults else space.path(space.ends[0]))
@@ -295,9 +289,9 @@ def found_by_rounds(given: Namespace, net: Network, program: Program) -> Found |
 def reacting_found(given: Namespace, net: Network, program: Reacting) -> Found:
     """What is found of nodes that react to messages: there are no rounds to compare them with."""
     if set(given.without) - {"fifo"}:
-        raise Fault(f"{given.program} has no synchroniser: of its rules only fifo can be left out")
+        raise Fault(Code.NO_SYNCHRONISER, program=given.program)
     if given.reduce:
-        raise Fault(f"--reduce is for nodes under the synchroniser, and {given.program} has none")
+        raise Fault(Code.NOTHING_TO_REDUCE, program=given.program)
     check_reactions(net, program)
     if given.runs:
         return runs_found(given, Runs(net, program, given.runs, given.seed).play())
@@ -357,13 +351,10 @@ def search(given: Namespace, space: Space[AnySearched]) -> None:
         )
     if space.is_cut:
         can_reduce = not given.reduce and not set(given.without) & {"safes", "fifo"}
-        instead = "--reduce leaves most of them out, " if can_reduce else ""
+        code = Code.TOO_MANY_STATES if can_reduce else Code.TOO_MANY_STATES_LEFT
         if not isinstance(space, AlphaSpace):
-            instead = "--runs 100 plays a hundred runs instead, and "
-        raise Fault(
-            f"there are more than {given.limit:,} states: {instead}--limit allows more, at some {BYTES_A_STATE} bytes "
-            "each"
-        )
+            code = Code.TOO_MANY_STATES_OF_REACTING
+        raise Fault(code, limit=given.limit, each=BYTES_A_STATE)
 
 
 def whole_text(given: Namespace, name: str, space: AlphaSpace) -> str:
@@ -432,9 +423,7 @@ def broken_text(given: Namespace, space: AlphaSpace, listed: list[Event]) -> str
     if (
         s not in space.broken and not given.without
     ):  # the synchroniser keeps all its rules, so it is the file
-        raise Fault(
-            f"{given.program} does something else in another order of events: {AGAIN} ({what})"
-        )
+        raise Fault(Code.OTHER_IN_OTHER_ORDER, program=given.program, what=what)
     fewest = ", maybe not the fewest" if space.reduce else ""
     first = f"broken after {events_words(listed)}{fewest}: {what}\n"
     return "".join([first, *event_lines(listed, space.ports), refused_words(given.without)])

@@ -7,6 +7,7 @@ from lab.definitions.events import PUT, Event, Message
 from lab.definitions.machine import NetState, Node
 from lab.definitions.own_program import asks_for_messages, what_is_wrong
 from lab.definitions.reacting import Reacting, messages_in, results_in
+from lab.fault_codes import Code
 from lab.faults import Fault
 from lab.network import Network
 from lab.schedules.policies import POLICIES, Policy
@@ -46,9 +47,7 @@ class Runs:
         wrong = self.wrong_now(player.state)
         while not wrong and (steps := player.next_steps()):
             if len(events) == MOST_ENTRIES:
-                raise Fault(
-                    f"a run under the policy {policy.name} hasn't ended after {MOST_ENTRIES:,} events"
-                )
+                raise Fault(Code.RUN_WITHOUT_END, policy=policy.name, most=MOST_ENTRIES)
             event = player.event_of(policy.choose(steps))
             events.append(with_message(player.state, event))
             try:

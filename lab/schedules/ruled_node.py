@@ -17,7 +17,8 @@ from lab.definitions.own_program import OwnNode
 from lab.definitions.program import Payload, Program, RoundsNode, Slot, synchronous_pulses
 from lab.definitions.sequel import Sequel
 from lab.definitions.values import frozen
-from lab.faults import Fault
+from lab.fault_codes import Code
+from lab.faults import Fault, InText
 from lab.network import Network
 from lab.schedules.space import SearchedNode
 
@@ -82,7 +83,7 @@ class RuledNode(AlphaNode, SearchedNode):
             case Message("payload", (int(pulse), str(word), int(number))):
                 ahead = pulse - self.pulse_number
                 if ahead > 1 or ahead < 0 and "safes" not in self.without:
-                    raise Refused(f"{wire}: no place for it")
+                    raise Refused(Code.NOT_DUE, f"{wire}: no place for it")
                 if ahead == 0 or ahead == 1 and "early" in self.without:
                     port.present = Payload(word, number)
                 elif ahead == 1:
@@ -132,10 +133,7 @@ def kept(function: Callable[[RoundsNode], Made], node: RoundsNode) -> Made:
     except Exception as why:
         if not isinstance(node, OwnNode):
             raise
-        raise Fault(
-            f"{node.of_file.path}: what `me` keeps can't be copied and compared, as each order of events needs it "
-            f"({why}): keep plain values there"
-        ) from None
+        raise Fault(Code.CANT_BE_COPIED, InText(node.of_file.path), why=why) from None
 
 
 class Rounds:

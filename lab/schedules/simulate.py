@@ -18,12 +18,14 @@ from lab.definitions.own_program import check_repeats, what_is_wrong, wrong_end
 from lab.definitions.program import Program
 from lab.definitions.programs import add_program, any_program_asked
 from lab.definitions.reacting import AnyProgram, Reacting, check_reactions, results_in
-from lab.faults import Fault, wrong_line
+from lab.fault_codes import Code
+from lab.faults import Fault, InText
 from lab.network import Edge, Network
 from lab.networks.fields import shown
 from lab.networks.sources import network_at
 from lab.schedules.policies import POLICIES, Policy, Step
 from lab.schedules.ruled_node import RuledNode
+from lab.sentences import WORDS
 from lab.transcripts.fields import first_line, first_line_of_reactions
 from lab.transcripts.reading import line_of
 from lab.transcripts.stamps import Clock, unfinished
@@ -137,8 +139,12 @@ class Player(Generic[AnyNode]):
                 self.make(event)
             except Refused as refused:
                 missing = missing_words(self.state, event)
-                raise wrong_line(
-                    name, line, f"`{event}` isn't possible there{missing} ({refused})"
+                raise Fault(
+                    Code.EVENT_REFUSED,
+                    InText(name, line),
+                    event=event,
+                    missing=missing,
+                    word=WORDS[refused.code],
                 ) from None
 
     def next_steps(self) -> list[Step]:
@@ -187,7 +193,7 @@ def played(
     for _ in entries:
         pass
     if player.next_steps():
-        raise Fault(f"the run hasn't ended after {MOST_ENTRIES:,} entries")
+        raise Fault(Code.RUN_NOT_ENDED, most=MOST_ENTRIES)
     return player.made
 
 
@@ -216,13 +222,10 @@ def events_of(
             and not overtakes
             or note.endswith(", out of turn")
         ):
-            refusal = (
-                f"`{shown(raw.strip())}` overtakes another message, and links keep their order"
-            )
-            raise wrong_line(name, line, refusal)
+            raise Fault(Code.OVERTAKES, InText(name, line), event=shown(raw.strip()))
         found = EVENT.fullmatch(" ".join(words))
         if found is None or found[1] not in (None, own.value):
-            raise wrong_line(name, line, f"`{shown(raw.strip())}` is no event (NoEvent)")
+            raise Fault(Code.NO_EVENT, InText(name, line), event=shown(raw.strip()))
         step, node, kind, v, port, place = found.groups()
         if step:
             yield line, Event(own, int(node))
@@ -296,10 +299,10 @@ def check_names(net: Network, given: Namespace) -> None:
     """Refuses edges and nodes that the network hasn't."""
     for v, w in given.slow:
         if frozenset((v, w)) not in net.number:
-            raise Fault(f"{net.name} has no edge {v}-{w}")
+            raise Fault(Code.NO_EDGE, name=net.name, v=v, w=w)
     for v in given.lazy:
         if v not in net.neighbours:
-            raise Fault(f"{net.name} has no node {v}: its nodes are 1 to {net.nodes}")
+            raise Fault(Code.NO_NODE, name=net.name, v=v, nodes=net.nodes)
 
 
 def run_asked(net: Network, given: Namespace, program: AnyProgram) -> Player[Node]:

@@ -11,7 +11,8 @@ from lab.definitions.events import PULSE, PUT, TAKE, Event, Kind
 from lab.definitions.machine import Refused
 from lab.definitions.nodes import COLOURING
 from lab.definitions.program import Program
-from lab.faults import Fault, wrong_line
+from lab.fault_codes import Code
+from lab.faults import Fault, InText
 from lab.network import Edge, Network
 from lab.schedules.policies import Step
 from lab.schedules.ruled_node import Rounds, RuledNode
@@ -64,7 +65,7 @@ class Stepwise(AlphaPlayer):
             fields = re.fullmatch("([0-9]{1,5})(?:-([0-9]{1,5}))?(?:-([0-9]{1,5}))?", step)
             v, w, place = (int(field or 0) for field in fields.groups()) if fields else (0, 0, 0)
             if not self.makes(TAKE if w else PULSE, v, w, place):
-                raise Fault(f"step {number} of the list, {step}, isn't possible there")
+                raise Fault(Code.STEP_NOT_POSSIBLE, number=number, step=step)
 
     def follow_list(self, text: str) -> None:
         """The events of a list. Puts make themselves as soon as they can, so one of the list has been made before."""
@@ -81,7 +82,7 @@ class Stepwise(AlphaPlayer):
                     event.kind, event.node, near[event.port], event.place
                 )
             if not is_made:
-                raise wrong_line("the list", line, f"`{event}` isn't possible there")
+                raise Fault(Code.EVENT_NOT_POSSIBLE, InText("the list", line), event=event)
 
     def makes(self, kind: Kind, v: int, w: int, place: int) -> bool:
         """Makes a step if it is possible now, and says whether it was; a take may overtake `place` wires."""

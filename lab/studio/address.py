@@ -10,6 +10,7 @@ from typing import get_args
 
 from lab.definitions.nodes import COLOURING
 from lab.definitions.programs import MAX_PASSES, OPTIONS, PROGRAMS
+from lab.fault_codes import Code
 from lab.faults import Fault
 from lab.networks.fields import shown
 from lab.schedules.policies import POLICIES
@@ -37,32 +38,32 @@ class Here:
     def node(self, said: str) -> int:
         v = whole(said)
         if not 1 <= v <= self.nodes:
-            raise Fault(f"there is no node {v}: there are {self.nodes}, from 1 on")
+            raise Fault(Code.NO_NODE_OF_ADDRESS, node=v, nodes=self.nodes)
         return v
 
     def edge(self, said: str) -> tuple[int, int]:
         v, _, w = said.partition("-")
         found = min(whole(v), whole(w)), max(whole(v), whole(w))
         if found not in self.edges:
-            raise Fault(f"there is no link {shown(said)}")
+            raise Fault(Code.NO_LINK, said=shown(said))
         return found
 
 
 def whole(said: str) -> int:
     if not re.fullmatch("[0-9]{1,6}", said):
-        raise Fault(f"`{shown(said)}` is no whole number of at most six digits")
+        raise Fault(Code.NO_WHOLE_NUMBER, said=shown(said))
     return int(said)
 
 
 def within(said: str, low: int, high: int) -> int:
     if not low <= whole(said) <= high:
-        raise Fault(f"it is a number from {low} to {high:,}")
+        raise Fault(Code.NUMBER_OUTSIDE, low=low, high=high)
     return whole(said)
 
 
 def time_of(said: str, _here: Here) -> float:
     if not re.fullmatch(r"[0-9]{1,9}(\.[0-9]{1,9})?", said):
-        raise Fault("it is a number from 0 on")
+        raise Fault(Code.NUMBER_FROM_0)
     return float(said)
 
 
@@ -73,21 +74,21 @@ def items(said: str) -> list[str]:
 
 def step_of(said: str) -> str:
     if not re.fullmatch("[0-9]{1,5}(-[0-9]{1,5}){0,2}", said):
-        raise Fault(f"`{shown(said)}` is no step, as 3, 2-1 or 2-1-4")
+        raise Fault(Code.NO_STEP, said=shown(said))
     return said
 
 
 def steps_of(said: str, _here: Here) -> list[str]:
     found = list(map(step_of, items(said)))
     if len(found) > MOST_STEPS:
-        raise Fault(f"it has {len(found):,} steps, and at most {MOST_STEPS:,} are made by hand")
+        raise Fault(Code.TOO_MANY_STEPS, steps=len(found), most=MOST_STEPS)
     return found
 
 
 def plan_of(said: str, here: Here) -> list[int]:
     found = [within(one, 0, MOST_CHANNEL) for one in items(said)]
     if len(found) > here.nodes:
-        raise Fault(f"it has {len(found):,} channels, and there are {here.nodes} nodes")
+        raise Fault(Code.TOO_MANY_CHANNELS, channels=len(found), nodes=here.nodes)
     return found
 
 
@@ -95,8 +96,9 @@ def rules_of(said: str, rules: Collection[str]) -> str:
     names = said.split(",")
     unknown = [name for name in names if name not in rules]
     if unknown or len(set(names)) < len(names):
-        why = f"there is no rule {shown(unknown[0])}" if unknown else "a rule is there twice"
-        raise Fault(f"{why}: there are {', '.join(rules) or 'none'}")
+        if unknown:
+            raise Fault(Code.NO_RULE, rule=shown(unknown[0]), rules=", ".join(rules) or "none")
+        raise Fault(Code.RULE_TWICE, rules=", ".join(rules) or "none")
     return said
 
 
@@ -108,7 +110,7 @@ def other_run(said: str, here: Here) -> Order:
 def among(names: Collection[str]) -> Callable[[str, Here], str]:
     def parse(said: str, _here: Here) -> str:
         if said not in names:
-            raise Fault(f"there are {', '.join(names)}")
+            raise Fault(Code.NOT_AMONG, names=", ".join(names))
         return said
 
     return parse
@@ -120,7 +122,7 @@ def program_of(said: str, here: Here) -> str:
 
 def lesson_step_of(said: str, here: Here) -> int:
     if here.lesson is None:
-        raise Fault("it is a step of a lesson, and no lesson is named")
+        raise Fault(Code.NO_LESSON_OF_STEP)
     return within(said, 1, len(steps_in(here.lesson)))
 
 
@@ -173,12 +175,12 @@ class Address:
     """What an address says. `values` has what can be read, by its name; `unread` why each of the others can't be."""
 
     values: Values = Values()
-    unread: dict[str, str] = field(default_factory=dict)
+    unread: dict[str, Fault] = field(default_factory=dict)
 
     def refuse(self) -> None:
         """Refuses an address of which anything can't be read."""
         if self.unread:
-            raise Fault(self.faults())
+            raise Fault(Code.ADDRESS_NOT_READ, unread=self.faults())
 
     def faults(self) -> str:
         """What can't be read, in one line."""
@@ -187,19 +189,19 @@ class Address:
         return ", ".join([*first, f"and {left:,} more"] if left else first)
 
 
-def pairs_of(place: str) -> tuple[dict[str, str], dict[str, str]]:
+def pairs_of(place: str) -> tuple[dict[str, str], dict[str, Fault]]:
     """The values of an address as they are written, by their names; and what is no name, or is there twice. A name
     without a value is as good as none, but for the seed: it is any text."""
     if len(place) > MOST_LETTERS:
-        raise Fault(f"an address has at most {MOST_LETTERS:,} letters, and this has {len(place):,}")
+        raise Fault(Code.ADDRESS_TOO_LONG, most=MOST_LETTERS, letters=len(place))
     found: dict[str, str] = {}
-    unread: dict[str, str] = {}
+    unread: dict[str, Fault] = {}
     for part in filter(None, place.split("&")):
         name, _, value = part.partition("=")
         if name not in NAMES:
-            unread[shown(part)] = "an address has no such name"
+            unread[shown(part)] = Fault(Code.NO_SUCH_NAME)
         elif name in found:
-            unread[name] = "it is there twice"
+            unread[name] = Fault(Code.NAME_TWICE)
         elif value or name in ("seed", "net"):
             found[name] = value
     return {name: value for name, value in found.items() if name not in unread}, unread
@@ -217,7 +219,7 @@ def place_opened(pairs: dict[str, str]) -> dict[str, str]:
     return pairs_of(step_place(lesson, step))[0] | {"lesson": str(lesson), "step": str(step)}
 
 
-def read_values(pairs: dict[str, str], unread: dict[str, str], here: Here) -> Address:
+def read_values(pairs: dict[str, str], unread: dict[str, Fault], here: Here) -> Address:
     """What the values of an address say, in the order of the table: what comes later may be of the program."""
     values: dict[str, object] = {}
     unread = dict(unread)
@@ -226,7 +228,7 @@ def read_values(pairs: dict[str, str], unread: dict[str, str], here: Here) -> Ad
         try:
             values[name] = NAMES[name].takes(said if name == "net" else decoded(said), here)
         except Fault as why:
-            unread[shown(f"{name}={said}")] = str(why)
+            unread[shown(f"{name}={said}")] = why
         if name == "program":
             here = replace(here, program=str(values.get("program", COLOURING.name)))
         if name == "lesson" and "lesson" in values:

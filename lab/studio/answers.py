@@ -209,8 +209,11 @@ class PlanFound:
 
 @dataclass(frozen=True)
 class GoodPlan:
+    """A proper plan, and the greatest of its channels."""
+
     said: str
     at: Sequence[int]
+    greatest: int
     ok: Literal[True] = True
     code: None = None
 
@@ -268,14 +271,13 @@ class Replayed(Judged):
 @dataclass(frozen=True)
 class JudgedText:
     """What is said of a transcript, with the line of its fault: by the definitions, and if it is built by the proved
-    machine. It counts lines from the network's first one, so `before` says how many those are."""
+    machine."""
 
     ok: bool
     said: str
     line: int | None
     by: str
     proved: Judged | None
-    before: int
 
 
 @dataclass(frozen=True)

@@ -7,6 +7,7 @@ from typing import Protocol
 from lab.definitions.nodes import COLOURING
 from lab.definitions.program import Program
 from lab.definitions.programs import MAX_PASSES, PROGRAMS, program_at
+from lab.fault_codes import Code
 from lab.faults import Fault
 from lab.network import Network
 from lab.networks.network_text import read_network
@@ -30,22 +31,8 @@ OPENED = Opened()
 MOST_DRAWN, MOST_ROUNDS, MOST_RUN = 400, 100, 40
 # Steps that are made by hand.
 MOST_STEPS = 6_000
-# What is shown of so many nodes at most, and which tabs show more.
-SHOWN_OF = {
-    MOST_RUN: ("A run without a clock, and its steps,", "Draw and Check"),
-    MOST_ROUNDS: ("The rounds", "Draw and Check"),
-}
-
-
-def unshown(most: int, nodes: int) -> str:
-    """Why so many nodes aren't shown, and what is to do."""
-    if most not in SHOWN_OF:
-        return f"the studio draws at most {most} nodes, and here are {nodes}"
-    what, tabs = SHOWN_OF[most]
-    return (
-        f"{what} can be seen of at most {most} nodes, and this network has {nodes}: the tabs {tabs} show it, "
-        "or open a smaller example"
-    )
+# Of how many nodes at most something is shown, and the fault if there are more.
+UNSHOWN_OF = {MOST_RUN: Code.TOO_MANY_FOR_RUN, MOST_ROUNDS: Code.TOO_MANY_FOR_ROUNDS}
 
 
 class OfVertex(Protocol):
@@ -60,21 +47,15 @@ def network_asked(asked: OfNetwork, most: int = MOST_DRAWN) -> Network:
     try:
         network = read_network(asked.network, "the network")
     except Fault as why:
-        same = re.fullmatch(
-            r"the network: vertices (\d+) and (\d+) have one identifier \(N2\)", str(why)
-        )
-        raise Fault(
-            "nodes {} and {} have one identifier now: give one of them another".format(
-                *same.groups()
-            )
-            if same
-            else str(why)
-        ) from None
+        if why.code is not Code.ONE_IDENTIFIER_TWICE:
+            raise
+        raise Fault(Code.ONE_IDENTIFIER_NOW, None, **why.subject) from None
     network.name = (asked.name or "this network")[:60]
     if network.nodes == 0:
-        raise Fault("no node yet")
+        raise Fault(Code.NO_NODE_YET)
     if network.nodes > most:
-        raise Fault(unshown(most, network.nodes))
+        code = UNSHOWN_OF.get(most, Code.TOO_MANY_TO_DRAW)
+        raise Fault(code, most=most, nodes=network.nodes)
     return network
 
 
@@ -84,9 +65,9 @@ def program_asked(asked: OfProgram, network: Network) -> Program:
     name, option, value = said.groups() if said else ("?", None, None)
     options: dict[str, int] = {str(option): int(value)} if value else {}
     if not 1 <= options.get("passes", 1) <= MAX_PASSES:
-        raise Fault(f"there are 1 to {MAX_PASSES} passes")
+        raise Fault(Code.PASSES, most=MAX_PASSES)
     if options.get("root", 1) not in network.vertices:
-        raise Fault(f"there is no node {options['root']} that could be the root")
+        raise Fault(Code.NO_NODE_AS_ROOT, root=options["root"])
     if name not in (*PROGRAMS, *OPENED.own):
         name = "?"
     return program_at(
@@ -98,11 +79,11 @@ def rules_asked(asked: WithoutRules, among: Collection[str]) -> tuple[str, ...]:
     """The rules to be left out, if they are among those that can be."""
     rules = tuple(asked.without.split(",")) if asked.without else ()
     if not set(rules) <= set(among):
-        raise Fault("there is no such rule")
+        raise Fault(Code.NO_SUCH_RULE)
     return rules
 
 
 def vertex_asked(asked: OfVertex, network: Network) -> int:
     if asked.vertex is None or asked.vertex not in network.vertices:
-        raise Fault(f"the field vertex: there is no node {asked.vertex}")
+        raise Fault(Code.NO_NODE_OF_FIELD, vertex=asked.vertex)
     return asked.vertex

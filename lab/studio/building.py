@@ -8,6 +8,7 @@ import subprocess
 import sys
 import time
 
+from lab.fault_codes import Code
 from lab.faults import Fault
 from lab.programs import TOP, built
 from lab.studio.asked import OPENED
@@ -85,11 +86,9 @@ def begin(_call: BuildCall, _tell: Tell) -> Build:
     """Asks for the build, and waits until it has begun."""
     log = OPENED.log
     if shutil.which("rt") is None:
-        raise Fault(
-            "the toolchain's command rt is not on the PATH, and without it nothing can be proved"
-        )
+        raise Fault(Code.NO_RT)
     if log is None:
-        raise Fault("nothing is built without the studio's server")
+        raise Fault(Code.NOTHING_BUILT)
     if build_so_far().ended:
         os.unlink(log)
     os.kill(os.getppid(), WANTED)

@@ -3,6 +3,7 @@ from collections.abc import Collection, Iterable
 
 from lab.definitions.program import Program
 from lab.definitions.rounds import Rounds
+from lab.fault_codes import Code
 from lab.faults import Fault
 from lab.network import Edge, Network
 from lab.pictures.layout import distances
@@ -41,7 +42,7 @@ def judged(
 ) -> DareJudged:
     """Whether steps win the dare, and how far they come."""
     if dare not in DARES:
-        raise Fault(f"there is no dare {dare}")
+        raise Fault(Code.NO_DARE, dare=dare)
     player = Stepwise(network, program, without)
     pairs, least = goal(network, dare)
     most = 0
@@ -67,7 +68,7 @@ def goal(network: Network, dare: str) -> tuple[Collection[Edge], int]:
     ways = {v: distances(network.neighbours, v) for v in network.vertices}
     pairs = [(v, w) for v in ways for w in sorted(ways[v]) if v < w]
     if not pairs:
-        raise Fault("no two nodes are joined")
+        raise Fault(Code.NO_TWO_JOINED)
     v, w = max(pairs, key=lambda pair: ways[pair[0]][pair[1]])
     return [(v, w)], ways[v][w]
 

@@ -7,6 +7,7 @@ from collections.abc import Callable, Iterator
 from dataclasses import dataclass, field
 from urllib.parse import unquote_to_bytes
 
+from lab.fault_codes import Code
 from lab.faults import Fault
 from lab.networks.fields import shown
 from lab.networks.network_text import MAX_CHANNEL
@@ -59,7 +60,7 @@ def decoded(said: str) -> str:
             raise ValueError
         return unquote_to_bytes(said.encode()).decode()
     except ValueError:
-        raise Fault(f"the % in `{shown(said)}` stands for no letter") from None
+        raise Fault(Code.NO_LETTER_OF_PERCENT, said=shown(said)) from None
 
 
 def listed(said: str) -> list[str]:
@@ -77,7 +78,7 @@ def drawn_of(code: str) -> Drawn:
         kind = part[:1]
         if kind not in ADDS or kind in kinds:
             said = "are there twice" if kind in kinds else "mean nothing"
-            raise Fault(f"the network has a part `{shown(part)}`, and such parts {said}")
+            raise Fault(Code.PART_OF_NETWORK, part=shown(part), said=said)
         kinds.add(kind)
         for v, what in of_nodes(part[1:], len(nodes)):
             ADDS[kind](nodes[v - 1], v, what)
@@ -87,7 +88,7 @@ def drawn_of(code: str) -> Drawn:
 def node_at(place: str) -> Node:
     found = PLACE.fullmatch(place)
     if not found:
-        raise Fault(f"the network has a node at `{shown(place)}`, and a place is X.Y")
+        raise Fault(Code.NO_PLACE, spot=shown(place))
     return Node(int(found[1]), int(found[2]))
 
 
@@ -96,7 +97,7 @@ def of_nodes(said: str, nodes: int) -> Iterator[tuple[int, str]]:
     for pair in listed(said):
         found = OF_NODE.fullmatch(pair)
         if not found or not 1 <= int(found[1]) <= nodes:
-            raise Fault(f"the network says `{shown(pair)}`, which is of none of its {nodes} nodes")
+            raise Fault(Code.OF_NO_NODE, pair=shown(pair), nodes=nodes)
         yield int(found[1]), found[2]
 
 
@@ -106,34 +107,32 @@ def edges_of(said: str, nodes: int) -> set[tuple[int, int]]:
         w = int(other) if NUMBER.fullmatch(other) else 0
         edge = min(v, w), max(v, w)
         if not 1 <= edge[0] < edge[1] <= nodes:
-            raise Fault(f"the network has a wrong edge, `{shown(f'{v}-{other}')}`")
+            raise Fault(Code.WRONG_EDGE, edge=shown(f"{v}-{other}"))
         if edge in found:
-            raise Fault(f"the network has the edge `{v}-{other}` twice")
+            raise Fault(Code.EDGE_TWICE, v=v, other=other)
         found.add(edge)
     return found
 
 
 def add_identifier(node: Node, v: int, said: str) -> None:
     if not IDENTIFIER.fullmatch(said):
-        raise Fault(f"the identifier of node {v} is `{shown(said)}`, and has to be a whole number")
+        raise Fault(Code.IDENTIFIER_NO_NUMBER, node=v, said=shown(said))
     if node.id:
-        raise Fault(f"node {v} has two identifiers")
+        raise Fault(Code.TWO_IDENTIFIERS, node=v)
     node.id = said
 
 
 def add_bar(node: Node, v: int, said: str) -> None:
     if not CHANNEL.fullmatch(said) or not 1 <= int(said) <= MAX_CHANNEL:
-        raise Fault(
-            f"the channel `{shown(said)}` is barred at node {v}, and channels are 1 to {MAX_CHANNEL}"
-        )
+        raise Fault(Code.CHANNEL_NOT_TO_BAR, said=shown(said), node=v, most=MAX_CHANNEL)
     if int(said) in node.bars:
-        raise Fault(f"the channel {int(said)} is barred twice at node {v}")
+        raise Fault(Code.BARRED_TWICE, channel=int(said), node=v)
     node.bars.append(int(said))
 
 
 def add_name(node: Node, v: int, said: str) -> None:
     if node.name:
-        raise Fault(f"node {v} has two names")
+        raise Fault(Code.TWO_NAMES, node=v)
     node.name = decoded(said)
 
 

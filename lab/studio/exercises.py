@@ -4,6 +4,7 @@ from collections.abc import Callable
 
 from lab.definitions.colours import colours
 from lab.definitions.nodes import last_pulse
+from lab.fault_codes import Code
 from lab.faults import Fault
 from lab.network import Network
 from lab.pictures.layout import distances
@@ -25,16 +26,16 @@ LONG, FEWEST = 100, 5
 def exercise_judged(call: ExerciseCall, tell: Tell) -> ExerciseJudged:
     """Whether the exercise of a step is done."""
     if not 1 <= call.lesson <= len(LESSONS):
-        raise Fault(f"the field lesson: there are the lessons 1 to {len(LESSONS)}")
+        raise Fault(Code.NO_LESSON, lessons=len(LESSONS))
     steps = LESSONS[call.lesson - 1].steps
     if not 1 <= call.step <= len(steps):
-        raise Fault(f"the field step: lesson {call.lesson} has the steps 1 to {len(steps)}")
+        raise Fault(Code.NO_STEP_OF_LESSON, lesson=call.lesson, steps=len(steps))
     exercise = steps[call.step - 1].exercise
     if isinstance(exercise, SaidExercise):
         return said_right(exercise, call.said)
     if isinstance(exercise, SeenExercise):
         return GOALS[call.lesson, exercise.name](call, tell)
-    raise Fault("this step has no exercise that is judged here")
+    raise Fault(Code.NO_EXERCISE)
 
 
 def said_right(exercise: SaidExercise, said: str) -> ExerciseJudged:
@@ -69,14 +70,11 @@ def row_asked(call: ExerciseCall, nodes: int) -> Network:
     """A row of so many nodes; refused in words."""
     network = network_asked(call)
     if network.nodes != nodes:
-        raise Fault(f"the row has {nodes} transmitters, and here {are(network.nodes)}")
+        code = Code.ROW_OF_ONE if network.nodes == 1 else Code.ROW_OF_OTHER_LENGTH
+        raise Fault(code, nodes=nodes, here=network.nodes)
     if not ends_of(network):
-        raise Fault(f"the {nodes} transmitters aren't one row yet")
+        raise Fault(Code.NO_ROW_YET, nodes=nodes)
     return network
-
-
-def are(number: int) -> str:
-    return f"is {number}" if number == 1 else f"are {number}"
 
 
 def three_channels(call: ExerciseCall, _tell: Tell) -> ExerciseJudged:

@@ -13,6 +13,7 @@ from functools import cache
 from types import NoneType, UnionType
 from typing import Annotated, Literal, TypeVar, Union, get_args, get_origin, get_type_hints
 
+from lab.fault_codes import Code
 from lab.faults import Fault
 from lab.networks.fields import shown
 
@@ -34,23 +35,23 @@ class Field:
 
 def text(value: object) -> str:
     if not isinstance(value, str):
-        raise Fault("a text is asked for")
+        raise Fault(Code.NO_TEXT)
     if not value.isascii() and re.search("[\ud800-\udfff]", value):
-        raise Fault("a text of whole letters is asked for, and this has half of one")
+        raise Fault(Code.HALF_A_LETTER)
     return value
 
 
 def number(value: object) -> int:
     if isinstance(value, bool) or not isinstance(value, int):
-        raise Fault("a whole number is asked for")
+        raise Fault(Code.NO_NUMBER_IN_FIELD)
     if abs(value) > MOST_NUMBER:
-        raise Fault(f"a whole number of at most {MOST_NUMBER:,} is asked for")
+        raise Fault(Code.NUMBER_OF_FIELD_TOO_GREAT, most=MOST_NUMBER)
     return value
 
 
 def truth(value: object) -> bool:
     if not isinstance(value, bool):
-        raise Fault("true or false is asked for")
+        raise Fault(Code.NO_TRUTH)
     return value
 
 
@@ -64,14 +65,14 @@ def data(value: object) -> bytes:
     try:
         return base64.b64decode(text(value), validate=True)
     except (binascii.Error, ValueError):
-        raise Fault("bytes in base 64 are asked for") from None
+        raise Fault(Code.NO_BASE_64) from None
 
 
 def list_of(parse: Parse, length: int | None = None) -> Parse:
     def parse_list(value: object) -> tuple[object, ...]:
         if not isinstance(value, list) or length not in (None, len(value)):
             what = "a list" if length is None else f"a list of {length}"
-            raise Fault(f"{what} is asked for")
+            raise Fault(Code.ASKED_FOR, what=what)
         return tuple(map(parse, value))
 
     return parse_list
@@ -80,7 +81,7 @@ def list_of(parse: Parse, length: int | None = None) -> Parse:
 def words_by_name(value: object) -> dict[str, str]:
     """An object of texts or numbers."""
     if not isinstance(value, dict):
-        raise Fault("an object is asked for")
+        raise Fault(Code.NO_OBJECT)
     return {name: word(one) for name, one in value.items()}
 
 
@@ -88,7 +89,7 @@ def among(names: Collection[str]) -> Parse:
     def parse_name(value: object) -> str:
         name = text(value)
         if name not in names:
-            raise Fault(f"there is no {shown(name)}: there are {', '.join(names)}")
+            raise Fault(Code.NOT_THERE, name=shown(name), names=", ".join(names))
         return name
 
     return parse_name
@@ -138,7 +139,7 @@ def parsed_call(kind: type[Asked], body: Mapping[str, object]) -> Asked:
     known = fields_of(of)
     for name in body:
         if name not in known:
-            raise Fault(f"the call has no field {shown(name)}: it has {', '.join(known) or 'none'}")
+            raise Fault(Code.NO_FIELD, name=shown(name), known=", ".join(known) or "none")
     make: Callable[..., Asked] = kind
     return make(**{name: value_of(name, body.get(name), field) for name, field in known.items()})
 
@@ -147,11 +148,11 @@ def value_of(name: str, value: object, field: Field) -> object:
     if value is None:
         if field.may_lack:
             return field.default
-        raise Fault(f"the call lacks its field {name}")
+        raise Fault(Code.FIELD_MISSING, name=name)
     try:
         return field.takes(value)
     except Fault as why:
-        raise Fault(f"the field {name} of the call: {why}") from None
+        raise Fault(Code.FIELD_REFUSED, name=name, why=why) from None
 
 
 def object_of(body: bytes) -> dict[str, object]:
@@ -161,7 +162,7 @@ def object_of(body: bytes) -> dict[str, object]:
     except (ValueError, RecursionError):
         found = None
     if not isinstance(found, dict):
-        raise Fault("a call is an object in JSON")
+        raise Fault(Code.NO_CALL)
     return found
 
 
@@ -170,6 +171,6 @@ def once_each(pairs: list[tuple[str, object]]) -> dict[str, object]:
     found: dict[str, object] = {}
     for name, value in pairs:
         if name in found:
-            raise Fault(f"the call has its field {shown(name)} twice")
+            raise Fault(Code.FIELD_TWICE, name=shown(name))
         found[name] = value
     return found

@@ -2,7 +2,6 @@
 `OPENED.is_proved` says which it is. Rounds are always those of the definitions. Once the programs are built, those
 of the colouring have to be what `forestplay rounds` writes; no other answers are compared here. A program in a file is
 always judged by the definitions."""
-import re
 
 from lab.definitions.colours import plan_text
 from lab.definitions.machine import Refused, entry_words, make
@@ -10,11 +9,14 @@ from lab.definitions.nodes import alpha_start
 from lab.definitions.program import Program
 from lab.definitions.programs import program_words
 from lab.definitions.rounds import Rounds
-from lab.faults import Fault
+from lab.fault_codes import Code
+from lab.faults import Fault, InText
 from lab.network import Network
 from lab.networks.plan_text import clashes
+from lab.networks.verdicts import Verdict, parsed_verdict, states_of
 from lab.pictures.program_rounds import is_own
 from lab.programs import called
+from lab.sentences import WORDS
 from lab.studio.asked import OPENED
 from lab.studio.answers import Judged, Replayed
 from lab.transcripts.check import whole_run
@@ -29,14 +31,16 @@ def said_by(name: str, words: list[str], *texts: str) -> tuple[int, str, str]:
     """(status, output, what is said on standard error) of a program, as texts."""
     done = called(name, words, "".join(texts).encode())
     if len(done.stdout) > MOST_TEXT:
-        raise Fault(f"{name} wrote {len(done.stdout):,} bytes, more than a page can show")
+        raise Fault(Code.OUTPUT_TOO_LONG, name=name, bytes_written=len(done.stdout))
     return done.returncode, done.stdout.decode(), done.stderr.decode().strip()
 
 
 def text_from(name: str, words: list[str], network_text: str) -> str:
     status, output, said = said_by(name, words, network_text)
     if status:
-        raise Fault(said or f"{name} ended with status {status}")
+        if said:
+            raise Fault(Code.PROGRAM_REFUSES, why=said)
+        raise Fault(Code.PROGRAM_ENDED, name=name, status=status)
     return output
 
 
@@ -51,26 +55,31 @@ def rounds_of(network: Network, text: str) -> Rounds:
     """The rounds of the colouring, which those of the proved program have to be."""
     rounds = Rounds(network)
     if OPENED.is_proved and text_from("forestplay", ["rounds"], text) != as_text(rounds.lines()):
-        raise Fault("the rounds of forestplay aren't those of the definitions")
+        raise Fault(Code.OTHER_ROUNDS)
     return rounds
 
 
-def verdict_on(network: Network, text: str, plan: dict[int, int]) -> str:
-    """What `check` says of a plan {vertex: channel}, as `proper 3` or `C4 vertices 1 2`."""
+def verdict_on(network: Network, text: str, plan: dict[int, int]) -> Verdict:
+    """What `check` finds of a plan {vertex: channel}."""
     if OPENED.is_proved:
         lines = as_text(["plan", *(f"{v} {channel}" for v, channel in plan.items())])
         status, output, said = said_by("forestplan", ["check"], text, lines)
-        return output.strip() if status == 0 else said.removeprefix("forestplan: ")
+        verdict = parsed_verdict(said if status else output.strip())
+        if verdict is None:
+            raise Fault(Code.PROGRAM_REFUSES, why=said)
+        return verdict
     for v, channel in plan.items():
         if channel > network.channels:
-            return f"C5 vertex {v}"
+            return Verdict("C5", "vertex", (v,))
         if channel in network.bars.get(v, ()):
-            return f"C8 vertex {v}"
+            return Verdict("C8", "vertex", (v,))
     blank = [v for v in network.vertices if v not in plan]
     if blank:
-        return f"C1 vertex {blank[0]}"
+        return Verdict("C1", "vertex", (blank[0],))
     same = sorted(clashes(network, plan))
-    return f"C4 vertices {same[0][0]} {same[0][1]}" if same else f"proper {max(plan.values())}"
+    if same:
+        return Verdict("C4", "vertices", same[0])
+    return Verdict(of="channels", numbers=(max(plan.values()),))
 
 
 def by_definitions(network: Network, text: str, program: Program) -> tuple[str, int | None]:
@@ -81,13 +90,19 @@ def by_definitions(network: Network, text: str, program: Program) -> tuple[str, 
         return str(fault), fault.line
 
 
-def judged(network: Network, network_text: str, text: str, program: Program) -> Judged:
-    """What is said of a whole transcript."""
+def judged(
+    network: Network, network_text: str, text: str, program: Program, before: int = 0
+) -> Judged:
+    """What is said of a whole transcript. The machine counts lines from the network's first one; here they count after
+    `before` others."""
     entries = max(0, text.count("\n") - 1)
     if not OPENED.is_proved or is_own(program):
         said, line = by_definitions(network, text, program)
         return Judged(ok=line is None, said=said, by=PYTHON, entries=entries)
     status, output, said = replayed(network_text, text, program)
+    verdict = parsed_verdict(said)
+    if verdict is not None and before:
+        said = verdict.after(before).line
     return Judged(ok=status == 0, said=said or output, by=MACHINE, entries=entries)
 
 
@@ -104,10 +119,14 @@ def beginning_judged(
     text = as_text([f"transcript 1 {network.nodes}", *entries])
     if OPENED.is_proved and not is_own(program):
         status, output, said = replayed(network_text, text, program)
-        at = [int(found.group(1)) for found in re.finditer(r"^node \d+ pulse (\d+)", output, re.M)]
-        flying = len(re.findall(r"\b(?:payload|ack|safe|close)\b", output))
+        states = states_of(output)
         return Replayed(
-            ok=status == 0, said=said, by=MACHINE, entries=len(entries), pulses=at, wires=flying
+            ok=status == 0,
+            said=said,
+            by=MACHINE,
+            entries=len(entries),
+            pulses=states.pulses,
+            wires=states.wires,
         )
     state, said = alpha_start(network, program), ""
     try:
@@ -115,10 +134,13 @@ def beginning_judged(
             try:
                 make(state, entry)
             except Refused as refused:
-                raise WrongEntry(
-                    entry.line, str(refused), entry_words(state, entry, refused)[2:]
+                raise Fault(
+                    Code.ENTRY_REFUSED,
+                    InText("", entry.line),
+                    word=WORDS[refused.code],
+                    what=entry_words(state, entry, refused)[2:],
                 ) from None
-    except WrongEntry as fault:
+    except Fault as fault:
         said = str(fault)
     return Replayed(
         ok=not said,

@@ -2,6 +2,7 @@
 from collections.abc import Iterator
 from functools import partial
 
+from lab.fault_codes import Code
 from lab.faults import Fault
 from lab.networks.fields import shown
 from lab.studio.address import program_named
@@ -31,14 +32,14 @@ def judged_link(link: str) -> str:
     """What is said of a link."""
     host, mark, place = link.partition("#")
     if not mark:
-        raise Fault(f"`{shown(host)}` has no #, after which an address says what it shows")
+        raise Fault(Code.NO_ADDRESS, host=shown(host))
     opened = opened_by(place)
     opened.address.refuse()
     values = opened.address.values
     if values.dare is None:
-        raise Fault("it has no dare")
+        raise Fault(Code.NO_DARE_IN_ADDRESS)
     if opened.text is None:
-        raise Fault("it has no network")
+        raise Fault(Code.NO_NETWORK_IN_ADDRESS)
     asked = OfProgram(network=opened.text, program=program_named(values))
     network = network_asked(asked)
     rules = tuple(values.without.split(",")) if values.without else ()

@@ -7,7 +7,8 @@ from math import isqrt, prod
 from typing import NoReturn
 
 from lab.definitions.programs import MAX_PASSES, PROGRAMS
-from lab.faults import Fault
+from lab.fault_codes import Code
+from lab.faults import Fault, InText
 from lab.network import Network
 from lab.networks.kinds import KINDS
 from lab.networks.network_text import read_network, stem
@@ -61,7 +62,7 @@ def shown(network: Network) -> Net:
     """A network as the page has it."""
     if network.nodes > MOST_DRAWN:
         raise Fault(
-            f"{network.name}: the studio draws at most {MOST_DRAWN} nodes, and here are {network.nodes}"
+            Code.TOO_MANY_TO_DRAW, InText(network.name), most=MOST_DRAWN, nodes=network.nodes
         )
     return net_of(network)
 
@@ -95,7 +96,7 @@ def said_of(rules: dict[str, Rule]) -> dict[str, RuleSaid]:
 
 def example_text(name: str) -> str:
     if name + ".col" not in os.listdir(EXAMPLES):
-        raise Fault(f"there is no example {name}")
+        raise Fault(Code.NO_EXAMPLE, name=name)
     with open(os.path.join(EXAMPLES, name + ".col"), encoding="utf-8") as file:
         return file.read()
 
@@ -120,7 +121,7 @@ def opened_by(place: str, before: Here = Here()) -> Place:
     pairs = place_opened(pairs)
     text = network = None
     if "example" in pairs and "net" in pairs:
-        raise Fault("the address has an example and a network: one of them")
+        raise Fault(Code.EXAMPLE_AND_NETWORK)
     if "example" in pairs:
         text = example_text(pairs["example"])
         network = shown(read_network(text, pairs["example"]))
@@ -128,7 +129,7 @@ def opened_by(place: str, before: Here = Here()) -> Place:
         drawn = drawn_of(pairs["net"])
         text, network = drawn.text(), drawn.for_page()
     elif {"example", "net"} & set(unread):
-        raise Fault("the address has two networks: one of them")
+        raise Fault(Code.TWO_NETWORKS)
     here = before if network is None else here_of(network)
     return Place(read_values(pairs, unread, here), text, network)
 
@@ -165,14 +166,14 @@ def file_read(call: ReadCall, _tell: Tell) -> FileRead | FileUnsaid:
 def check_text(data: bytes, name: str) -> None:
     """Refuses what is no text, as a picture: of it nothing is asked."""
     if b"\0" in data and not data.startswith(tuple(BY_MARK)) and not data.startswith(COMPRESSED):
-        raise Fault(f"{name}: this is no text, so no network can be read from it")
+        raise Fault(Code.NO_TEXT_OF_NETWORK, InText(name))
 
 
 class Options(ArgumentParser):
     """A parser that ends no process."""
 
     def error(self, message: str) -> NoReturn:
-        raise Fault(message)
+        raise Fault(Code.OPTIONS_REFUSED, why=message)
 
 
 def command_line() -> Options:
@@ -185,7 +186,7 @@ def command_line() -> Options:
 
 def whole_number(said: str, name: str) -> int:
     if not re.fullmatch("[0-9]{1,9}", said):
-        raise Fault(f"{name}: a whole number from 0 to 999,999,999 is asked for")
+        raise Fault(Code.NUMBER_ASKED_FOR, InText(name))
     return int(said)
 
 
@@ -194,7 +195,7 @@ def make(call: MakeCall, _tell: Tell) -> Net:
     sizes = [whole_number(call.sizes.get(size, ""), size) for size in KINDS[kind].sizes]
     nodes = sizes[0] if kind == "random" else prod(sizes)
     if nodes > MOST_DRAWN:
-        raise Fault(f"the studio draws at most {MOST_DRAWN} nodes")
+        raise Fault(Code.TOO_MANY_TO_MAKE, most=MOST_DRAWN)
     seed = [whole_number(call.seed, "seed")] if KINDS[kind].is_by_chance else []
     more: list[float] = [REACH, *seed] if kind == "disk" else [*seed]
     network = read_network(text_of(KINDS[kind].make(*sizes, *more)), kind)

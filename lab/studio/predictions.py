@@ -2,6 +2,7 @@
 definitions find and why."""
 from lab.definitions.nodes import COLOURING
 from lab.definitions.rounds import Rounds, SEED
+from lab.fault_codes import Code
 from lab.faults import Fault
 from lab.pictures.player_page import SAY
 from lab.pictures.program_rounds import ProgramRounds
@@ -35,7 +36,7 @@ def predict(call: PredictCall, _tell: Tell) -> Predicted:
     program = program_asked(call, network)
     v, pulse, last = vertex_asked(call, network), call.pulse, program.last_pulse(network)
     if not 1 <= pulse <= last:
-        raise Fault(f"the field pulse: there is no pulse {pulse}, only 1 to {last}")
+        raise Fault(Code.NO_PULSE, pulse=pulse, last=last)
     if program == COLOURING:
         found, why = of_colouring(Rounds(network), v, pulse, call.forest)
     else:
@@ -53,9 +54,9 @@ def of_colouring(rounds: Rounds, v: int, pulse: int, forest: int) -> tuple[str, 
     if now.step:
         return of_merge(rounds, v, pulse, now.step[0])
     if pulse < SEED or not rounds.forests:
-        raise Fault("no node has a colour yet: go on to pulse 1")
+        raise Fault(Code.NO_COLOUR_YET)
     if forest not in range(rounds.forests):
-        raise Fault(f"the field forest: there is no forest {forest}")
+        raise Fault(Code.NO_FOREST_OF_FIELD, forest=forest)
     causes = Cone(rounds, v).causes_of_colour(v, forest, pulse)
     is_root = (v, forest) not in rounds.parents
     why = OF_ROOT if is_root and now.phase == "step" else SAY[now.phase].format(9 - pulse // 2)

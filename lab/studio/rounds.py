@@ -1,11 +1,11 @@
 """The calls on plans and rounds: the plan, its verdict, the rounds pulse by pulse, why a node has its channel, what
 goes wrong without a rule, and pictures."""
-import re
 
 from lab.definitions.nodes import COLOURING, last_pulse
 from lab.definitions.rounds import Rounds
+from lab.fault_codes import Code
 from lab.faults import Fault
-from lab.networks.codes import code_of
+from lab.networks.codes import told_of
 from lab.networks.plan_text import read_plan
 from lab.pictures import broken_picture, player_page, why_picture
 from lab.pictures.page_data import RoundsFound
@@ -48,19 +48,19 @@ def check(call: CheckCall, _tell: Tell) -> GoodPlan | BadPlan:
     """The verdict on a plan, whoever made it, and what its code means."""
     network = network_asked(call)
     if len(call.plan) > network.nodes or min(call.plan, default=0) < 0:
-        raise Fault(f"the field plan: a channel from 0 on is asked for of {network.nodes} nodes")
+        raise Fault(Code.PLAN_OF_FIELD, nodes=network.nodes)
     channels = {v: channel for v, channel in zip(network.vertices, call.plan) if channel}
-    said = verdict_on(network, call.network, channels)
-    if said.startswith("proper"):
-        return GoodPlan(said, [])
-    found = code_of(said)
+    verdict = verdict_on(network, call.network, channels)
+    if not verdict.code:
+        return GoodPlan(verdict.short, [], verdict.numbers[0])
+    place = f"{verdict.of} {' and '.join(map(str, verdict.numbers))}" if verdict.of else ""
+    found = told_of(verdict.code, place)
     if found is None:
-        raise Fault(said)
-    at = [int(n) for n in re.findall(r"\d+", said.partition(" ")[2])]
+        raise Fault(Code.PROGRAM_REFUSES, why=verdict.line)
     return BadPlan(
-        said=said,
+        said=verdict.short,
         code=found.name,
-        at=at if found.name != "C6" else [],
+        at=verdict.vertices,
         words=of_nodes(found.what),
         do=of_nodes(found.do),
     )
@@ -107,7 +107,7 @@ def broken(call: BrokenCall, _tell: Tell) -> Broken:
     program = program_asked(call, network)
     without = rules_asked(call, OF_PROGRAMS.get(program.name, {}))
     if not without:
-        raise Fault("which rule is left out?")
+        raise Fault(Code.NO_RULE_LEFT_OUT)
     here = ruled(program, network, without)
     if here.clash is not None:
         picture_here = broken_picture.draw(network, without, program)
@@ -128,20 +128,17 @@ def picture(call: PictureCall, _tell: Tell) -> str:
     most = KINDS_OF_PICTURES[call.kind].most
     if most and network.nodes > most[0]:
         # What a command line is told to use instead isn't on the page.
-        raise Fault(
-            f"the picture {call.kind} has room for at most {most[0]} nodes, and this network has {network.nodes}: "
-            "the pictures plan and results have room for them"
-        )
+        raise Fault(Code.PICTURE_TOO_LARGE, kind=call.kind, most=most[0], nodes=network.nodes)
     if call.kind == "plan":
         texts = [Text("the plan", plan_of(network, call.network))]
     if call.kind == "run":
         if call.transcript is None:
-            raise Fault("the call lacks its field transcript: a picture of a run is of one")
+            raise Fault(Code.NO_TRANSCRIPT_OF_FIELD)
         texts = [Text("the run", call.transcript)]
     if call.vertex is not None:
         vertex_asked(call, network)
     if len(call.pulses) not in (0, 2):
-        raise Fault("the field pulses: the first and the last one are asked for, or none")
+        raise Fault(Code.NO_TWO_PULSES)
     return drawing(
         call.kind,
         Source(network, program_asked(call, network), texts, title=network.name),

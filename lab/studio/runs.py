@@ -9,6 +9,7 @@ from lab.definitions.events import Event
 from lab.definitions.nodes import COLOURING
 from lab.definitions.program import Program
 from lab.definitions.programs import program_words
+from lab.fault_codes import Code
 from lab.faults import Fault
 from lab.network import Network
 from lab.pictures.program_rounds import is_own, least_wires, rounds_of
@@ -46,7 +47,7 @@ def held_of(held: Held, net: Network) -> tuple[set[tuple[int, int]], set[int]]:
     slow = {(min(edge), max(edge)) for edge in held.slow}
     lazy = set(held.lazy)
     if not slow <= set(net.edges) or not lazy <= set(net.neighbours):
-        raise Fault("the fields slow, lazy: a link or a node that waits isn't in this network")
+        raise Fault(Code.NOT_IN_NETWORK)
     return slow, lazy
 
 
@@ -54,16 +55,10 @@ def played(call: RunCall, network: Network, program: Program, tell: Tell) -> tup
     """(transcript, run) by a seed, which no thread made; steps of somebody's may come first."""
     most = least_wires(network, program)
     if most > MOST_WIRES_PLAYED:
-        raise Fault(
-            f"a run of this network has more than {most:,} messages, and Python plays at most {MOST_WIRES_PLAYED:,}: "
-            + (
-                "take the threads, which are quick"
-                if OPENED.is_proved
-                else "open a smaller example, or build the proved programs, whose threads are quick"
-            )
-        )
+        code = Code.RUN_TOO_LONG if OPENED.is_proved else Code.RUN_TOO_LONG_UNBUILT
+        raise Fault(code, wires=most, most=MOST_WIRES_PLAYED)
     if call.policy is None:
-        raise Fault("the call lacks its field policy: a run by a seed has one")
+        raise Fault(Code.NO_POLICY)
     policy = Policy(
         call.policy, network.vertices, network.edges, call.seed, *held_of(call, network)
     )
@@ -102,7 +97,7 @@ def run_part(found: Run) -> RunPart:
 
 def by_threads(call: RunCall, program: Program) -> str:
     if not OPENED.is_proved:
-        raise Fault("threads run the proved programs, which aren't built yet: take a run by a seed")
+        raise Fault(Code.NO_THREADS)
     name = "forestplan" if program == COLOURING else "forestplay"
     words = (
         ["transcript"] if program == COLOURING else ["run", "--transcript", *program_words(program)]
@@ -189,16 +184,10 @@ def judge(call: JudgeCall, _tell: Tell) -> JudgedText:
     """What is said of a transcript, whoever wrote it: in words by the definitions, and by the proved machine."""
     network, text = network_asked(call, MOST_DRAWN), call.transcript
     program = program_asked(call, network)
-    proved = judged(network, call.network, text, program) if OPENED.is_proved else None
+    before = call.network.count("\n") + 1
+    proved = judged(network, call.network, text, program, before) if OPENED.is_proved else None
     said, line = by_definitions(network, text, program)
-    return JudgedText(
-        ok=line is None,
-        said=said,
-        line=line,
-        by=PYTHON,
-        proved=proved,
-        before=call.network.count("\n") + 1,
-    )
+    return JudgedText(ok=line is None, said=said, line=line, by=PYTHON, proved=proved)
 
 
 def follow(player: Stepwise, call: StepsCall, held: tuple[set[tuple[int, int]], set[int]]) -> None:
@@ -208,7 +197,7 @@ def follow(player: Stepwise, call: StepsCall, held: tuple[set[tuple[int, int]], 
     else:
         player.follow(call.steps.split("_"))
     if len(player.chosen) > MOST_STEPS:
-        raise Fault(f"at most {MOST_STEPS:,} steps are made by hand; No clock plays the rest")
+        raise Fault(Code.TOO_MANY_STEPS_BY_HAND, most=MOST_STEPS)
     if call.by:
         player.by_chance(min(call.by, MOST_BY_CHANCE), call.seed, *held)
     if call.in_step:

@@ -9,7 +9,8 @@ from argparse import Namespace
 from collections.abc import Iterable
 
 from lab.definitions.programs import PROGRAMS, program_at
-from lab.faults import Fault
+from lab.fault_codes import Code
+from lab.faults import Fault, InText
 from lab.network import Network
 from lab.networks.sources import network_bytes
 from lab.networks.options import commands_for
@@ -87,7 +88,7 @@ def own_programs(files: Iterable[str]) -> dict[str, str]:
     for file in files:
         program = program_at(file)
         if not file.endswith(".py") or program.name in found or program.name in PROGRAMS:
-            raise Fault(f"{file}: a file of your own, as NAME.py, of another name than the others")
+            raise Fault(Code.OWN_FILE, InText(file))
         found[program.name] = file
     return found
 
@@ -98,9 +99,9 @@ def server_at(port: int | None, folder: str) -> Server:
         try:
             return Server(at, secrets.token_urlsafe(24), folder)
         except OSError as why:
-            refused = Fault(f"port {at}: {why.strerror}")
+            refused = Fault(Code.PORT_REFUSED, port=at, why=why.strerror)
         except OverflowError:
-            refused = Fault(f"there is no port {at}")
+            refused = Fault(Code.NO_PORT, port=at)
     raise refused
 
 
@@ -128,9 +129,7 @@ def opened(path: str) -> Network:
         form = form_read(path, Stated())
         return read_any(network_bytes(path), text_name(path), form, Stated())[0]
     except Unsaid as why:
-        raise Fault(
-            commands_for(why, ["network", "read"], [path], " | forestlab studio -")
-        ) from None
+        raise commands_for(why, ["network", "read"], [path], " | forestlab studio -") from None
 
 
 def main(words: list[str]) -> int:

@@ -12,6 +12,7 @@ from lab.definitions.nodes import COLOURING
 from lab.definitions.own_program import what_is_wrong
 from lab.definitions.program import Program
 from lab.definitions.reacting import AnyProgram, Reacting, results_in, start_of
+from lab.fault_codes import Code
 from lab.network import Network
 from lab.transcripts.fields import fields_of
 from lab.transcripts.reading import Head, WrongEntry, read_to_fault
@@ -28,7 +29,7 @@ class Found:
         self.state, self.clock = start_of(net, program), Clock(net.neighbours)
         self.made: list[Entry] = []
         self.left: dict[int, deque[Entry]] = {}
-        self.refusals: dict[int, str] = {}
+        self.refusals: dict[int, Code] = {}
         for entry in entries:
             self.left.setdefault(entry.node, deque()).append(entry)
 
@@ -38,14 +39,14 @@ class Found:
         try:
             make(self.state, entry)
         except Refused as refused:
-            self.refusals[v] = str(refused)
+            self.refusals[v] = refused.code
             return
         stamp = self.clock.next(entry.kind, v, entry.neighbour)
         last = self.made[-1] if self.made else entry
         if not self.is_stamped:
             entry = replace(entry, stamp=stamp)
         elif entry.stamp != stamp or (last.stamp or 0, last.node) > (stamp, v):
-            self.refusals[v] = "WrongStamp"
+            self.refusals[v] = Code.WRONG_STAMP
             return
         self.left[v].popleft()
         self.made.append(entry)
@@ -64,7 +65,7 @@ class Found:
 
     def waits(self, entry: Entry) -> bool:
         """Whether others could still make it possible."""
-        return self.refusals[entry.node] == "LinkEmpty" and not self.is_stamped
+        return self.refusals[entry.node] is Code.LINK_EMPTY and not self.is_stamped
 
     def wrong(self, fault: WrongEntry | None = None) -> WrongEntry | None:
         """What is wrong first, if something is: `fault` is that of a line after the entries, which comes before an
@@ -106,7 +107,7 @@ def find_order(net: Network, entries: list[Entry], program: AnyProgram = COLOURI
             entry = left[v][0]
             found.make_next(v)
             w = entry.neighbour
-            if w is None or entry.kind is not PUT or refusals.get(w) != "LinkEmpty":
+            if w is None or entry.kind is not PUT or refusals.get(w) is not Code.LINK_EMPTY:
                 continue
             if left[w][0].neighbour == v:
                 work.append(w)
@@ -116,13 +117,10 @@ def find_order(net: Network, entries: list[Entry], program: AnyProgram = COLOURI
 def check_form(head: Head, program: AnyProgram) -> None:
     """Refuses a transcript of rounds for a program without rounds, and the other way round."""
     if isinstance(program, Reacting) and head.own is not ACT:
-        what = f"edition {head.edition} is of rounds, and the nodes of {program.name} react to messages: edition 4"
-        raise WrongEntry(head.line, "WrongProgram", what)
+        names = {"edition": head.edition, "program": program.name}
+        raise WrongEntry(head.line, Code.EDITION_OF_ROUNDS, **names)
     if isinstance(program, Program) and head.own is ACT:
-        what = (
-            f"edition 4 is of nodes that react to messages, and those of {program.name} make rounds"
-        )
-        raise WrongEntry(head.line, "WrongProgram", what)
+        raise WrongEntry(head.line, Code.EDITION_OF_REACTIONS, program=program.name)
 
 
 def whole_run(net: Network, text: bytes, program: AnyProgram = COLOURING) -> tuple[list[int], str]:
@@ -131,9 +129,7 @@ def whole_run(net: Network, text: bytes, program: AnyProgram = COLOURING) -> tup
     head, entries, fault = read_to_fault(text, program.name)
     check_form(head, program)
     if head.nodes != net.nodes:
-        raise WrongEntry(
-            head.line, "Nodes", f"the transcript has {head.nodes} nodes, the network {net.nodes}"
-        )
+        raise WrongEntry(head.line, Code.NODES, nodes=head.nodes, of_network=net.nodes)
     found = find_order(net, entries, program)
     if wrong := found.wrong(fault):
         raise wrong
@@ -147,7 +143,7 @@ def whole_run(net: Network, text: bytes, program: AnyProgram = COLOURING) -> tup
 
 def not_right(said: str, why: str) -> WrongEntry:
     """Of a whole run whose end the file of the program doesn't call right."""
-    return WrongEntry(None, "NotRight", f"{said}, whose nodes find what isn't right: {why}")
+    return WrongEntry(None, Code.NOT_RIGHT, run=said, why=why)
 
 
 def verdict(net: Network, entries: list[Entry], head: Head) -> str:

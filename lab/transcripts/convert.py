@@ -5,6 +5,7 @@ from collections.abc import Iterator
 from dataclasses import replace
 
 from lab.definitions.events import ACT, PULSE, PUT, TAKE, Entry, Message
+from lab.fault_codes import Code
 from lab.transcripts.fields import NoEntry, first_line, wire_of
 from lab.transcripts.reading import Head, WrongEntry, line_of, read
 
@@ -15,11 +16,7 @@ def entries_of(text: bytes) -> tuple[Head, Made]:
     """The first line; and (entry, the entry of its put if it is a take), in the order of the text."""
     head, entries = read(text, None)
     if not head.is_stamped:
-        raise WrongEntry(
-            head.line,
-            "X1",
-            "edition 1 has no order of all entries: only later editions are written in other forms",
-        )
+        raise WrongEntry(head.line, Code.NO_ORDER_OF_ENTRIES)
     links: dict[tuple[int | None, int | None], deque[Entry]] = {}
     found = []
     for entry in entries:
@@ -29,11 +26,8 @@ def entries_of(text: bytes) -> tuple[Head, Made]:
         elif entry.kind is TAKE:
             link = links.get((entry.neighbour, entry.node))
             if not link:
-                raise WrongEntry(
-                    entry.line,
-                    "LinkEmpty",
-                    f"node {entry.node} takes what {entry.neighbour} hasn't put",
-                )
+                names = {"node": entry.node, "neighbour": entry.neighbour}
+                raise WrongEntry(entry.line, Code.TAKEN_BEFORE_PUT, **names)
             put = link.popleft()
         found.append((entry, put))
     return head, found
@@ -93,19 +87,13 @@ def as_rounds(head: Head, entries: Made, program: str) -> Iterator[str]:
     """A run of nodes that react as the synchroniser does, edition 4, as a run of the rounds of a program that has a
     name: its acts are pulses, and its messages have to be wires of that program."""
     if head.own is not ACT:
-        raise WrongEntry(
-            head.line,
-            "X1",
-            f"edition {head.edition} has pulses already: only edition 4 is written as rounds",
-        )
+        raise WrongEntry(head.line, Code.HAS_PULSES, edition=head.edition)
     yield first_line(head.nodes, program)
     for entry, _ in entries:
         if isinstance(entry.what, Message):
             try:
                 wire_of(program, *str(entry.what).encode().split())
             except NoEntry as why:
-                raise WrongEntry(
-                    entry.line, "X1", f"not a wire of the synchroniser: {why}"
-                ) from None
+                raise WrongEntry(entry.line, Code.NO_WIRE_OF_SYNCHRONISER, why=why) from None
         own = replace(entry, kind=PULSE) if entry.kind is ACT else entry
         yield f"{entry.stamp} {line_of(own)}"

@@ -2,6 +2,8 @@
 import functools
 
 from lab.definitions.events import CLOSE, Message, ack, safe
+from lab.fault_codes import Code
+from lab.faults import Fault
 
 # The words of the payloads of each proved program, and the bound of each one's number; those that go on after the
 # colouring have its words, too. Another program's payloads have any word of small letters.
@@ -15,15 +17,14 @@ PAYLOADS = {
     "recolouring": OF_COLOURING | {b"anew": 2**16},
 }
 COLOURING = "colouring"
-WIRES = "`payload P WORD NUMBER`, `ack P`, `safe P` and `close`"
 
 
 # No number has more; a longer one takes quadratic time to read.
 MOST_DIGITS = len(str(2**128))
 
 
-class NoEntry(ValueError):
-    """Why a line isn't an entry, in words."""
+class NoEntry(Fault):
+    """Why a line isn't an entry."""
 
 
 def fields_of(line: bytes) -> list[bytes]:
@@ -61,18 +62,21 @@ def bound_of(program: str, word: bytes) -> int:
     if word in words or is_small_word(word) and not words:
         return words.get(word, 2**128)
     others = " or ".join(name for name, has in PAYLOADS.items() if word in has)
-    has = f", which has {b', '.join(words).decode()}" if words else ""
-    asked = f"; is it a run of {others}? See --program" if others else ""
-    raise NoEntry(f"{field_words(word)} is no payload of {program}{has}{asked}")
+    raise NoEntry(
+        Code.NO_PAYLOAD_OF,
+        word=field_words(word),
+        program=program,
+        has=b", ".join(words).decode(),
+        others=others,
+    )
 
 
 @functools.lru_cache(maxsize=2**16)
 def number(field: bytes, what: str, bound: int = 2**32) -> int:
     digits = field.lstrip(b"0") or field[-1:]
     if not digits.isdigit() or len(digits) > MOST_DIGITS or int(digits) >= bound:
-        raise NoEntry(
-            f"{field_words(field)} is no number of a {what}, which is below 2^{bound.bit_length() - 1}"
-        )
+        bits = bound.bit_length() - 1
+        raise NoEntry(Code.NO_NUMBER_OF, word=field_words(field), what=what, bits=bits)
     return int(digits)
 
 
@@ -90,14 +94,14 @@ def wire_of(program: str, *fields: bytes) -> Message:
             return safe(number(pulse, "pulse"))
         case [b"close"]:
             return CLOSE
-    raise NoEntry(f"{field_words(b' '.join(fields))} is no wire, which are {WIRES}")
+    raise NoEntry(Code.NO_WIRE, words=field_words(b" ".join(fields)))
 
 
 @functools.lru_cache(maxsize=2**16)
 def message_of(*fields: bytes) -> Message:
     """A message of nodes that react: a word, and then numbers or words."""
     if not is_small_word(fields[0]):
-        raise NoEntry(f"{field_words(fields[0])} is no word that a message begins with")
+        raise NoEntry(Code.NO_WORD_TO_BEGIN, word=field_words(fields[0]))
     return Message(
         fields[0].decode(),
         tuple(

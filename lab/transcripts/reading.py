@@ -3,7 +3,9 @@ import contextlib
 from typing import NamedTuple
 
 from lab.definitions.events import ACT, PULSE, PUT, TAKE, Entry, Kind
-from lab.faults import Fault
+from lab.fault_codes import Code
+from lab.faults import Fault, InText
+from lab.sentences import WORDS, sentence_of, sentence_of_entry
 from lab.transcripts.fields import (
     COLOURING,
     NoEntry,
@@ -40,16 +42,22 @@ class Head(NamedTuple):
 
 
 class WrongEntry(Fault):
-    """Why a text isn't the transcript of a whole run that is right: its `line`, if it is one line's fault, the `code`
-    of the refusal, and `what` is wrong."""
+    """Why a text isn't the transcript of a whole run that is right: its `line`, if it is one line's fault, and the word
+    of docs/claim/FORMATS.md for it."""
 
-    def __init__(self, line: int | None, code: str, what: str) -> None:
-        super().__init__(line, code, what)
-        self.line, self.code, self.what = line, code, what
+    def __init__(self, line: int | None, code: Code, **subject: object) -> None:
+        super().__init__(code, None if line is None else InText("", line), **subject)
+        self.line = line
+        self.word = WORDS[code]
+
+    def words(self) -> str:
+        """What is wrong, without its line and its word."""
+        return sentence_of(self.code, "", self.subject)
 
     def __str__(self) -> str:
-        where = "" if self.line is None else f"line {self.line}: "
-        return f"{where}{self.code}: {self.what}"
+        return sentence_of_entry(
+            self.code, "" if self.place is None else str(self.place), self.subject
+        )
 
 
 def entry_of(line: int, fields: list[bytes], program: str, head: Head) -> Entry:
@@ -65,11 +73,9 @@ def entry_of(line: int, fields: list[bytes], program: str, head: Head) -> Entry:
             v, w = number(vertex, "node"), number(neighbour, "neighbour")
             wire = message_of(*of_wire) if head.own is ACT else wire_of(program, *of_wire)
             return Entry(line, v, OF_WIRES[kind], w, wire, stamp)
-    after = " after its stamp" if head.is_stamped else ""
+    code = Code.NO_ENTRY_AFTER_STAMP if head.is_stamped else Code.NO_KIND_OF_ENTRY
     step_words, what = ("act K", "MESSAGE") if head.own is ACT else ("pulse P", "WIRE")
-    raise NoEntry(
-        f"{field_words(b' '.join(own))}{after} is neither `V {step_words}`, `V put W {what}` nor `V take W {what}`"
-    )
+    raise NoEntry(code, words=field_words(b" ".join(own)), step=step_words, what=what)
 
 
 def read(text: bytes, program: str | None = COLOURING) -> tuple[Head, list[Entry]]:
@@ -93,8 +99,8 @@ def read_to_fault(
             if fields := fields_of(raw):
                 entries.append(entry_of(line, fields, program, head))
         except NoEntry as why:
-            cut = ", and no line feed after it (is the text cut?)" if line == len(lines) else ""
-            return head, entries, WrongEntry(line, "X1", f"not an entry: {why}{cut}")
+            code = Code.NO_ENTRY_AT_END if line == len(lines) else Code.NO_ENTRY
+            return head, entries, WrongEntry(line, code, why=why)
     return head, entries, None
 
 
@@ -106,20 +112,14 @@ def head_of(lines: list[bytes], program: str | None) -> Head:
         named = fields[2].decode("latin-1")
     is_name = name_in_texts(named) == named and named != ""
     if is_name and program is not None and named != name_in_texts(program):
-        raise WrongEntry(
-            line, "WrongProgram", f"a transcript of {named}, not of {program}: --program {named}"
-        )
+        raise WrongEntry(line, Code.WRONG_PROGRAM, named=named, program=program)
     with contextlib.suppress(NoEntry):
         match fields:
             case [b"transcript", b"1" | b"2" as edition, nodes]:
                 return Head(line, int(edition), number(nodes, "node"))
             case [b"transcript", b"3" | b"4" as edition, _, nodes] if is_name:
                 return Head(line, int(edition), number(nodes, "node"), named)
-    what = (
-        "neither `transcript 1 N`, `transcript 2 N`, `transcript 3 NAME N` nor `transcript 4 NAME N`"
-        f"{advice(fields[0])}"
-    )
-    raise WrongEntry(line, "X1", what)
+    raise WrongEntry(line, code_of_head(fields[0]))
 
 
 def first_with_fields(lines: list[bytes]) -> tuple[int, list[bytes]]:
@@ -130,13 +130,12 @@ def first_with_fields(lines: list[bytes]) -> tuple[int, list[bytes]]:
     return 1, [b""]
 
 
-def advice(field: bytes) -> str:
-    """What to do about a text whose first field this is."""
+def code_of_head(field: bytes) -> Code:
+    """What is wrong with a text that begins with this field, which begins no transcript."""
     if field in NETWORK:
-        return "; this is a network: it is a file of its own, named before the transcript"
-    if not field.isascii() or b"\0" in field:
-        return "; save it as UTF-8 without a byte order mark"
-    return ""
+        return Code.NETWORK_AND_NO_TRANSCRIPT
+    is_text = field.isascii() and b"\0" not in field
+    return Code.NO_TRANSCRIPT if is_text else Code.NO_TRANSCRIPT_IN_ENCODING
 
 
 def line_of(entry: Entry) -> str:

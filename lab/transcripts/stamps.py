@@ -5,6 +5,7 @@ from collections.abc import Iterable, Iterator
 from lab.definitions.events import PULSE, PUT, TAKE, Entry, Kind
 from lab.definitions.machine import NetState, Node, event_of, missing_words
 from lab.definitions.nodes import AlphaNode, lacks_of
+from lab.fault_codes import Code
 from lab.transcripts.reading import Head, WrongEntry, words
 from lab.transcripts.rules import Standing, rule_of, stuck_words
 
@@ -34,10 +35,9 @@ def check_whole(state: NetState[Node], last: Entry | Head) -> None:
     if undone := next(unfinished(state), None):
         is_on_its_way = any(state.link.values())
         stand = [(v, at) for v in state.nodes if (at := standing(state, v))]
-        what = (
-            f"{undone[1]} (is the text cut?)" if is_on_its_way or not stand else stuck_words(stand)
-        )
-        raise WrongEntry(last.line, "NotWhole", f"after the last entry {what}")
+        if is_on_its_way or not stand:
+            raise WrongEntry(last.line, Code.NOT_WHOLE, undone=undone[1])
+        raise WrongEntry(last.line, Code.STUCK, owing=stuck_words(stand))
 
 
 def standing(state: NetState[Node], v: int) -> Standing | None:
@@ -51,47 +51,37 @@ def standing(state: NetState[Node], v: int) -> Standing | None:
     return Standing(node.pulse_number, node.last, node.may_act(), *lacks, puts, "for {}")
 
 
-# What an entry lacks, of the refusals that say no more of it.
-LACKED = {
-    "NoSuch": ", but there is no such node or neighbour",
-    "NothingToPut": ", for which it has nothing",
-}
+# The refusals of a pulse or a put that break a rule.
+OF_RULES = (Code.NOT_READY, Code.NOTHING_TO_PUT, Code.WRONG_WIRE)
 
 
 def refusal(
-    state: NetState[Node], entry: Entry, code: str, entries: list[Entry], clock: Clock
+    state: NetState[Node], entry: Entry, code: Code, entries: list[Entry], clock: Clock
 ) -> WrongEntry:
     """Of an entry that isn't possible: what it lacks or what is due there, and the rule that a pulse or a put
     breaks."""
-    said = words(entry) + LACKED.get(code, "")
-    if code == "NoSuch":
-        return WrongEntry(entry.line, code, said)
+    if code is Code.LINK_EMPTY:
+        return why_link_empty(entry, entries)
+    if code is Code.WRONG_STAMP:
+        due = clock.counters[entry.node]
+        code = Code.OUT_OF_ORDER if entry.stamp == due else code
+        return WrongEntry(entry.line, code, entry=words(entry), stamp=entry.stamp, due=due)
+    if code is Code.NO_SUCH:
+        return WrongEntry(entry.line, code, entry=words(entry))
     at = standing(state, entry.node)
-    if code == "NotReady":
-        said += not_ready_words(state, entry, at)
-    elif code == "WrongWire":
-        said += f", but the next one there is {state.carried(event_of(state, entry))}"
-    elif code == "LinkEmpty":
-        said += why_link_empty(entry, entries)
-    elif code == "WrongStamp":
-        due, why = clock.counters[entry.node], "entries ascend by stamp, and then by node"
-        if entry.stamp != due:
-            why = f"the clock there gives {due}"
-        said += f" with stamp {entry.stamp}, but {why}"
-    if at and code in ("NotReady", "NothingToPut", "WrongWire") and entry.kind is not TAKE:
+    if at is None and code is Code.NOT_READY:
+        lacks = missing_words(state, event_of(state, entry))
+        return WrongEntry(entry.line, Code.STEP_NOT_READY, entry=words(entry), lacks=lacks)
+    due_wire = state.carried(event_of(state, entry)) if code is Code.WRONG_WIRE else None
+    rule = ""
+    if at and code in OF_RULES and entry.kind is not TAKE:
         what = "pulse" if entry.kind is PULSE else f"put {entry.neighbour}"
-        said += f"; {rule_of(at, f'{what} {entry.what}', says_lacks=False)}"
-    return WrongEntry(entry.line, code, said)
+        rule = rule_of(at, f"{what} {entry.what}", says_lacks=False)
+    lacks = at.lacks if at else ""
+    return WrongEntry(entry.line, code, entry=words(entry), lacks=lacks, due=due_wire, rule=rule)
 
 
-def not_ready_words(state: NetState[Node], entry: Entry, at: Standing | None) -> str:
-    """What a node's own step lacks that isn't possible."""
-    if at is None:
-        return missing_words(state, event_of(state, entry))
-    return f", but it lacks {at.lacks}" if at.lacks else ""
-
-
-def why_link_empty(entry: Entry, entries: list[Entry]) -> str:
+def why_link_empty(entry: Entry, entries: list[Entry]) -> WrongEntry:
     """Of a wire that isn't there: where it is put, or that it never is."""
     link = entry.neighbour, entry.node
     taken = sum(
@@ -100,8 +90,9 @@ def why_link_empty(entry: Entry, entries: list[Entry]) -> str:
     puts = [e for e in entries if e.kind is PUT and (e.node, e.neighbour) == link][taken:]
     put = next((e for e in puts if e.what == entry.what), None)
     if put:
-        return f"; it is put in line {put.line}, which can't have come before"
-    return f", and {entry.neighbour} never puts it (is the text cut?)"
+        return WrongEntry(entry.line, Code.PUT_LATER, entry=words(entry), put=put.line)
+    never = {"entry": words(entry), "neighbour": entry.neighbour}
+    return WrongEntry(entry.line, Code.LINK_EMPTY, **never)
 
 
 def unfinished(state: NetState[Node]) -> Iterator[tuple[int, str]]:

@@ -9,6 +9,7 @@ from lab.definitions.own_program import wrong_end
 from lab.definitions.program import Program
 from lab.definitions.programs import PROGRAMS, add_program, any_program_asked, program_words
 from lab.definitions.reacting import AnyProgram, Reacting
+from lab.fault_codes import Code
 from lab.faults import Fault
 from lab.network import Network
 from lab.networks.sources import network_bytes
@@ -163,9 +164,7 @@ def command_line() -> ArgumentParser:
 def texts_of(given: Namespace) -> tuple[Network, bytes, bytes, AnyProgram]:
     """The network, the texts of both, and the program of a command line."""
     if given.network == given.transcript == "-":
-        raise Fault(
-            "standard input has one text: name a file for the network or for the transcript"
-        )
+        raise Fault(Code.TWO_STANDARD_INPUTS)
     data = network_bytes(given.network)
     net = network_of(data, text_name(given.network))
     transcript = bytes_at(given.transcript, MOST_OF_TRANSCRIPT)
@@ -185,7 +184,7 @@ def replayed(given: Namespace) -> str:
     """What the proved machine prints of a transcript in the order found."""
     net, network, text, program = texts_of(given)
     if isinstance(program, Reacting) or program.file is not None:
-        raise Fault(f"no proved program runs {program.name}")
+        raise Fault(Code.NO_PROVED_PROGRAM, name=program.name)
     made, _ = whole_run(net, text, program)
     # The network may not end in a line feed.
     return programs.text_of(
@@ -195,7 +194,7 @@ def replayed(given: Namespace) -> str:
 
 def converted(given: Namespace) -> str:
     if (given.form == ROUNDS) != (given.program is not None):
-        raise Fault("--program is for the form rounds, and rounds need it, as `--program leader`")
+        raise Fault(Code.PROGRAM_FOR_ROUNDS)
     head, entries = entries_of(bytes_at(given.transcript, MOST_OF_TRANSCRIPT))
     if given.program is not None:
         return as_text(as_rounds(head, entries, given.program))
@@ -213,7 +212,7 @@ def main(words: list[str]) -> int:
         )
     except WrongEntry as wrong:
         if getattr(given, "json", False):
-            found = {"right": False, "line": wrong.line, "code": wrong.code, "words": wrong.what}
+            found = {"right": False, "line": wrong.line, "code": wrong.word, "words": wrong.words()}
             write(given, json.dumps(found) + "\n")
         else:
             print(wrong, file=sys.stderr)

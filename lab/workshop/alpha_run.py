@@ -5,9 +5,10 @@ from typing import NamedTuple
 
 from lab.definitions.events import Kind
 from lab.networks.texts import plain_text
+from lab.networks.verdicts import Verdict
 from lab.schedules.policies import Policy, Step
 from lab.transcripts.fields import first_line
-from lab.transcripts.proved_judge import Verdict, verdict_of
+from lab.transcripts.proved_judge import verdict_on_run
 from lab.words import as_text
 from lab.workshop.findings import NoAnswer
 from lab.workshop.nodes import PATIENCE, Nodes
@@ -132,4 +133,5 @@ class AlphaRun:
 
     def verdict(self) -> Verdict:
         """What the judge says of it."""
-        return verdict_of(plain_text(self.network), self.text(), words_of(self.rounds.program))
+        words = words_of(self.rounds.program)
+        return verdict_on_run(plain_text(self.network), self.text(), words)

@@ -1,11 +1,11 @@
 """The verdict on a run without a clock, in words: the first wrong entry, a program that gave no answer, a run that is
 stuck, or a wrong result; and what a node knew there and could do, by the ports that it counts with. What it could do
 is asked of the machine."""
-import re
 from dataclasses import dataclass
 
 from lab.networks.texts import plain_text
-from lab.transcripts.proved_judge import Verdict, verdict_of
+from lab.networks.verdicts import Verdict
+from lab.transcripts.proved_judge import verdict_on_run
 from lab.transcripts.rules import Standing, rule_of, rules_of_dues
 from lab.words import as_text
 from lab.workshop.alpha_run import OWN_DATA, AlphaRun, Entry
@@ -27,7 +27,7 @@ MEANINGS = {
 
 def judged(verdict: Verdict) -> str:
     """The judge's own line, and what it means."""
-    meaning = MEANINGS.get(verdict.name)
+    meaning = MEANINGS.get(verdict.code)
     return f"{verdict.line} ({meaning})" if meaning else verdict.line
 
 
@@ -86,23 +86,19 @@ def at_node(rounds: RightRounds, before: list[Entry], v: int) -> At:
     text = as_text([f"transcript 1 {rounds.network.nodes}", *made])
 
     def refusal_of(words: str) -> Verdict:
-        return verdict_of(network, f"{text}{v} {words} {IMPOSSIBLE}\n", words_of(rounds.program))
+        entry = f"{v} {words} {IMPOSSIBLE}\n"
+        return verdict_on_run(network, text + entry, words_of(rounds.program))
 
     def ports_lacked(wire: str) -> list[int]:
         """The ports by which such wires are still to come."""
-        found = re.search(rf"{wire} [0-9]+ of ([0-9, and]+)", of_pulse.words)
-        return [ports[int(w)] for w in re.findall("[0-9]+", found[1])] if found else []
+        return [ports[w] for w in of_pulse.lacked.get(wire, ())]
 
     of_pulse = refusal_of("pulse")
     of_puts = {port: refusal_of(f"put {w} ack") for w, port in ports.items()}
-    can_pulse = of_pulse.name == "WrongWire"
+    can_pulse = of_pulse.code == "WrongWire"
     own = [with_port(rounds, v, words) for _, u, words in before if u == v]
     acks, safes = ([], []) if can_pulse else (ports_lacked("ack"), ports_lacked("safe"))
-    puts = {
-        port: put.words.removeprefix("expected ")
-        for port, put in of_puts.items()
-        if put.name == "WrongWire"
-    }
+    puts = {port: put.expected for port, put in of_puts.items() if put.code == "WrongWire"}
     pulse = sum(words.startswith("pulse") for words in own)
     return At(pulse, rounds.last, can_pulse, acks, safes, puts, "by port {}", rounds, own, v)
 
@@ -122,18 +118,18 @@ def finding_of(run: AlphaRun) -> Finding | None:
         return wrong_entry(run, entries, verdict)
     if run.stop:
         return no_answer(run, entries, *run.stop)
-    return stuck(run, entries, verdict) if verdict.name == "NotWhole" else wrong_result(run)
+    return stuck(run, entries, verdict) if verdict.code == "NotWhole" else wrong_result(run)
 
 
 def wrong_entry(run: AlphaRun, entries: list[Entry], verdict: Verdict) -> Finding:
-    stamp, v, words = entries[verdict.at]
-    at = at_node(run.rounds, entries[: verdict.at], v)
+    stamp, v, words = entries[verdict.entry]
+    at = at_node(run.rounds, entries[: verdict.entry], v)
     own = with_port(run.rounds, v, words)
     neighbour = f" (to node {words.split()[1]})" if words.startswith("put") else ""
     lines = [
         (
             "where",
-            f"node {v} at pulse {at.pulse}, entry {verdict.at + 1} of the run, stamp {stamp}",
+            f"node {v} at pulse {at.pulse}, entry {verdict.entry + 1} of the run, stamp {stamp}",
         ),
         ("wrong", own + neighbour),
         ("right", at.right()),
@@ -141,7 +137,7 @@ def wrong_entry(run: AlphaRun, entries: list[Entry], verdict: Verdict) -> Findin
         *at.hints(),
         ("judge", judged(verdict)),
     ]
-    return Finding(verdict.name, v, at.pulse, lines, verdict.at, way=kind_of(words))
+    return Finding(verdict.code, v, at.pulse, lines, verdict.entry, way=kind_of(words))
 
 
 def no_answer(run: AlphaRun, entries: list[Entry], v: int, fault: NoAnswer, asked: str) -> Finding:

@@ -14,6 +14,7 @@ import functools
 import os
 import socket
 
+from lab.fault_codes import Code
 from lab.faults import Fault
 
 LIBRARY = "libseccomp.so.2"
@@ -91,10 +92,7 @@ def library() -> ctypes.CDLL:
     try:
         found = ctypes.CDLL(LIBRARY)
     except OSError:
-        raise Fault(
-            "what is submitted is graded with a list of calls, for which libseccomp isn't here: "
-            "`apt install libseccomp2`"
-        ) from None
+        raise Fault(Code.NO_LIBSECCOMP) from None
     found.seccomp_init.restype = ctypes.c_void_p
     return found
 
@@ -126,7 +124,7 @@ class Filter:
 
     def check(self, status: int) -> None:
         if status:
-            raise Fault(f"libseccomp can't write the list of calls: {os.strerror(-status)}")
+            raise Fault(Code.CALLS_NOT_WRITTEN, why=os.strerror(-status))
 
     def add(self, action: int, name: str, *words: tuple[int, int, int]) -> None:
         """What becomes of a call with such words; of no call that this library doesn't know."""

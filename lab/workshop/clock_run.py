@@ -1,13 +1,15 @@
 """The runs with a clock: in each pulse all nodes are asked, and each gets what came from its neighbours in the pulse
 before. What they do is compared with the proved rounds, pulse by pulse; or it is free, and only the plan at the end is
 judged."""
-import re
 from abc import ABC, abstractmethod
 from collections.abc import Iterator
 
+from lab.fault_codes import Code
 from lab.faults import Fault
 from lab.network import Network
 from lab.networks.texts import plain_text
+from lab.networks.verdicts import parsed_verdict
+from lab.words import in_words
 from lab.workshop.findings import Finding, NoAnswer, first_of, kind_of, listed
 from lab.workshop.nodes import PATIENCE, Answer, Nodes
 from lab.workshop.protocol import COLOURING, fields_of, forms_of, own_data, shown
@@ -258,20 +260,17 @@ class OpenRun(ClockRun):
                 "channels": max(self.channels.values(), default=0),
             }
             return None
-        found = re.fullmatch(
-            r"forestplan: (C[4568]) (?:vertex|vertices|line) (\d+)(?: (\d+))?", line
-        )
-        if status != 1 or not found:
-            raise Fault(f"forestplan check ends with status {status}: {line}")
-        code = found[1]
-        v = int(found[2])
-        w = found[3]
+        verdict = parsed_verdict(line)
+        if status != 1 or verdict is None or verdict.code not in ("C4", "C5", "C6", "C8"):
+            raise Fault(Code.CHECK_ENDS, status=status, line=line)
+        code = verdict.code
+        v, *others = verdict.numbers
         if code == "C6":  # its lines are `plan`, and then one for each node in turn
             code = "C5"
             v -= 1
         channel = self.channels[v]
         words = {
-            "C4": f"nodes {v} and {w} are neighbours, and both have channel {channel}",
+            "C4": f"nodes {v} and {in_words(others)} are neighbours, and both have channel {channel}",
             "C5": f"channel {channel} of node {v} isn't one of 1 to {self.network.channels}, which are enough",
             "C8": f"channel {channel} of node {v} is barred there",
         }[code]

@@ -8,6 +8,7 @@ import subprocess
 import sys
 import tempfile
 
+from lab.fault_codes import Code
 from lab.faults import Fault
 from lab.programs import TOP
 from lab.schedules.policies import POLICIES
@@ -199,7 +200,7 @@ def main(words: list[str]) -> int:
     given.users = {student: USERS[at % len(USERS)] for at, student in enumerate(submissions)}
     status, _, why = ask("forestplan", "plain", "p edge 0 0\n")
     if status:
-        raise Fault(f"forestplan plain ends with status {status}: {why}")
+        raise Fault(Code.PLAIN_ENDS, status=status, why=why)
     shut()
     # No program is looked for in the folder in which the command is called.
     os.environ["PATH"] = ":".join(filter(os.path.isabs, os.environ.get("PATH", "").split(":")))

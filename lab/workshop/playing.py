@@ -4,6 +4,7 @@ import sys
 import time
 from argparse import Namespace
 
+from lab.fault_codes import Code
 from lab.faults import Fault
 from lab.networks.reductions import smaller
 from lab.schedules.policies import Policy
@@ -59,7 +60,7 @@ class Player:
             with self.nodes(case) as nodes:
                 found = run.play(nodes)
         except NoAnswer as fault:  # a command can't be started
-            raise Fault(fault.message) from None
+            raise Fault(Code.NOT_STARTED, why=fault.message) from None
         if isinstance(run, AlphaRun):
             found = finding_of(run)
         else:

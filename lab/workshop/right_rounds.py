@@ -1,5 +1,6 @@
 """The rounds of a network: by port what each node sends in each pulse, and so what comes to its neighbours in the next.
 The right ones are those of `forestplay rounds`, and of the colouring also the plan of `forestplan plain`."""
+from lab.fault_codes import Code
 from lab.faults import Fault
 from lab.network import Network
 from lab.networks.texts import plain_text
@@ -86,7 +87,9 @@ class RightRounds(Rounds):
     def asked(self, name: str, command: str, program: str = COLOURING) -> str:
         status, text, why = ask(name, command, plain_text(self.network), program)
         if status:
-            raise Fault(f"{name} {command} refuses {self.network.name}: {why}")
+            raise Fault(
+                Code.NETWORK_REFUSED, name=name, command=command, network=self.network.name, why=why
+            )
         return text
 
     def read(self, fields: list[str]) -> None:

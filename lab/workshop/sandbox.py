@@ -22,6 +22,7 @@ import subprocess
 from collections.abc import Iterable
 from functools import cached_property
 
+from lab.fault_codes import Code
 from lab.faults import Fault
 from lab.workshop import visible
 from lab.workshop.calls import filters_of_calls
@@ -172,13 +173,9 @@ class Sandbox(Guard):
                 **self.start(Limits(1, 2048, 1), self.tasks()),
             )
         except FileNotFoundError:
-            raise Fault(
-                f"what is submitted is graded in bubblewrap, which isn't here: `apt install bubblewrap`, or {INSTEAD}"
-            ) from None
+            raise Fault(Code.NO_BUBBLEWRAP, instead=INSTEAD) from None
         if done.returncode:
-            raise Fault(
-                f"bubblewrap (0.8 or later) can't start here ({done.stderr.strip()}): {INSTEAD}"
-            )
+            raise Fault(Code.BUBBLEWRAP_REFUSES, why=done.stderr.strip(), instead=INSTEAD)
 
 
 def words_of_files(shown: list[str], empty: set[str]) -> list[str]:

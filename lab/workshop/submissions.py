@@ -6,7 +6,8 @@ import stat
 from dataclasses import dataclass, field
 from typing import TypedDict
 
-from lab.faults import Fault
+from lab.fault_codes import Code
+from lab.faults import Fault, InText
 from lab.schedules.policies import POLICIES
 from lab.workshop.protocol import shown
 
@@ -27,7 +28,6 @@ MOST_FILES = 1000
 DEEPEST = 64
 # What is in no word of `commands`.
 OUTSIDE = re.compile(r"/|@|\.\.")
-OF_THE_FOLDER = "files are named as they are in the folder itself, without `/`, `@` and `..`"
 
 
 class PlayedCase(TypedDict):
@@ -109,9 +109,9 @@ def submissions_of(folder: str) -> dict[str, list[Part]]:
     try:
         students = sorted(entry.name for entry in os.scandir(folder) if entry.is_dir())
     except OSError as why:
-        raise Fault(f"{folder}: {why.strerror}") from None
+        raise Fault(Code.FOLDER_NOT_READ, InText(folder), why=why.strerror) from None
     if not students:
-        raise Fault(f"{folder} has no folder of a submission in it")
+        raise Fault(Code.NO_SUBMISSION, folder=folder)
     return {
         name: [part_of(name, os.path.join(folder, name), assignment) for assignment in RUNS]
         for name in students
@@ -121,10 +121,10 @@ def submissions_of(folder: str) -> dict[str, list[Part]]:
 def part_of(student: str, folder: str, assignment: str) -> Part:
     try:
         if os.path.islink(folder):
-            raise Fault("its folder is a link")
+            raise Fault(Code.FOLDER_IS_A_LINK)
         command = command_of(folder, assignment)
         if not command:
-            raise Fault("no program")
+            raise Fault(Code.NO_PROGRAM_OF_ASSIGNMENT)
         check_folder(folder)
         return Part(student, folder, assignment, command)
     except (Fault, OSError) as why:
@@ -138,9 +138,9 @@ def command_of(folder: str, assignment: str) -> list[str]:
     names = [name for name in sorted(os.listdir(folder)) if is_program(folder, name, assignment)]
     ways = [way for name in names if (way := way_to_run(folder, name))]
     if len(ways) > 1:
-        raise Fault(f"{' and '.join(way[-1] for way in ways)}: which one?")
+        raise Fault(Code.SEVERAL_PROGRAMS, names=" and ".join(way[-1] for way in ways))
     if names and not ways:
-        raise Fault(f"{names[0]} can't be run: it has to be compiled, or `chmod +x {names[0]}`")
+        raise Fault(Code.PROGRAM_CANT_BE_RUN, name=names[0])
     return ways[0] if ways else []
 
 
@@ -148,19 +148,19 @@ def said_command(folder: str, assignment: str) -> list[str]:
     """The command that the file `commands` says. Its words name programs, options and files of the folder itself."""
     path = os.path.join(folder, "commands")
     if os.path.islink(path):
-        raise Fault("`commands` is a link")
+        raise Fault(Code.COMMANDS_IS_A_LINK)
     with open(path, encoding="utf-8", errors="replace") as file:
         lines = [line.partition(":") for line in file.read(1 << 16).splitlines()]
     try:
         said = [shlex.split(words) for name, _, words in lines if name.strip() == assignment]
     except ValueError as why:
-        raise Fault(f"`commands`: {why}") from None
+        raise Fault(Code.COMMANDS_NOT_READ, why=why) from None
     command = said[0] if said else []
     if "--" in command:
-        raise Fault("`commands`: `--` stands between commands, and one is played")
+        raise Fault(Code.SEVERAL_COMMANDS)
     for word in command:
         if OUTSIDE.search(word.removeprefix("./")):
-            raise Fault(f"`commands`: {clean(word)}: {OF_THE_FOLDER}")
+            raise Fault(Code.OUTSIDE_OF_FOLDER, word=clean(word))
     return command
 
 
@@ -184,13 +184,12 @@ def check_folder(folder: str) -> None:
         info = os.lstat(path)
         size += info.st_size
         if size > MOST_BYTES or len(paths) > MOST_FILES or depth > DEEPEST:
-            most = f"{MOST_BYTES >> 20} megabytes or {MOST_FILES:,} files"
-            raise Fault(f"its folder has more than {most}, or is too deep")
+            raise Fault(Code.FOLDER_TOO_LARGE, megabytes=MOST_BYTES >> 20, files=MOST_FILES)
         if stat.S_ISDIR(info.st_mode):
             paths += [(os.path.join(path, name), depth + 1) for name in os.listdir(path)]
         elif not stat.S_ISREG(info.st_mode) and not stat.S_ISLNK(info.st_mode):
             name = clean(os.path.basename(path))
-            raise Fault(f"its folder has a named pipe or a device in it: {name}")
+            raise Fault(Code.PIPE_IN_FOLDER, name=name)
 
 
 def clean(words: str) -> str:

@@ -30,7 +30,7 @@ SEVERAL = {
             "is_own items judge limited loaded made make moved near_order network_of "
             "of_nodes pairs_of place_of places_of plan plan_of plan_text played "
             "program_asked program_at program_of quoted read refuse_words replayed results_of "
-            "rounds rounds_text row rows_of rules_of say smallest_wrong summary verdict_of "
+            "rounds rounds_text row rows_of rules_of say smallest_wrong summary "
             "wire_of wires_of words words_of write "
         ).split(),
         2,

@@ -138,7 +138,7 @@ def refusal_of(net, data, program):
         read(data, program.name)
         whole_run(net, data, program)
     except WrongEntry as wrong:
-        return wrong.code, wrong.line
+        return wrong.word, wrong.line
 
 
 @needs("forestplan", "forestplay", "cc")

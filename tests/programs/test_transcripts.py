@@ -83,7 +83,7 @@ def said_of(net, data, program=COLOURING):
     try:
         return whole_run(net, data, program)[1], ""
     except WrongEntry as wrong:
-        line, code, words = wrong.line, wrong.code, wrong.what
+        line, code, words = wrong.line, wrong.word, wrong.words()
         return f"line {line}: {code}", words
 
 

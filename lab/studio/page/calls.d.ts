@@ -146,6 +146,7 @@ interface PlanFound {
 interface GoodPlan {
   said: string;
   at: number[];
+  greatest: number;
   ok: true;
   code?: undefined;
 }
@@ -190,7 +191,6 @@ interface JudgedText {
   line: number | null;
   by: string;
   proved: Judged | null;
-  before: number;
 }
 
 interface RunPart extends RunFound {

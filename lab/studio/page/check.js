@@ -38,7 +38,7 @@ function showPlan() {
   const left = plan.filter(channel => !channel).length, who = hello().proved ? "The proved program" : "Python";
   place.className = "verdict " + (is.ok ? "good" : is.code === "C1" ? "" : "bad");
   const [head, more] = is.ok ? ["The plan is proper", `${who} finds: neighbours differ, no channel is barred at its `
-    + `node, and the greatest is ${is.said.split(" ")[1]}.`]
+    + `node, and the greatest is ${is.greatest}.`]
     : is.code === "C1" && left ? [`${left} of ${net.nodes.length} nodes have no channel yet (C1)`,
       `The check names the first, node ${is.at[0]}. Dashed edges are clashes that this page sees.`]
     : [`${capital(is.words)}${is.code === "C4" ? `, ${plan[at[0] - 1]}` : ""} (${is.code})`, `What to do: ${is.do}.`];
@@ -87,13 +87,11 @@ by("take").onclick = () => asks("plan", {network: text()}, "looking for the plan
 by("judged").onclick = () => asks("judge", {network: text(), transcript: by("transcript").value,
   program: programNamed()}, "judging", is => {
   const place = by("judgement"), {proved} = is;
-  // The machine counts lines from the network's first one.
-  const said = proved && proved.said.replace(/line (\d+)/, (_, line) => `line ${line - is.before}`);
   place.className = "verdict " + (is.ok ? "good" : "bad");
   place.replaceChildren(sentence((is.ok ? "✓ " : "✗ ") + is.said));
   // Without a first line all of it is read as more of the network.
   if (proved && is.line !== 1) {
-    place.append(sentence(proved.ok ? `✓ ${proved.by} accepts it, too.` : `✗ ${proved.by}: ${said}`));
+    place.append(sentence(proved.ok ? `✓ ${proved.by} accepts it, too.` : `✗ ${proved.by}: ${proved.said}`));
   }
   if (is.line) choose(by("transcript"), is.line);
 });
