@@ -150,7 +150,9 @@ def no_answer(run: AlphaRun, entries: list[Entry], v: int, fault: NoAnswer, aske
         *at.hints(),
         ("judge", "all that was done before is right"),
     ]
-    return Finding(fault.kind, v, at.pulse, lines, is_first=asked == OWN_DATA)
+    return Finding(
+        fault.kind, v, at.pulse, lines, is_first=asked == OWN_DATA, is_by_signal=fault.is_by_signal
+    )
 
 
 def stuck(run: AlphaRun, entries: list[Entry], verdict: Verdict) -> Finding:

@@ -83,7 +83,9 @@ class ClockRun(Rounds, ABC):
                 raise answer
             self.read(v, answer)
         except NoAnswer as fault:
-            return self.finding(fault.kind, p, v, [("wrong", fault.message)], is_first=p == 0)
+            found = self.finding(fault.kind, p, v, [("wrong", fault.message)], is_first=p == 0)
+            found.is_by_signal = fault.is_by_signal
+            return found
         return self.difference(p, v)
 
     def finding(
@@ -156,33 +158,36 @@ class RoundsRun(ClockRun):
                 ("why", f"a node says that once, in its last pulse, {self.rounds.last}"),
             ]
             return self.finding("differs", p, v, lines, way="early result")
-        for wrong, right, of in self.compared(p, v):
+        for wrong, right, is_none, of in self.compared(p, v):
             if wrong != right:
                 lines = [("wrong", wrong), ("right", right), ("why", Why(self.rounds, v).of(**of))]
-                kind = kind_of(wrong if right.startswith("no") else right)
+                kind = kind_of(wrong if is_none else right)
                 way = f"{''.join(self.rounds.phase[p][:1])} {kind}"
                 return self.finding("differs", p, v, lines, way=way)
         return None
 
-    def compared(self, p: int, v: int) -> Iterator[tuple[str, str, dict[str, int]]]:
-        """What it said, what is right, and of what `Why` says why. What it says of its colours needn't be said."""
+    def compared(self, p: int, v: int) -> Iterator[tuple[str, str, bool, dict[str, int]]]:
+        """What it said, what is right, whether that is nothing, and of what `Why` says why. What it says of its colours
+        needn't be said."""
         rounds = self.rounds
         said = self.said[v]
         puts = self.puts[p][v]
         for forest, colour in enumerate(rounds.colours[p].get(v, [])):
             right = f"colour {forest} {colour}"
-            yield said.get(f"colour {forest}", right), right, {"p": p, "forest": forest}
-        right = f"chose {rounds.chose[p][v]}" if v in rounds.chose[p] else "no choice"
-        yield said.get("chose", right), right, {"p": p}
+            yield said.get(f"colour {forest}", right), right, False, {"p": p, "forest": forest}
+        chooses = v in rounds.chose[p]
+        right = f"chose {rounds.chose[p][v]}" if chooses else "no choice"
+        yield said.get("chose", right), right, not chooses, {"p": p}
         right_puts = rounds.puts[p].get(v, {})
         for port in sorted(right_puts.keys() | puts.keys()):
             wrong, right = (
                 f"put {port} {found[port]}" if port in found else f"nothing by port {port}"
                 for found in (puts, right_puts)
             )
-            yield wrong, right, {"p": p, "port": port}
+            yield wrong, right, port not in right_puts, {"p": p, "port": port}
         if p == rounds.last:
-            yield said.get("result", f"no line `{rounds.results[v]}`"), rounds.results[v], {}
+            wrong = said.get("result", f"no line `{rounds.results[v]}`")
+            yield wrong, rounds.results[v], False, {}
 
     def is_over(self, p: int) -> bool:
         return p == self.rounds.last

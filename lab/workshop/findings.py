@@ -8,12 +8,14 @@ MOST = 8  # of a list of words
 
 
 class NoAnswer(Exception):
-    """A program gave no answer. `kind` is silent, ended, garbage, flood, late or start."""
+    """A program gave no answer. `kind` is silent, ended, garbage, flood, late or start; `is_by_signal` says that a
+    signal has ended it."""
 
-    def __init__(self, kind: str, message: str) -> None:
+    def __init__(self, kind: str, message: str, is_by_signal: bool = False) -> None:
         super().__init__(message)
         self.kind = kind
         self.message = message
+        self.is_by_signal = is_by_signal
 
 
 @dataclass
@@ -24,7 +26,7 @@ class Finding:
     `lines` explain it, each with a label. `entry` is the index of the wrong entry of a run without a clock. `way` says
     in a few words what is wrong, without numbers: two findings of one kind and way may have the same cause. `owner` is
     the number of the command that runs at the node, if there are several; `is_first`, that a program gave no answer to
-    its first message."""
+    its first message; `is_by_signal`, that a signal ended it."""
 
     kind: str
     node: int
@@ -34,6 +36,7 @@ class Finding:
     way: str = ""
     owner: int | None = None
     is_first: bool = False
+    is_by_signal: bool = False
 
     def is_like(self, other: "Finding") -> bool:
         return (self.kind, self.way, self.owner) == (other.kind, other.way, other.owner)

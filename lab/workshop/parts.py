@@ -61,7 +61,9 @@ def play(part: Part, given: argparse.Namespace, room: str) -> dict[str, object]:
         found = Player(options, guard, time.monotonic() + given.seconds).played(cases_of(options))
     except Fault as why:
         return {"why": str(why)}
-    return {"result": as_json(options, *found), "report": report(*found)}
+    _, shown, _ = found
+    is_by_signal = shown is not None and shown.wrong.is_by_signal
+    return {"result": as_json(options, *found), "report": report(*found), "by_signal": is_by_signal}
 
 
 def run(part: Part, given: argparse.Namespace, room: str, to: Connection) -> None:

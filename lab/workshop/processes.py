@@ -9,6 +9,7 @@ import signal
 import subprocess
 import tempfile
 import time
+from dataclasses import dataclass
 
 from lab.workshop.findings import NoAnswer
 from lab.workshop.guard import Guard, Limits
@@ -118,7 +119,7 @@ class Process:
             found = exit_of(self.process.pid, 0)
             if found and not poll.poll(0):
                 words = f"it ended with {found}, and what it has started goes on"
-                raise NoAnswer("ended", words + self.last_errors())
+                raise NoAnswer("ended", words + self.last_errors(), found.is_by_signal)
             if time.monotonic() < until:
                 continue
             if until < self.until:
@@ -141,7 +142,7 @@ class Process:
             return NoAnswer("ended", words + self.last_errors())
         after = f" after {shown(got)}" if got else ""
         words = f"it ended with {found}{after} instead of an answer"
-        return NoAnswer("ended", words + self.last_errors())
+        return NoAnswer("ended", words + self.last_errors(), found.is_by_signal)
 
     def last_errors(self) -> str:
         """The end of what is on its standard error, if there is any."""
@@ -172,8 +173,22 @@ def after_its_end(got: bytes | bytearray) -> NoAnswer:
     return NoAnswer("garbage", f"it wrote after the line `end` of its answer: {shown(got)}")
 
 
-def exit_of(pid: int, until: float) -> str | None:
-    """How a process ended, in words, and None if it runs on until then. It isn't collected."""
+@dataclass(frozen=True)
+class Ending:
+    """How a process ended: with a status, or by the signal of this number."""
+
+    number: int
+    is_by_signal: bool
+
+    def __str__(self) -> str:
+        """`status 3`, or `signal SIGKILL`."""
+        if not self.is_by_signal:
+            return f"status {self.number}"
+        return f"signal {SIGNALS.get(self.number, self.number)}{OF_LIMITS.get(self.number, '')}"
+
+
+def exit_of(pid: int, until: float) -> Ending | None:
+    """How a process ended, and None if it runs on until then. It isn't collected."""
     while True:
         found = os.waitid(os.P_PID, pid, os.WEXITED | os.WNOHANG | os.WNOWAIT)
         if found:
@@ -184,14 +199,11 @@ def exit_of(pid: int, until: float) -> str | None:
         time.sleep(min(LOOK, left))
 
 
-def ending(number: int, is_status: bool) -> str:
-    """`status 3`, or `signal SIGKILL`. Of a program that a signal has ended shells and bubblewrap say 128 and its
-    number."""
+def ending(number: int, is_status: bool) -> Ending:
+    """The end of a process. Of a program that a signal has ended shells and bubblewrap say 128 and its number."""
     if is_status and number - ENDED_BY not in SIGNALS:
-        return f"status {number}"
-    if is_status:
-        number -= ENDED_BY
-    return f"signal {SIGNALS.get(number, number)}{OF_LIMITS.get(number, '')}"
+        return Ending(number, False)
+    return Ending(number - ENDED_BY if is_status else number, True)
 
 
 def last_errors(text: bytes) -> str:

@@ -47,10 +47,12 @@ class Result(TypedDict):
 
 
 class Graded(TypedDict, total=False):
-    """What is found of an assignment: its result, with a report for people, or why there is no result."""
+    """What is found of an assignment: its result, with a report for people, and whether a signal has ended the program
+    in the case that is reported; or why there is no result."""
 
     result: Result
     report: list[str]
+    by_signal: bool
     why: str
 
 
@@ -101,7 +103,7 @@ class Part:
         if not self.result:
             return self.lacks_a_result()
         is_late = any(case["verdict"] in ("silent", "late") for case in self.result["cases"])
-        return is_late or any("it ended with signal" in line for line in self.found["report"])
+        return is_late or self.found.get("by_signal", False)
 
 
 def submissions_of(folder: str) -> dict[str, list[Part]]:

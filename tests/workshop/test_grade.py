@@ -13,7 +13,7 @@ from unittest import mock
 
 from lab.faults import Fault
 from lab.schedules.policies import POLICIES
-from lab.workshop import grade, parts, submissions
+from lab.workshop import grade, parts, processes, submissions
 from tests.cases import Case, text_in, tool_at, wait_until
 from tests.tools import need, needs
 from tests.workshop.base import DOOR, LIMIT, call
@@ -139,14 +139,26 @@ class Grades(Submitted):
         self.same("a run without it", done.returncode, 0)
 
     def test_what_is_in_doubt(self):
-        """What a signal ended is played once more, alone."""
-        for ending, is_in_doubt in (("status 1", False), ("signal SIGKILL", True)):
+        """What a signal ended is played once more, alone; what a program itself writes of a signal says nothing."""
+        forged = "wrong  it ended with status 1; on standard error: it ended with signal SIGKILL"
+        for line, is_by_signal in ((forged, False), ("wrong  it ended", True)):
             found = submissions.Graded(
                 result=result_of([{"policy": "", "verdict": "ended"}]),
-                report=[f"wrong  it ended with {ending} instead"],
+                report=[line],
+                by_signal=is_by_signal,
             )
             part = submissions.Part("anna", "", "rounds", ["x"], found)
-            self.same(ending, part.is_in_doubt(), is_in_doubt)
+            self.same(line, part.is_in_doubt(), is_by_signal)
+
+    def test_how_a_process_ended(self):
+        """Shells say 128 and the number of a signal; 137 is 128 and 9, SIGKILL, and 3 is no such status."""
+        for number, is_status, wanted in (
+            (3, True, ("status 3", False)),
+            (9, False, ("signal SIGKILL", True)),
+            (137, True, ("signal SIGKILL", True)),
+        ):
+            found = processes.ending(number, is_status)
+            self.same(f"{number} {is_status}", (str(found), found.is_by_signal), wanted)
 
     def test_second_plays(self):
         """They share a time, whatever their number, and the better of both results counts."""
