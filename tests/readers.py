@@ -18,6 +18,7 @@ from lab.pictures import picture
 from lab.schedules import simulate
 from lab.studio.fields import object_of
 from lab.studio.networks import opened_by
+from lab.studio.session import Session
 from lab.transcripts import transcript
 from lab.workshop.protocol import END, fields_of, forms_of, lines_of
 from lab.workshop.findings import NoAnswer
@@ -159,7 +160,7 @@ def call(_words: list[str]) -> int:
 
 def address(_words: list[str]) -> int:
     """What is after the # of a link."""
-    opened_by(sys.stdin.buffer.read().decode("utf-8", "replace")).address.refuse()
+    opened_by(sys.stdin.buffer.read().decode("utf-8", "replace"), Session()).address.refuse()
     return 0
 
 

@@ -16,7 +16,7 @@ from lab.networks.fields import shown
 from lab.schedules.policies import POLICIES
 from lab.schedules.rules import OF_PROGRAMS, OF_SCHEDULES
 from lab.studio.answers import Order, PictureKind, TabName, Values, Written
-from lab.studio.asked import MOST_STEPS, OPENED
+from lab.studio.asked import MOST_STEPS
 from lab.studio.dares import DARES
 from lab.studio.drawn import decoded
 from lab.studio.lessons import LECTURE, LESSONS, step_place, steps_in
@@ -28,11 +28,13 @@ MOST_CHANNEL = 9999
 
 @dataclass(frozen=True)
 class Here:
-    """What the other values of an address are of: the network that it has, the program and the lesson."""
+    """What the other values of an address are of: the network that it has, the program, the lesson, and
+    the programs of one's own that there are."""
 
     nodes: int = 0
     edges: Collection[tuple[int, int]] = ()
     program: str = COLOURING.name
+    own: Collection[str] = ()
     lesson: int | None = None
 
     def node(self, said: str) -> int:
@@ -117,7 +119,7 @@ def among(names: Collection[str]) -> Callable[[str, Here], str]:
 
 
 def program_of(said: str, here: Here) -> str:
-    return among([*PROGRAMS, *OPENED.own])(said, here)
+    return among([*PROGRAMS, *here.own])(said, here)
 
 
 def lesson_step_of(said: str, here: Here) -> int:

@@ -1,7 +1,6 @@
 """What the page asks with a call: a network as a text, a program by its name. No call names a file."""
 import re
 from collections.abc import Collection
-from dataclasses import dataclass, field
 from typing import Protocol
 
 from lab.definitions.nodes import COLOURING
@@ -11,22 +10,10 @@ from lab.fault_codes import Code
 from lab.faults import Fault
 from lab.network import Network
 from lab.networks.network_text import read_network
-from lab.pictures.page_data import Net
 from lab.studio.messages import OfNetwork, OfProgram, WithoutRules
+from lab.studio.session import Session
 
 
-@dataclass
-class Opened:
-    """What the command line gives: the network to begin with, and programs of one's own by name; and whether the
-    programs are proved and built, and the file with what their build says."""
-
-    network: Net | None = None
-    own: dict[str, str] = field(default_factory=dict)
-    is_proved: bool = False
-    log: str | None = None
-
-
-OPENED = Opened()
 # Nodes that are drawn; that the rounds, and a run without a clock, are shown of.
 MOST_DRAWN, MOST_ROUNDS, MOST_RUN = 400, 100, 40
 # Steps that are made by hand.
@@ -59,7 +46,7 @@ def network_asked(asked: OfNetwork, most: int = MOST_DRAWN) -> Network:
     return network
 
 
-def program_asked(asked: OfProgram, network: Network) -> Program:
+def program_asked(asked: OfProgram, network: Network, session: Session) -> Program:
     """A program by its name, which its option may follow: `recolouring passes 2`, `layers root 3`."""
     said = re.fullmatch("([^ ]+)(?: (passes|root) ([0-9]{1,5}))?", asked.program or COLOURING.name)
     name, option, value = said.groups() if said else ("?", None, None)
@@ -68,10 +55,10 @@ def program_asked(asked: OfProgram, network: Network) -> Program:
         raise Fault(Code.PASSES, most=MAX_PASSES)
     if options.get("root", 1) not in network.vertices:
         raise Fault(Code.NO_NODE_AS_ROOT, root=options["root"])
-    if name not in (*PROGRAMS, *OPENED.own):
+    if name not in (*PROGRAMS, *session.own):
         name = "?"
     return program_at(
-        OPENED.own.get(name, name), root=options.get("root"), passes=options.get("passes")
+        session.own.get(name, name), root=options.get("root"), passes=options.get("passes")
     )
 
 

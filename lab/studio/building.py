@@ -11,9 +11,9 @@ import time
 from lab.fault_codes import Code
 from lab.faults import Fault
 from lab.programs import TOP, built
-from lab.studio.asked import OPENED
 from lab.studio.answers import Build
 from lab.studio.messages import BuildCall, BuiltCall
+from lab.studio.session import Session
 from lab.studio.telling import Tell
 
 PROGRAMS = ("forestplan", "forestplay")
@@ -40,10 +40,12 @@ def are_built() -> bool:
 class Building:
     """The build in the server's own process; what it says is in a file."""
 
-    def __init__(self, folder: str) -> None:
+    def __init__(self, folder: str, session: Session) -> None:
+        self.session = session
         self.process: subprocess.Popen[bytes] | None = None
         self.is_wanted = False
-        OPENED.log = self.log = os.path.join(folder, "build.log")
+        self.log = os.path.join(folder, "build.log")
+        session.log = self.log
         signal.signal(WANTED, self.want)
 
     def want(self, *_: object) -> None:
@@ -51,7 +53,7 @@ class Building:
 
     def look(self) -> None:
         """Begins what is wanted, and takes note of what is done. Called again and again."""
-        if self.is_wanted and self.process is None and not OPENED.is_proved:
+        if self.is_wanted and self.process is None and not self.session.is_proved:
             with open(self.log, "w", encoding="utf-8") as log:
                 self.process = subprocess.Popen(
                     [*BUILD, *PROGRAMS],
@@ -62,11 +64,11 @@ class Building:
                 )
         self.is_wanted = False
         if self.process and self.process.poll() is not None:
-            OPENED.is_proved = self.process.returncode == 0 and are_built()
+            self.session.is_proved = self.process.returncode == 0 and are_built()
             with open(self.log, "a", encoding="utf-8") as log:
                 log.write(
                     "the programs are proved and built\n"
-                    if OPENED.is_proved
+                    if self.session.is_proved
                     else "ended: it isn't built\n"
                 )
             self.process = None
@@ -82,39 +84,39 @@ class Building:
                 return
 
 
-def begin(_call: BuildCall, _tell: Tell) -> Build:
+def begin(_call: BuildCall, session: Session, _tell: Tell) -> Build:
     """Asks for the build, and waits until it has begun."""
-    log = OPENED.log
+    log = session.log
     if shutil.which("rt") is None:
         raise Fault(Code.NO_RT)
     if log is None:
         raise Fault(Code.NOTHING_BUILT)
-    if build_so_far().ended:
+    if build_so_far(session).ended:
         os.unlink(log)
     os.kill(os.getppid(), WANTED)
     while not os.path.exists(log):
         time.sleep(0.1)
-    return build_so_far()
+    return build_so_far(session)
 
 
-def so_far(_call: BuiltCall, _tell: Tell) -> Build:
-    return build_so_far()
+def so_far(_call: BuiltCall, session: Session, _tell: Tell) -> Build:
+    return build_so_far(session)
 
 
-def build_so_far() -> Build:
+def build_so_far(session: Session) -> Build:
     """How far the build is, in its own words."""
-    if OPENED.log is None:
-        return Build(OPENED.is_proved, [], False)
+    if session.log is None:
+        return Build(session.is_proved, [], False)
     try:
-        with open(OPENED.log, "rb") as log:
+        with open(session.log, "rb") as log:
             begun = os.stat(log.fileno())
             log.seek(max(0, begun.st_size - MOST_SHOWN))
             lines = log.read(MOST_SHOWN).decode("utf-8", "replace").splitlines()
     except OSError:
-        return Build(OPENED.is_proved, [], False)
+        return Build(session.is_proved, [], False)
     ended = lines[-1:] in (["the programs are proved and built"], ["ended: it isn't built"])
     return Build(
-        proved=OPENED.is_proved,
+        proved=session.is_proved,
         lines=lines[-12:] or ["it begins"],
         ended=ended,
         quiet=time.time() - begun.st_mtime,

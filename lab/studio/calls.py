@@ -5,6 +5,7 @@ from typing import TypeVar
 
 from lab.studio import building, exercises, messages, networks, predictions, rounds, runs
 from lab.studio.fields import parsed_call
+from lab.studio.session import Session
 from lab.studio.telling import Tell
 
 Asked = TypeVar("Asked")
@@ -17,14 +18,14 @@ class Call:
 
     asked: type
     function: Callable[..., object]
-    answer: Callable[[Mapping[str, object], Tell], object]
+    answer: Callable[[Mapping[str, object], Session, Tell], object]
 
 
-def answered(asked: type[Asked], function: Callable[[Asked, Tell], object]) -> Call:
+def answered(asked: type[Asked], function: Callable[[Asked, Session, Tell], object]) -> Call:
     """The call that asks this, and is answered by this function."""
 
-    def answer(body: Mapping[str, object], tell: Tell) -> object:
-        return function(parsed_call(asked, body), tell)
+    def answer(body: Mapping[str, object], session: Session, tell: Tell) -> object:
+        return function(parsed_call(asked, body), session, tell)
 
     return Call(asked, function, answer)
 

@@ -16,14 +16,17 @@ from lab.studio.asked import network_asked, program_asked, rules_asked
 from lab.studio.lessons import LESSONS, SaidExercise, SeenExercise
 from lab.studio.messages import CheckCall, ExerciseCall
 from lab.studio.rounds import check
+from lab.studio.session import Session
 from lab.studio.telling import Tell
 from lab.words import counted, in_words
 
+# What judges a goal.
+Goal = Callable[[ExerciseCall, Session, Tell], ExerciseJudged]
 # Nodes of a row that is long; and in how many steps a wrong inbox is to be reached: no list has fewer (lesson 6).
 LONG, FEWEST = 100, 5
 
 
-def exercise_judged(call: ExerciseCall, tell: Tell) -> ExerciseJudged:
+def exercise_judged(call: ExerciseCall, session: Session, tell: Tell) -> ExerciseJudged:
     """Whether the exercise of a step is done."""
     if not 1 <= call.lesson <= len(LESSONS):
         raise Fault(Code.NO_LESSON, lessons=len(LESSONS))
@@ -34,7 +37,7 @@ def exercise_judged(call: ExerciseCall, tell: Tell) -> ExerciseJudged:
     if isinstance(exercise, SaidExercise):
         return said_right(exercise, call.said)
     if isinstance(exercise, SeenExercise):
-        return GOALS[call.lesson, exercise.name](call, tell)
+        return GOALS[call.lesson, exercise.name](call, session, tell)
     raise Fault(Code.NO_EXERCISE)
 
 
@@ -46,9 +49,9 @@ def said_right(exercise: SaidExercise, said: str) -> ExerciseJudged:
     )
 
 
-def proper(call: ExerciseCall, tell: Tell) -> ExerciseJudged:
+def proper(call: ExerciseCall, session: Session, tell: Tell) -> ExerciseJudged:
     """A plan that is typed in the tab Check."""
-    verdict = check(CheckCall(network=call.network, plan=call.plan), tell)
+    verdict = check(CheckCall(network=call.network, plan=call.plan), session, tell)
     if verdict.ok:
         used = counted(len(set(call.plan)), "channel")
         return ExerciseJudged(True, f"the plan is proper, with {used}")
@@ -77,13 +80,13 @@ def row_asked(call: ExerciseCall, nodes: int) -> Network:
     return network
 
 
-def three_channels(call: ExerciseCall, _tell: Tell) -> ExerciseJudged:
+def three_channels(call: ExerciseCall, session: Session, _tell: Tell) -> ExerciseJudged:
     network = row_asked(call, 4)
     used = max(colours(network).values()) + 1
     return ExerciseJudged(used == 3, f"the plan of this row takes {used} channels")
 
 
-def two_rounds(call: ExerciseCall, _tell: Tell) -> ExerciseJudged:
+def two_rounds(call: ExerciseCall, session: Session, _tell: Tell) -> ExerciseJudged:
     """In how many rounds a row of four chooses in the order of the numbers."""
     network = row_asked(call, 4)
     at: dict[int, int] = {}
@@ -95,7 +98,7 @@ def two_rounds(call: ExerciseCall, _tell: Tell) -> ExerciseJudged:
     )
 
 
-def long_row(call: ExerciseCall, _tell: Tell) -> ExerciseJudged:
+def long_row(call: ExerciseCall, session: Session, _tell: Tell) -> ExerciseJudged:
     network = network_asked(call)
     if network.nodes < LONG or not ends_of(network):
         return ExerciseJudged(False, f"this is no row of {LONG} nodes or more")
@@ -103,7 +106,7 @@ def long_row(call: ExerciseCall, _tell: Tell) -> ExerciseJudged:
     return ExerciseJudged(True, said)
 
 
-def lowest_centre(call: ExerciseCall, _tell: Tell) -> ExerciseJudged:
+def lowest_centre(call: ExerciseCall, session: Session, _tell: Tell) -> ExerciseJudged:
     """A star of eight leaves, whose centre has the least identifier."""
     network = network_asked(call)
     is_star = sorted(map(len, network.neighbours.values())) == [1] * 8 + [8]
@@ -113,7 +116,7 @@ def lowest_centre(call: ExerciseCall, _tell: Tell) -> ExerciseJudged:
     return ExerciseJudged(network.forest_count == 8, f"the star has {forests}")
 
 
-def bar(call: ExerciseCall, _tell: Tell) -> ExerciseJudged:
+def bar(call: ExerciseCall, session: Session, _tell: Tell) -> ExerciseJudged:
     """Channel 1 barred at node 3 of the triangle: what has changed."""
     network = network_asked(call)
     if network.nodes != 3 or len(network.edges) != 3:
@@ -130,8 +133,8 @@ def bar(call: ExerciseCall, _tell: Tell) -> ExerciseJudged:
     return ExerciseJudged(True, in_words(changes))
 
 
-def first_pulse(call: ExerciseCall, _tell: Tell) -> ExerciseJudged:
-    player = steps_played(call)
+def first_pulse(call: ExerciseCall, session: Session, _tell: Tell) -> ExerciseJudged:
+    player = steps_played(call, session)
     made = max(node.pulse_number for node in player.state.nodes.values())
     steps = counted(len(player.chosen), "step")
     if made:
@@ -139,19 +142,21 @@ def first_pulse(call: ExerciseCall, _tell: Tell) -> ExerciseJudged:
     return ExerciseJudged(False, f"no node has made pulse 1 yet, after {steps}")
 
 
-def steps_played(call: ExerciseCall) -> Stepwise:
+def steps_played(call: ExerciseCall, session: Session) -> Stepwise:
     network = network_asked(call)
-    player = Stepwise(network, program_asked(call, network), rules_asked(call, OF_SCHEDULES))
+    player = Stepwise(
+        network, program_asked(call, network, session), rules_asked(call, OF_SCHEDULES)
+    )
     player.follow(filter(None, call.steps.split("_")))
     return player
 
 
-def dared(dare: str, most: int | None = None) -> Callable[[ExerciseCall, Tell], ExerciseJudged]:
+def dared(dare: str, most: int | None = None) -> Goal:
     """A dare that has to be won, in at most so many steps."""
 
-    def judge(call: ExerciseCall, _tell: Tell) -> ExerciseJudged:
+    def judge(call: ExerciseCall, session: Session, _tell: Tell) -> ExerciseJudged:
         network = network_asked(call)
-        program = program_asked(call, network)
+        program = program_asked(call, network, session)
         steps = list(filter(None, call.steps.split("_")))
         is_ = dares.judged(network, program, rules_asked(call, OF_SCHEDULES), steps, dare)
         if is_.won and most is not None and len(steps) > most:
@@ -162,7 +167,7 @@ def dared(dare: str, most: int | None = None) -> Callable[[ExerciseCall, Tell], 
 
 
 # What judges the exercises that are done in the studio, by the lesson and the name.
-GOALS: dict[tuple[int, str], Callable[[ExerciseCall, Tell], ExerciseJudged]] = {
+GOALS: dict[tuple[int, str], Goal] = {
     (1, "proper"): proper,
     (1, "row"): three_channels,
     (1, "two"): two_rounds,

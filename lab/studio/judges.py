@@ -1,5 +1,5 @@
 """Who answers: the proved programs, or before they are built the definitions of lab/, which are tested and not proved;
-`OPENED.is_proved` says which it is. Rounds are always those of the definitions. Once the programs are built, those
+`Session.is_proved` says which it is. Rounds are always those of the definitions. Once the programs are built, those
 of the colouring have to be what `forestplay rounds` writes; no other answers are compared here. A program in a file is
 always judged by the definitions."""
 
@@ -17,8 +17,8 @@ from lab.networks.verdicts import Verdict, parsed_verdict, states_of
 from lab.pictures.program_rounds import is_own
 from lab.programs import called
 from lab.sentences import WORDS
-from lab.studio.asked import OPENED
 from lab.studio.answers import Judged, Replayed
+from lab.studio.session import Session
 from lab.transcripts.check import whole_run
 from lab.transcripts.reading import WrongEntry, read
 from lab.words import as_text
@@ -44,24 +44,24 @@ def text_from(name: str, words: list[str], network_text: str) -> str:
     return output
 
 
-def plan_of(network: Network, text: str) -> str:
+def plan_of(network: Network, text: str, session: Session) -> str:
     """The plan of a network, as a text."""
-    if OPENED.is_proved:
+    if session.is_proved:
         return text_from("forestplan", ["plain"], text)
     return plan_text(network).decode()
 
 
-def rounds_of(network: Network, text: str) -> Rounds:
+def rounds_of(network: Network, text: str, session: Session) -> Rounds:
     """The rounds of the colouring, which those of the proved program have to be."""
     rounds = Rounds(network)
-    if OPENED.is_proved and text_from("forestplay", ["rounds"], text) != as_text(rounds.lines()):
+    if session.is_proved and text_from("forestplay", ["rounds"], text) != as_text(rounds.lines()):
         raise Fault(Code.OTHER_ROUNDS)
     return rounds
 
 
-def verdict_on(network: Network, text: str, plan: dict[int, int]) -> Verdict:
+def verdict_on(network: Network, text: str, plan: dict[int, int], session: Session) -> Verdict:
     """What `check` finds of a plan {vertex: channel}."""
-    if OPENED.is_proved:
+    if session.is_proved:
         lines = as_text(["plan", *(f"{v} {channel}" for v, channel in plan.items())])
         status, output, said = said_by("forestplan", ["check"], text, lines)
         verdict = parsed_verdict(said if status else output.strip())
@@ -91,12 +91,17 @@ def by_definitions(network: Network, text: str, program: Program) -> tuple[str, 
 
 
 def judged(
-    network: Network, network_text: str, text: str, program: Program, before: int = 0
+    network: Network,
+    network_text: str,
+    text: str,
+    program: Program,
+    session: Session,
+    before: int = 0,
 ) -> Judged:
     """What is said of a whole transcript. The machine counts lines from the network's first one; here they count after
     `before` others."""
     entries = max(0, text.count("\n") - 1)
-    if not OPENED.is_proved or is_own(program):
+    if not session.is_proved or is_own(program):
         said, line = by_definitions(network, text, program)
         return Judged(ok=line is None, said=said, by=PYTHON, entries=entries)
     status, output, said = replayed(network_text, text, program)
@@ -113,11 +118,11 @@ def replayed(network_text: str, text: str, program: Program) -> tuple[int, str, 
 
 
 def beginning_judged(
-    network: Network, network_text: str, entries: list[str], program: Program
+    network: Network, network_text: str, entries: list[str], program: Program, session: Session
 ) -> Replayed:
     """What is said of the first entries of a run, each without its stamp."""
     text = as_text([f"transcript 1 {network.nodes}", *entries])
-    if OPENED.is_proved and not is_own(program):
+    if session.is_proved and not is_own(program):
         status, output, said = replayed(network_text, text, program)
         states = states_of(output)
         return Replayed(

@@ -11,15 +11,16 @@ from lab.studio.dares import judged
 from lab.studio.limits import apart
 from lab.studio.messages import OfProgram
 from lab.studio.networks import opened_by
+from lab.studio.session import Session
 
 
-def judge(lines: list[str]) -> Iterator[tuple[str, bool]]:
+def judge(lines: list[str], session: Session) -> Iterator[tuple[str, bool]]:
     """For each link the line that is said of it, as soon as it is judged, and whether it could be."""
     for number, line in enumerate(lines, 1):
         link = line.strip()
         if not link:
             continue
-        found = apart(partial(judged_link, link))
+        found = apart(partial(judged_link, link, session))
         if found.kind == "answer":
             yield f"{number}: {found.answer}", True
         else:
@@ -28,12 +29,12 @@ def judge(lines: list[str]) -> Iterator[tuple[str, bool]]:
             yield f"{number}: can't be {what}: {found.wrong}", False
 
 
-def judged_link(link: str) -> str:
+def judged_link(link: str, session: Session) -> str:
     """What is said of a link."""
     host, mark, place = link.partition("#")
     if not mark:
         raise Fault(Code.NO_ADDRESS, host=shown(host))
-    opened = opened_by(place)
+    opened = opened_by(place, session)
     opened.address.refuse()
     values = opened.address.values
     if values.dare is None:
@@ -43,7 +44,7 @@ def judged_link(link: str) -> str:
     asked = OfProgram(network=opened.text, program=program_named(values))
     network = network_asked(asked)
     rules = tuple(values.without.split(",")) if values.without else ()
-    program = program_asked(asked, network)
+    program = program_asked(asked, network, session)
     found = judged(network, program, rules, values.steps or (), values.dare)
     without = f" without {','.join(rules)}" if rules else ""
     verdict = "won" if found.won else "not won"

@@ -2,7 +2,7 @@
 import os
 import re
 from argparse import ArgumentParser
-from dataclasses import dataclass
+from dataclasses import dataclass, replace
 from math import isqrt, prod
 from typing import NoReturn
 
@@ -34,7 +34,7 @@ from lab.studio.answers import (
     RuleSaid,
     RulesSaid,
 )
-from lab.studio.asked import MOST_DRAWN, OPENED, network_asked
+from lab.studio.asked import MOST_DRAWN, network_asked
 from lab.studio.dares import DARES
 from lab.studio.drawn import drawn_of
 from lab.studio.lessons import LECTURE, lessons
@@ -47,6 +47,7 @@ from lab.studio.messages import (
     ReadCall,
     TidyCall,
 )
+from lab.studio.session import Session
 from lab.studio.telling import Tell
 
 # How many letters of a file's name are shown.
@@ -67,15 +68,15 @@ def shown(network: Network) -> Net:
     return net_of(network)
 
 
-def hello(_call: HelloCall, _tell: Tell) -> Hello:
+def hello(_call: HelloCall, session: Session, _tell: Tell) -> Hello:
     """What there is to choose from."""
     return Hello(
-        proved=OPENED.is_proved,
+        proved=session.is_proved,
         most=MOST_DRAWN,
-        opened=OPENED.network,
+        opened=session.network,
         examples=sorted(stem(file) for file in os.listdir(EXAMPLES) if file.endswith(".col")),
         kinds={name: KindOfNetwork(kind.sizes, kind.is_by_chance) for name, kind in KINDS.items()},
-        programs=[*PROGRAMS, *OPENED.own],
+        programs=[*PROGRAMS, *session.own],
         passes=MAX_PASSES,
         policies=POLICIES,
         rules=RulesSaid(
@@ -101,7 +102,7 @@ def example_text(name: str) -> str:
         return file.read()
 
 
-def example(call: ExampleCall, _tell: Tell) -> Net:
+def example(call: ExampleCall, session: Session, _tell: Tell) -> Net:
     return shown(read_network(example_text(call.name), call.name))
 
 
@@ -115,7 +116,7 @@ class Place:
     network: Net | None
 
 
-def opened_by(place: str, before: Here = Here()) -> Place:
+def opened_by(place: str, session: Session, before: Here = Here()) -> Place:
     """What an address opens, after the `#`; refused if its network can't be read."""
     pairs, unread = pairs_of(place)
     pairs = place_opened(pairs)
@@ -130,7 +131,7 @@ def opened_by(place: str, before: Here = Here()) -> Place:
         text, network = drawn.text(), drawn.for_page()
     elif {"example", "net"} & set(unread):
         raise Fault(Code.TWO_NETWORKS)
-    here = before if network is None else here_of(network)
+    here = replace(before if network is None else here_of(network), own=session.own)
     return Place(read_values(pairs, unread, here), text, network)
 
 
@@ -139,16 +140,16 @@ def here_of(network: Net) -> Here:
     return Here(len(network.nodes), set(network.edges))
 
 
-def address(call: AddressCall, _tell: Tell) -> FoundAddress:
+def address(call: AddressCall, session: Session, _tell: Tell) -> FoundAddress:
     """What an address says, for the page that follows it."""
     here = Here(call.nodes, set(call.edges))
-    if not call.nodes and OPENED.network:
-        here = here_of(OPENED.network)
-    opened = opened_by(call.place, here)
+    if not call.nodes and session.network:
+        here = here_of(session.network)
+    opened = opened_by(call.place, session, here)
     return FoundAddress(opened.network, opened.address.values, opened.address.faults())
 
 
-def file_read(call: ReadCall, _tell: Tell) -> FileRead | FileUnsaid:
+def file_read(call: ReadCall, session: Session, _tell: Tell) -> FileRead | FileUnsaid:
     """A file that was dropped on the page, or the page's question if something of it isn't stated."""
     name = call.name[:MOST_NAME]
     try:
@@ -190,7 +191,7 @@ def whole_number(said: str, name: str) -> int:
     return int(said)
 
 
-def make(call: MakeCall, _tell: Tell) -> Net:
+def make(call: MakeCall, session: Session, _tell: Tell) -> Net:
     kind = call.kind
     sizes = [whole_number(call.sizes.get(size, ""), size) for size in KINDS[kind].sizes]
     nodes = sizes[0] if kind == "random" else prod(sizes)
@@ -216,13 +217,13 @@ def by_shape(kind: str, nodes: int, *_: int) -> dict[int, tuple[float, float]]:
     }
 
 
-def bent(call: BendsCall, _tell: Tell) -> Bends:
+def bent(call: BendsCall, session: Session, _tell: Tell) -> Bends:
     """The bends of a network whose nodes are where the page has them."""
     network = network_asked(call)
     return Bends(page_bends(places_of(network), network.edges))
 
 
-def tidy(call: TidyCall, _tell: Tell) -> Net:
+def tidy(call: TidyCall, session: Session, _tell: Tell) -> Net:
     network = network_asked(call)
     network.places = {}
     network.places = places_of(network)

@@ -20,6 +20,7 @@ from lab.studio.asked import (
 )
 from lab.studio.answers import Predicted
 from lab.studio.messages import PredictCall, WaitsCall
+from lab.studio.session import Session
 from lab.studio.telling import Tell
 from lab.words import in_words
 
@@ -30,10 +31,10 @@ NOT_NEEDED = {"acks": "acknowledgements", "safes": "safes"}
 OF_ROOT = "It has no parent in this forest, so its new colour is its own digit in the place i = 0 (bit step)."
 
 
-def predict(call: PredictCall, _tell: Tell) -> Predicted:
+def predict(call: PredictCall, session: Session, _tell: Tell) -> Predicted:
     """Whether it is right what is said of a node after a pulse; of the colouring in a forest, or in its merge."""
     network = network_asked(call, MOST_ROUNDS)
-    program = program_asked(call, network)
+    program = program_asked(call, network, session)
     v, pulse, last = vertex_asked(call, network), call.pulse, program.last_pulse(network)
     if not 1 <= pulse <= last:
         raise Fault(Code.NO_PULSE, pulse=pulse, last=last)
@@ -92,11 +93,11 @@ def of_program(rounds: ProgramRounds, v: int, pulse: int) -> tuple[str, str]:
     return rounds.pulses[pulse].results[v], f"It reads {in_words(read) or 'nothing'}."
 
 
-def waits(call: WaitsCall, _tell: Tell) -> Predicted:
+def waits(call: WaitsCall, session: Session, _tell: Tell) -> Predicted:
     """The same of what a node waits for after some steps, as `ack 2, safe 3`: the word, and of whom."""
     network = network_asked(call, MOST_RUN)
     v = vertex_asked(call, network)
-    program = program_asked(call, network)
+    program = program_asked(call, network, session)
     player = Stepwise(network, program, rules_asked(call, OF_SCHEDULES))
     player.follow(call.steps.split("_"))
     found, why = waited(player, v)

@@ -27,13 +27,14 @@ from lab.studio.messages import (
     RoundsPageCall,
     WhyCall,
 )
+from lab.studio.session import Session
 from lab.studio.telling import Tell
 
 
-def plan(call: PlanCall, _tell: Tell) -> PlanFound:
+def plan(call: PlanCall, session: Session, _tell: Tell) -> PlanFound:
     """The plan, and what the network comes to."""
     network = network_asked(call)
-    channels = read_plan(plan_of(network, call.network), "the plan", network)
+    channels = read_plan(plan_of(network, call.network, session), "the plan", network)
     return PlanFound(
         plan=[channels[v] for v in network.vertices],
         allowed=network.channels,
@@ -44,13 +45,13 @@ def plan(call: PlanCall, _tell: Tell) -> PlanFound:
     )
 
 
-def check(call: CheckCall, _tell: Tell) -> GoodPlan | BadPlan:
+def check(call: CheckCall, session: Session, _tell: Tell) -> GoodPlan | BadPlan:
     """The verdict on a plan, whoever made it, and what its code means."""
     network = network_asked(call)
     if len(call.plan) > network.nodes or min(call.plan, default=0) < 0:
         raise Fault(Code.PLAN_OF_FIELD, nodes=network.nodes)
     channels = {v: channel for v, channel in zip(network.vertices, call.plan) if channel}
-    verdict = verdict_on(network, call.network, channels)
+    verdict = verdict_on(network, call.network, channels, session)
     if not verdict.code:
         return GoodPlan(verdict.short, [], verdict.numbers[0])
     place = f"{verdict.of} {' and '.join(map(str, verdict.numbers))}" if verdict.of else ""
@@ -71,25 +72,25 @@ def of_nodes(words: str) -> str:
     return words.replace("vertices", "nodes").replace("vertex", "node")
 
 
-def rounds_asked(call: OfProgram) -> ProgramRounds | Rounds:
+def rounds_asked(call: OfProgram, session: Session) -> ProgramRounds | Rounds:
     network = network_asked(call, MOST_ROUNDS)
-    program = program_asked(call, network)
+    program = program_asked(call, network, session)
     if program != COLOURING:
         return ProgramRounds(network, program)
-    return rounds_of(network, call.network)
+    return rounds_of(network, call.network, session)
 
 
-def rounds(call: RoundsCall, _tell: Tell) -> RoundsFound:
+def rounds(call: RoundsCall, session: Session, _tell: Tell) -> RoundsFound:
     """The rounds, pulse by pulse."""
-    return player_page.film_of(rounds_asked(call))
+    return player_page.film_of(rounds_asked(call, session))
 
 
-def rounds_page(call: RoundsPageCall, _tell: Tell) -> str:
+def rounds_page(call: RoundsPageCall, session: Session, _tell: Tell) -> str:
     """A page that plays the rounds and needs no server, as the command `picture player` draws it."""
-    return player_page.draw(rounds_asked(call))
+    return player_page.draw(rounds_asked(call, session))
 
 
-def why(call: WhyCall, _tell: Tell) -> WhyFound:
+def why(call: WhyCall, session: Session, _tell: Tell) -> WhyFound:
     """Why a node has its channel."""
     network = network_asked(call, MOST_ROUNDS)
     cone = why_picture.Cone(Rounds(network), vertex_asked(call, network))
@@ -100,11 +101,11 @@ def why(call: WhyCall, _tell: Tell) -> WhyFound:
     )
 
 
-def broken(call: BrokenCall, _tell: Tell) -> Broken:
+def broken(call: BrokenCall, session: Session, _tell: Tell) -> Broken:
     """What the rounds of this network do without a rule, in words; and a picture of it, or of a smallest network on
     which they go wrong, if there is one."""
     network = network_asked(call, MOST_ROUNDS)
-    program = program_asked(call, network)
+    program = program_asked(call, network, session)
     without = rules_asked(call, OF_PROGRAMS.get(program.name, {}))
     if not without:
         raise Fault(Code.NO_RULE_LEFT_OUT)
@@ -121,7 +122,7 @@ def broken(call: BrokenCall, _tell: Tell) -> Broken:
     return Broken(False, words.split("\n"), net_of(least.net), smallest)
 
 
-def picture(call: PictureCall, _tell: Tell) -> str:
+def picture(call: PictureCall, session: Session, _tell: Tell) -> str:
     """A picture, as the command `picture` draws it."""
     network = network_asked(call)
     texts: list[Text] = []
@@ -130,7 +131,7 @@ def picture(call: PictureCall, _tell: Tell) -> str:
         # What a command line is told to use instead isn't on the page.
         raise Fault(Code.PICTURE_TOO_LARGE, kind=call.kind, most=most[0], nodes=network.nodes)
     if call.kind == "plan":
-        texts = [Text("the plan", plan_of(network, call.network))]
+        texts = [Text("the plan", plan_of(network, call.network, session))]
     if call.kind == "run":
         if call.transcript is None:
             raise Fault(Code.NO_TRANSCRIPT_OF_FIELD)
@@ -141,7 +142,7 @@ def picture(call: PictureCall, _tell: Tell) -> str:
         raise Fault(Code.NO_TWO_PULSES)
     return drawing(
         call.kind,
-        Source(network, program_asked(call, network), texts, title=network.name),
+        Source(network, program_asked(call, network, session), texts, title=network.name),
         forest=call.forest,
         vertex=call.vertex,
         pulses=call.pulses or None,

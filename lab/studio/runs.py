@@ -23,7 +23,6 @@ from lab.studio.asked import (
     MOST_DRAWN,
     MOST_RUN,
     MOST_STEPS,
-    OPENED,
     network_asked,
     program_asked,
     rules_asked,
@@ -31,6 +30,7 @@ from lab.studio.asked import (
 from lab.studio.dares import impossible, judged as dare_judged, results_of
 from lab.studio.judges import PYTHON, beginning_judged, by_definitions, judged, text_from
 from lab.studio.messages import Held, JudgeCall, ReplayCall, RunCall, RunPageCall, StepsCall
+from lab.studio.session import Session
 from lab.studio.telling import Tell
 from lab.transcripts.reading import line_of
 
@@ -51,11 +51,13 @@ def held_of(held: Held, net: Network) -> tuple[set[tuple[int, int]], set[int]]:
     return slow, lazy
 
 
-def played(call: RunCall, network: Network, program: Program, tell: Tell) -> tuple[str, Run]:
+def played(
+    call: RunCall, network: Network, program: Program, session: Session, tell: Tell
+) -> tuple[str, Run]:
     """(transcript, run) by a seed, which no thread made; steps of somebody's may come first."""
     most = least_wires(network, program)
     if most > MOST_WIRES_PLAYED:
-        code = Code.RUN_TOO_LONG if OPENED.is_proved else Code.RUN_TOO_LONG_UNBUILT
+        code = Code.RUN_TOO_LONG if session.is_proved else Code.RUN_TOO_LONG_UNBUILT
         raise Fault(code, wires=most, most=MOST_WIRES_PLAYED)
     if call.policy is None:
         raise Fault(Code.NO_POLICY)
@@ -95,8 +97,8 @@ def run_part(found: Run) -> RunPart:
     return RunPart(found.table(), found.last, found.pulses, found.is_cut)
 
 
-def by_threads(call: RunCall, program: Program) -> str:
-    if not OPENED.is_proved:
+def by_threads(call: RunCall, program: Program, session: Session) -> str:
+    if not session.is_proved:
         raise Fault(Code.NO_THREADS)
     name = "forestplan" if program == COLOURING else "forestplay"
     words = (
@@ -108,18 +110,18 @@ def by_threads(call: RunCall, program: Program) -> str:
     )
 
 
-def run(call: RunCall, tell: Tell) -> WholeRun:
+def run(call: RunCall, session: Session, tell: Tell) -> WholeRun:
     """A run: its transcript, the rows that the page follows, the judge's verdict, and whether its payloads are those of
     the rounds."""
     network = network_asked(call, MOST_RUN)
-    program = program_asked(call, network)
+    program = program_asked(call, network, session)
     found = None
     if call.transcript:
         text = call.transcript
     elif call.how == "threads" and not is_own(program):
-        text = by_threads(call, program)
+        text = by_threads(call, program, session)
     else:
-        text, found = played(call, network, program, tell)
+        text, found = played(call, network, program, session, tell)
     if found is None:
         lines = text.splitlines(keepends=True)
         if text.startswith("transcript 2 "):
@@ -133,7 +135,7 @@ def run(call: RunCall, tell: Tell) -> WholeRun:
         pulses=found.pulses,
         cut=found.is_cut,
         text=text,
-        judge=judged(network, call.network, text, program),
+        judge=judged(network, call.network, text, program, session),
         same=same,
         results=results,
         costs={kind: len(re.findall(f"^.* put \\d+ {kind}", text, re.M)) for kind in KINDS},
@@ -141,10 +143,10 @@ def run(call: RunCall, tell: Tell) -> WholeRun:
     )
 
 
-def run_page(call: RunPageCall, _tell: Tell) -> str:
+def run_page(call: RunPageCall, session: Session, _tell: Tell) -> str:
     """The same of a run, as the command `picture watch` draws it."""
     network = network_asked(call, MOST_RUN)
-    program = program_asked(call, network)
+    program = program_asked(call, network, session)
     return draw([run_of_text("the run", call.transcript, network, program=program)])
 
 
@@ -172,20 +174,24 @@ def compared(
     return (same, len(pulses), sum(map(len, sent.values()))), results
 
 
-def replay(call: ReplayCall, _tell: Tell) -> Replayed:
+def replay(call: ReplayCall, session: Session, _tell: Tell) -> Replayed:
     """What the judge says of the first entries of a run: it plays them, and says where each node is. Without stamps a
     beginning of a run is no fault."""
     network = network_asked(call, MOST_RUN)
     entries = [line.partition(" ")[2] for line in call.transcript.splitlines()[1:]]
-    return beginning_judged(network, call.network, entries, program_asked(call, network))
+    return beginning_judged(
+        network, call.network, entries, program_asked(call, network, session), session
+    )
 
 
-def judge(call: JudgeCall, _tell: Tell) -> JudgedText:
+def judge(call: JudgeCall, session: Session, _tell: Tell) -> JudgedText:
     """What is said of a transcript, whoever wrote it: in words by the definitions, and by the proved machine."""
     network, text = network_asked(call, MOST_DRAWN), call.transcript
-    program = program_asked(call, network)
+    program = program_asked(call, network, session)
     before = call.network.count("\n") + 1
-    proved = judged(network, call.network, text, program, before) if OPENED.is_proved else None
+    proved = (
+        judged(network, call.network, text, program, session, before) if session.is_proved else None
+    )
     said, line = by_definitions(network, text, program)
     return JudgedText(ok=line is None, said=said, line=line, by=PYTHON, proved=proved)
 
@@ -204,11 +210,11 @@ def follow(player: Stepwise, call: StepsCall, held: tuple[set[tuple[int, int]], 
         player.in_step(*held)
 
 
-def steps(call: StepsCall, _tell: Tell) -> StepsFound:
+def steps(call: StepsCall, session: Session, _tell: Tell) -> StepsFound:
     """A run that is made step by step: where it is after some steps, or the events of a `list`, and what can come next.
     `by` steps more are left to chance, or up to all nodes' next pulse `in step`."""
     network = network_asked(call, MOST_RUN)
-    program = program_asked(call, network)
+    program = program_asked(call, network, session)
     without = rules_asked(call, OF_SCHEDULES)
     player = Stepwise(network, program, without)
     follow(player, call, held_of(call, network))
@@ -221,7 +227,7 @@ def steps(call: StepsCall, _tell: Tell) -> StepsFound:
         )
     if not without and not player.is_over:
         lines = [line_of(entry) for entry in player.made]
-        judge_found = beginning_judged(network, call.network, lines, program)
+        judge_found = beginning_judged(network, call.network, lines, program, session)
     return StepsFound(
         made=player.chosen,
         steps=[] if player.is_over else player.possible(),

@@ -33,6 +33,7 @@ from lab.studio.building import Building
 from lab.studio.calls import CALLS
 from lab.studio.connections import Connection, Connections, SECONDS_TO_ASK, Said
 from lab.studio.fields import object_of
+from lab.studio.session import Session
 
 HOST = "127.0.0.1"
 FOLDERS = os.path.join(TOP, "lab/studio/page"), pages.FOLDER
@@ -70,8 +71,9 @@ class Server(socketserver.ForkingMixIn, http.server.HTTPServer):
     # The server itself never waits for one of them.
     max_children, request_queue_size, block_on_close = sys.maxsize, 128, False
 
-    def __init__(self, port: int, token: str, folder: str) -> None:
-        self.token, self.building, self.process = token, Building(folder), os.getpid()
+    def __init__(self, port: int, token: str, folder: str, session: Session) -> None:
+        self.token, self.building, self.process = token, Building(folder, session), os.getpid()
+        self.session = session
         self.active_children: set[int] = set()
         self.calls: set[int] = set()
         super().__init__((HOST, port), Handler)
@@ -260,7 +262,9 @@ class Handler(http.server.BaseHTTPRequestHandler):
         self.headed(200, "application/x-ndjson")
         answer = Answer(self)
         with limited(self, lambda why: answer.line(wrong=why)):
-            found = limits.outcome(lambda: CALLS[name].answer(asked, answer.tell))
+            found = limits.outcome(
+                lambda: CALLS[name].answer(asked, self.server.session, answer.tell)
+            )
         if found.kind == "answer":
             return answer.line(answer=found.answer)
         return answer.line(wrong=found.wrong)

@@ -16,11 +16,11 @@ from lab.networks.sources import network_bytes
 from lab.networks.options import commands_for
 from lab.networks.reading import form_read, read_any
 from lab.networks.forms import Stated, Unsaid
-from lab.studio.asked import OPENED
 from lab.studio.building import are_built
 from lab.studio.links import judge
 from lab.studio.networks import shown
 from lab.studio.serving import Server
+from lab.studio.session import Session
 from lab.words import Parser, one_line, parser_of, text_at, text_name
 
 PORT, NEXT_PORTS = 8321, 20
@@ -93,11 +93,11 @@ def own_programs(files: Iterable[str]) -> dict[str, str]:
     return found
 
 
-def server_at(port: int | None, folder: str) -> Server:
+def server_at(port: int | None, folder: str, session: Session) -> Server:
     """The server at a port, or at the first free one from the usual one on."""
     for at in [port] if port is not None else range(PORT, PORT + NEXT_PORTS):
         try:
-            return Server(at, secrets.token_urlsafe(24), folder)
+            return Server(at, secrets.token_urlsafe(24), folder, session)
         except OSError as why:
             refused = Fault(Code.PORT_REFUSED, port=at, why=why.strerror)
         except OverflowError:
@@ -138,11 +138,9 @@ def main(words: list[str]) -> int:
         return judge_links(given)
     with tempfile.TemporaryDirectory(prefix="forestplan-studio-") as folder:
         try:
-            if given.network is not None:
-                OPENED.network = shown(opened(given.network))
-            OPENED.own = own_programs(given.own)
-            OPENED.is_proved = are_built()
-            server = server_at(given.port, folder)
+            network = None if given.network is None else shown(opened(given.network))
+            session = Session(network, own_programs(given.own), are_built())
+            server = server_at(given.port, folder, session)
         except Fault as why:
             print(f"studio: {why}", file=sys.stderr)
             return 1
@@ -158,8 +156,8 @@ def judge_links(given: Namespace) -> int:
     """Says of each link of a file whether it wins its dare."""
     are_judged = True
     try:
-        OPENED.own = own_programs(given.own)
-        for said, is_judged in judge(text_at(given.links).split("\n")):
+        session = Session(own=own_programs(given.own))
+        for said, is_judged in judge(text_at(given.links).split("\n"), session):
             print(one_line(said), flush=True)
             are_judged = are_judged and is_judged
     except Fault as why:

@@ -30,6 +30,7 @@ from lab.studio.lessons import (
 )
 from lab.studio.messages import ExerciseCall
 from lab.studio.networks import opened_by
+from lab.studio.session import Session
 from tests import TOP
 from tests.cases import Case, said_by, text_in
 from tests.pages.test_studio_page import Page
@@ -84,7 +85,7 @@ def step_of(lesson: int, name: str) -> int:
 def verdict(lesson: int, name: str, **asked: object) -> ExerciseJudged:
     call = {"network": "", "lesson": lesson, "step": step_of(lesson, name)} | asked
     try:
-        return exercise_judged(ExerciseCall(**call), tell)  # type: ignore[arg-type]
+        return exercise_judged(ExerciseCall(**call), Session(), tell)  # type: ignore[arg-type]
     except Fault as why:
         return ExerciseJudged(False, str(why))
 
@@ -119,7 +120,7 @@ class Table(Case):
                         r"http://127\.0\.0\.1:8321/#([^)\s`\"]*)", text_in(folder, name)
                     ):
                         count += 1
-                        faults = opened_by(place).address.faults()
+                        faults = opened_by(place, Session()).address.faults()
                         self.same(f"{name}: {place}", faults, "")
         self.note("there are some", count > 15, count)
 
@@ -127,10 +128,10 @@ class Table(Case):
         """Each place of the table is read whole, opens a network and a tab, and is opened by its lesson and step."""
         for number, k, step in steps():
             place = table.step_place(number, k)
-            opened = opened_by(place)
+            opened = opened_by(place, Session())
             self.same(f"lesson {number} step {k}", opened.address.faults(), "")
             self.note("has a network", opened.network)
-            by_name = opened_by(f"lesson={number}&step={k}").address
+            by_name = opened_by(f"lesson={number}&step={k}", Session()).address
             wanted = opened.address.values
             self.same(
                 "by its number",
@@ -141,7 +142,7 @@ class Table(Case):
             if isinstance(step.exercise, PredictedExercise):
                 self.note("a question", wanted.predict and wanted.node, place)
         for k, one in enumerate(LECTURE, 1):
-            values = opened_by(f"lecture={k}").address.values
+            values = opened_by(f"lecture={k}", Session()).address.values
             self.same(f"lecture {k}", (values.tab, values.lecture), (table.tab_of(one.place), k))
 
     def test_refused(self) -> None:
@@ -151,7 +152,7 @@ class Table(Case):
             ("example=two&tab=draw&step=2", "no lesson is named"),
             ("example=two&tab=draw&lecture=8", "it is a number from 1 to 7"),
         ):
-            faults = opened_by(place).address.faults()
+            faults = opened_by(place, Session()).address.faults()
             self.note(place, why in faults, faults)
 
     def test_names(self) -> None:
@@ -331,7 +332,7 @@ class Judged(Case):
     def test_refused(self) -> None:
         for lesson, step in ((0, 1), (8, 1), (1, 99), (3, 1), (3, 2)):
             with self.assertRaises(Fault):
-                exercise_judged(ExerciseCall(network="", lesson=lesson, step=step), tell)
+                exercise_judged(ExerciseCall(network="", lesson=lesson, step=step), Session(), tell)
 
 
 class Cards(Page):

@@ -27,6 +27,7 @@ from lab.studio.answers import PictureKind, TabName, Values
 from lab.studio.dares import DARES
 from lab.studio.links import judge, judged_link
 from lab.studio.networks import opened_by
+from lab.studio.session import Session
 from tests import FORESTLAB, TOP
 from tests.cases import Case, called, example, found_in, said_by, text_in, written_by
 from tests.tools import need
@@ -156,7 +157,7 @@ def told(state):
 
 def read_back(place):
     """(network, values) of an address, as the page gets them."""
-    opened = opened_by(place)
+    opened = opened_by(place, Session())
     opened.address.refuse()
     words = json.dumps([opened.network, opened.address.values], default=as_object)
     found = json.loads(words)
@@ -283,7 +284,7 @@ class Addresses(Case):
         ):
             with self.subTest(place[:100]):
                 try:
-                    opened_by(place).address.refuse()
+                    opened_by(place, Session()).address.refuse()
                     found = ""
                 except Fault as why:
                     found = str(why)
@@ -293,13 +294,13 @@ class Addresses(Case):
     def test_of_the_page(self):
         """An address without a network is of the one that the page has, and a lesson opens its place."""
         here = Here(2, {(1, 2)})
-        found = opened_by("tab=run&slow=2-1&node=2", here)
+        found = opened_by("tab=run&slow=2-1&node=2", Session(), here)
         wanted = Values(tab="run", slow=[(1, 2)], node=2)
         self.same("its network is kept", (found.network, found.address.values), (None, wanted))
-        self.same("an empty one", opened_by("net=~", here).network, Net("", [], [], []))
-        values = opened_by("lesson=6&step=3").address.values
+        self.same("an empty one", opened_by("net=~", Session(), here).network, Net("", [], [], []))
+        values = opened_by("lesson=6&step=3", Session()).address.values
         self.same("a lesson's place", (values.tab, values.without), ("adversary", "safes"))
-        values = opened_by(f"{TWO}&tab=check&lesson=6").address.values
+        values = opened_by(f"{TWO}&tab=check&lesson=6", Session()).address.values
         self.same("another place", (values.tab, values.without), ("check", None))
 
 
@@ -383,20 +384,20 @@ class Links(Case):
     def test_limits(self):
         """Each link has a process with the limits of a call; what takes too much is said, and the others go on."""
         with mock.patch.object(limits, "MEMORY", 300 << 20):
-            found = list(judge([complete(60), f"#{TWO}&dare=apart"]))
+            found = list(judge([complete(60), f"#{TWO}&dare=apart"], Session()))
         said = ["1: can't be judged: it took too much memory, so it was ended", False]
         self.same("too much memory", list(found[0]), said)
         self.note("the next one", found[1][0].startswith("2: not won"), found[1])
         with mock.patch(
-            "lab.studio.links.judged_link", lambda link: time.sleep(60)
+            "lab.studio.links.judged_link", lambda link, _: time.sleep(60)
         ), mock.patch.object(limits, "SECONDS", 1):
-            found = list(judge(["x"]))
+            found = list(judge(["x"], Session()))
         self.same("too much time", found, [(f"1: can't be judged: {limits.TOO_LATE}", False)])
-        with mock.patch("lab.studio.links.judged_link", side_effect=lambda link: os._exit(3)):
-            found = list(judge(["x"]))
+        with mock.patch("lab.studio.links.judged_link", side_effect=lambda link, _: os._exit(3)):
+            found = list(judge(["x"], Session()))
         self.note("an end without a word", "so it was ended" in found[0][0], found)
-        with mock.patch("lab.studio.links.judged_link", lambda link: 1 // 0):
-            found = list(judge(["x"]))
+        with mock.patch("lab.studio.links.judged_link", lambda link, _: 1 // 0):
+            found = list(judge(["x"], Session()))
         self.note("a fault of ours", "can't be judged: a fault of the studio" in found[0][0], found)
 
     def test_dared(self):
@@ -407,4 +408,4 @@ class Links(Case):
             (f"#{TWO}&dare=apart&steps=1", "step 1 of the list, 1, isn't possible there"),
         ):
             with self.subTest(link), self.assertRaisesRegex(Fault, re.escape(said)):
-                judged_link(link)
+                judged_link(link, Session())

@@ -8,10 +8,10 @@ from unittest import mock
 
 from lab.definitions.nodes import COLOURING
 from lab.studio import limits, runs
-from lab.studio.asked import OPENED
 from lab.studio.calls import CALLS
 from lab.studio.fields import fields_of, object_of
 from lab.studio.messages import RunCall
+from lab.studio.session import Session
 from tests.cases import FilesCase
 
 EDGE = "p edge 2 1\ne 1 2\n"
@@ -137,12 +137,13 @@ class Calls(FilesCase):
     def setUp(self):
         # No button is pressed, and nothing is built.
         self.enterContext(mock.patch("shutil.which", lambda name: None))
-        self.enterContext(mock.patch.object(OPENED, "is_proved", False))
 
     def outcome(self, name, body):
         """What is answered to a call with this body, in words if it is refused."""
         return limits.outcome(
-            lambda: CALLS[name].answer(object_of(body), lambda done=0, of=0, part=None: None)
+            lambda: CALLS[name].answer(
+                object_of(body), Session(), lambda done=0, of=0, part=None: None
+            )
         )
 
     def is_no_fault(self, row, found):
@@ -236,11 +237,10 @@ class Calls(FilesCase):
         call = RunCall(network=EDGE, workers=4, capacity=2)
         for usable, wanted in ((1, 1), (3, 3), (16, 4)):
             with (
-                mock.patch.object(OPENED, "is_proved", True),
                 mock.patch("os.sched_getaffinity", return_value=range(usable)),
                 mock.patch.object(runs, "text_from") as called,
             ):
-                runs.by_threads(call, COLOURING)
+                runs.by_threads(call, COLOURING, Session(is_proved=True))
             words = called.call_args.args[1]
             self.same(
                 f"{usable} processors", words, ["transcript", f"--workers={wanted}", "--capacity=2"]

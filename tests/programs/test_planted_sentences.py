@@ -17,6 +17,7 @@ from lab.pictures.page_data import as_object
 from lab.sentences import SENTENCES
 from lab.studio import limits
 from lab.studio.calls import CALLS
+from lab.studio.session import Session
 from tests.cases import FilesCase
 
 PLANTED = {code: f"planted {code.name}" for code in Code}
@@ -248,7 +249,7 @@ class Planted(FilesCase):
     def answered(self, name: str, body: dict[str, object]) -> object:
         """The answer to a call, as data, or the fault for which it is refused."""
         try:
-            answer = CALLS[name].answer(body, lambda done=0, of=0, part=None: None)
+            answer = CALLS[name].answer(body, Session(), lambda done=0, of=0, part=None: None)
         except Fault as fault:
             return told(fault)
         return json.loads(json.dumps(answer, default=as_object))

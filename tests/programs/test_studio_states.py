@@ -17,6 +17,7 @@ from lab.schedules.stepwise import Stepwise
 from lab.studio.answers import Predicted
 from lab.studio.messages import PredictCall, WaitsCall
 from lab.studio.predictions import predict, waited, waits
+from lab.studio.session import Session
 from tests.cases import Case, examples
 
 ALONE, EDGE, ROW = "p edge 1 0\n", "p edge 2 1\ne 1 2\n", "p edge 3 2\ne 1 2\ne 2 3\n"
@@ -163,7 +164,7 @@ class Calls(Case):
             ):
                 parent = rounds.parents.get((v, forest))
                 call = PredictCall(network=text, vertex=v, forest=forest, pulse=pulse, said="0")
-                why = predict(call, untold).why
+                why = predict(call, Session(), untold).why
                 at = f"{name}: node {v} in forest {forest}, pulse {pulse}: {why}"
                 self.same(f"{at}: its parent", "its parent" in why, parent is not None)
                 named = {int(n) for n in re.findall(r"node (\d+) had", why)}
@@ -171,7 +172,7 @@ class Calls(Case):
 
     def waits(self, steps: str, said: str, rules: str) -> Predicted:
         call = WaitsCall(network=EDGE, without=rules, steps=steps, vertex=1, said=said)
-        return waits(call, untold)
+        return waits(call, Session(), untold)
 
     def test_answers(self) -> None:
         """Without safes a node waits for none, so `nothing` is right as soon as its pulse is possible."""
