@@ -80,7 +80,8 @@ module _ {S M E : Type 0} (program : Program S M E) (net : Net) where
 
   alpha_is : (v : ℕ) → IsVertex net v → alpha_in program net outcome v ≡ start_of program net v
   alpha_is v vertex =
-      ap (λ (l : List (Alpha S M)). get_or l (v - 1) (start_of program net v)) (map-map (λ (g : Gathered S M). g.alpha) (λ u. gathered_start program net u) (vertices net))
+      ap (λ (l : List (Alpha S M)). get_or l (v - 1) (start_of program net v))
+      (map-map (λ (g : Gathered S M). g.alpha) (λ u. gathered_start program net u) (vertices net))
       ∙ made_at net (λ u. start_of program net u) v (start_of program net v) vertex
 
   node_is : (v : ℕ) → IsVertex net v → node_in program net outcome v ≡ start_node program net v
