@@ -234,6 +234,7 @@ class Code(Enum):
     NO_SYNCHRONISER = auto()
     NOTHING_TO_REDUCE = auto()
     TOO_MANY_STATES_OF_REACTING = auto()
+    STATES_GROW = auto()
     RUN_WITHOUT_END = auto()
     RUN_NOT_ENDED = auto()
 

@@ -343,6 +343,10 @@ SENTENCES: dict[Code, str] = {
         "there are more than {limit:,} states: --runs 100 plays a hundred runs instead, and "
         "--limit allows more, at some {each} bytes each"
     ),
+    Code.STATES_GROW: (
+        "what the nodes keep or the links hold grows too large: after {expanded:,} states it has "
+        "more than {most:,} parts. Does it grow without end?"
+    ),
     Code.RUN_WITHOUT_END: ("a run under the policy {policy} hasn't ended after {most:,} events"),
     Code.RUN_NOT_ENDED: "the run hasn't ended after {most:,} entries",
     # pictures
@@ -591,7 +595,8 @@ class Sentence(string.Formatter):
         if format_spec.startswith("?"):
             return "" if value in (None, "") else format_spec[1:].replace("~", str(value))
         if format_spec.startswith("#"):
-            return f"{value:,} {format_spec[1:]}{'' if value == 1 else 's'}"
+            ending = "" if value == 1 else "s"
+            return f"{value:,} {format_spec[1:]}{ending}"
         said: str = super().format_field(value, format_spec)
         return said
 

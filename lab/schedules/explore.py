@@ -345,10 +345,7 @@ def search(given: Namespace, space: Space[AnySearched]) -> None:
         if show:
             sys.stderr.write("\r\033[K")
     if space.is_full:
-        raise Fault(
-            f"what the nodes keep or the links hold grows too large: after {space.expanded:,} states it has more than "
-            f"{MOST_KEPT:,} parts. Does it grow without end?"
-        )
+        raise Fault(Code.STATES_GROW, expanded=space.expanded, most=MOST_KEPT)
     if space.is_cut:
         can_reduce = not given.reduce and not set(given.without) & {"safes", "fifo"}
         code = Code.TOO_MANY_STATES if can_reduce else Code.TOO_MANY_STATES_LEFT

@@ -15,7 +15,7 @@ from lab.faults import Fault
 from lab.networks.fields import shown
 from lab.schedules.policies import POLICIES
 from lab.schedules.rules import OF_PROGRAMS, OF_SCHEDULES
-from lab.studio.answers import Order, PictureKind, TabName, Values, Written
+from lab.studio.answers import TABS, Order, PictureKind, TabName, Values, Written
 from lab.studio.asked import MOST_STEPS
 from lab.studio.dares import DARES
 from lab.studio.drawn import decoded
@@ -145,7 +145,7 @@ NAMES: dict[str, Name] = {
     "example": Name("word", lambda said, _: said),
     "net": Name("network", lambda said, _: said),
     "program": Name("word", program_of),
-    "tab": Name("word", among(get_args(TabName))),
+    "tab": Name("word", among(TABS)),
     "passes": Name("number", lambda said, _: within(said, 1, MAX_PASSES)),
     "root": Name("number", lambda said, here: here.node(said)),
     "slow": Name("list", lambda said, here: list(map(here.edge, items(said)))),

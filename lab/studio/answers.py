@@ -4,12 +4,13 @@ lab/studio/page/calls.d.ts has the same for the page's JavaScript. `python3 buil
 """
 from collections.abc import Mapping, Sequence
 from dataclasses import dataclass
-from typing import Literal
+from typing import Literal, get_args
 
 from lab.network import Edge
 from lab.pictures.page_data import Look, Net, RunFound
 
 TabName = Literal["draw", "rounds", "run", "adversary", "check", "pictures"]
+TABS: tuple[TabName, ...] = get_args(TabName)
 # A picture of the tab Pictures.
 PictureKind = Literal["plan", "results", "rounds", "bits", "why", "run"]
 # How the page writes a value of an address.

@@ -8,11 +8,10 @@ import os
 import re
 from collections.abc import Sequence
 from dataclasses import dataclass
-from typing import cast, get_args
 
 from lab.programs import TOP
 from lab.schedules.rules import OF_SCHEDULES
-from lab.studio.answers import Exercise, LecturePlace, Lesson, LessonStep, TabName
+from lab.studio.answers import TABS, Exercise, LecturePlace, Lesson, LessonStep, TabName
 
 
 @dataclass(frozen=True, kw_only=True)
@@ -657,10 +656,11 @@ def values_in(place: str) -> dict[str, str]:
 
 
 def tab_of(place: str) -> TabName:
-    tab = values_in(place)["tab"]
-    if tab not in get_args(TabName):
+    named = values_in(place)["tab"]
+    tab = next((tab for tab in TABS if tab == named), None)
+    if tab is None:
         raise ValueError(f"{place}: no tab of the studio")
-    return cast(TabName, tab)
+    return tab
 
 
 def exercise_of(step: TableStep) -> Exercise | None:

@@ -69,16 +69,25 @@ def refusal(
     if code is Code.NO_SUCH:
         return WrongEntry(entry.line, code, entry=words(entry))
     at = standing(state, entry.node)
-    if at is None and code is Code.NOT_READY:
+    due_wire = state.carried(event_of(state, entry)) if code is Code.WRONG_WIRE else None
+    if at:
+        rule = rule_broken(at, entry) if code in OF_RULES else ""
+        lacks = at.lacks
+        return WrongEntry(
+            entry.line, code, entry=words(entry), lacks=lacks, due=due_wire, rule=rule
+        )
+    if code is Code.NOT_READY:
         lacks = missing_words(state, event_of(state, entry))
         return WrongEntry(entry.line, Code.STEP_NOT_READY, entry=words(entry), lacks=lacks)
-    due_wire = state.carried(event_of(state, entry)) if code is Code.WRONG_WIRE else None
-    rule = ""
-    if at and code in OF_RULES and entry.kind is not TAKE:
-        what = "pulse" if entry.kind is PULSE else f"put {entry.neighbour}"
-        rule = rule_of(at, f"{what} {entry.what}", says_lacks=False)
-    lacks = at.lacks if at else ""
-    return WrongEntry(entry.line, code, entry=words(entry), lacks=lacks, due=due_wire, rule=rule)
+    return WrongEntry(entry.line, code, entry=words(entry), lacks="", due=due_wire, rule="")
+
+
+def rule_broken(at: Standing, entry: Entry) -> str:
+    """The rule that a pulse or a put breaks, in words; a take breaks none."""
+    if entry.kind is TAKE:
+        return ""
+    what = "pulse" if entry.kind is PULSE else f"put {entry.neighbour}"
+    return rule_of(at, f"{what} {entry.what}", says_lacks=False)
 
 
 def why_link_empty(entry: Entry, entries: list[Entry]) -> WrongEntry:

@@ -75,16 +75,19 @@ def sentences_in(function: ast.FunctionDef) -> set[str]:
         if isinstance(node, ast.ExceptHandler) and node.name
     }
     for node in ast.walk(function):
-        if not isinstance(node, ast.Assign):
-            continue
-        called = node.value.func if isinstance(node.value, ast.Call) else None
-        name = getattr(called, "id", getattr(called, "attr", None))
-        if name in SAYING or is_sentence(node.value, names):
+        if isinstance(node, ast.Assign) and gives_sentence(node.value, names):
             bound = [getattr(target, "elts", [target]) for target in node.targets]
             found = [one.id for ones in bound for one in ones if isinstance(one, ast.Name)]
             # Of a triple the first is a status.
             names |= set(found[1:] if len(found) > 2 else found)
     return names
+
+
+def gives_sentence(value: ast.expr, names: set[str]) -> bool:
+    """Whether a value is a sentence, or has one of a proved program."""
+    called = value.func if isinstance(value, ast.Call) else None
+    name = getattr(called, "id", getattr(called, "attr", None))
+    return name in SAYING or is_sentence(value, names)
 
 
 def looks_into(function: ast.FunctionDef) -> Iterator[str]:

@@ -20,6 +20,7 @@ from lab.schedules.stepwise import Stepwise
 from lab.studio import lessons as table
 from lab.studio.answers import ExerciseJudged
 from lab.studio.exercises import GOALS, exercise_judged
+from lab.studio.fields import parsed_call
 from lab.studio.lessons import (
     LECTURE,
     LESSONS,
@@ -83,11 +84,62 @@ def step_of(lesson: int, name: str) -> int:
 
 
 def verdict(lesson: int, name: str, **asked: object) -> ExerciseJudged:
-    call = {"network": "", "lesson": lesson, "step": step_of(lesson, name)} | asked
+    body = {"network": "", "lesson": lesson, "step": step_of(lesson, name)} | asked
     try:
-        return exercise_judged(ExerciseCall(**call), Session(), tell)  # type: ignore[arg-type]
+        return exercise_judged(parsed_call(ExerciseCall, body), Session(), tell)
     except Fault as why:
         return ExerciseJudged(False, str(why))
+
+
+def answers_of_rounds() -> dict[tuple[int, str], int]:
+    """The right answers of the lessons on the colouring, worked out from the definitions."""
+    ring, star = example("four_cycle"), example("star")
+    higher = {v: w for (v, f), w in Rounds(ring).parents.items() if f == 0}
+    at = 1
+    while at in higher:
+        at = higher[at]
+    low = Network(star.nodes, star.edges, {9: 0})
+    nexts = {
+        bit(Network(2, [(1, 2)], {1: 0, 2: 1}), 0, {1: own, 2: other})[1]
+        for own in range(6)
+        for other in range(6)
+        if own != other
+    }
+    merge = [v for v, p in Rounds(example("triangle")).turns.items() if p == 22]
+    player = Stepwise(example("path"), program_at("colouring"), ())
+    player.by_chance(10_000, "7", (), ())
+    return {
+        (1, "enough"): example("petersen").greatest_degree + 1,
+        (1, "rounds"): 4,
+        (2, "root"): at,
+        (2, "forests"): low.forest_count,
+        (3, "six"): max(nexts),
+        (4, "first"): merge[0][1],
+        (4, "identifiers"): 2,
+        (4, "pulse"): Rounds(ring).turns[1, 4],
+        (5, "neighbours"): 1,
+        (5, "ends"): 5,
+        (6, "events"): len(player.chosen),
+    }
+
+
+def answers_of_programs() -> dict[tuple[int, str], int]:
+    """Those of the last lesson, from the rounds of its programs."""
+    drops, petersen = example("drops"), example("petersen")
+    results = {
+        name: list(ProgramRounds(net, program_at(name)).pulses[-1].results.values())
+        for name, net in (
+            ("matching", petersen),
+            ("independent-set", petersen),
+            ("recolouring", drops),
+        )
+    }
+    return {
+        (7, "alone"): 1,
+        (7, "pairs"): sum(one != "partner none" for one in results["matching"]) // 2,
+        (7, "in"): results["independent-set"].count("in"),
+        (7, "fewer"): len(set(results["recolouring"])),
+    }
 
 
 class Table(Case):
@@ -189,47 +241,7 @@ class Table(Case):
 class Judged(Case):
     def test_right_answers(self) -> None:
         """The right answers of the table, worked out from the definitions."""
-        ring, star, drops = example("four_cycle"), example("star"), example("drops")
-        petersen, path = example("petersen"), example("path")
-        higher = {v: w for (v, f), w in Rounds(ring).parents.items() if f == 0}
-        at = 1
-        while at in higher:
-            at = higher[at]
-        low = Network(star.nodes, star.edges, {9: 0})
-        nexts = {
-            bit(Network(2, [(1, 2)], {1: 0, 2: 1}), 0, {1: own, 2: other})[1]
-            for own in range(6)
-            for other in range(6)
-            if own != other
-        }
-        merge = [v for v, p in Rounds(example("triangle")).turns.items() if p == 22]
-        player = Stepwise(path, program_at("colouring"), ())
-        player.by_chance(10_000, "7", (), ())
-        results = {
-            name: list(ProgramRounds(net, program_at(name)).pulses[-1].results.values())
-            for name, net in (
-                ("matching", petersen),
-                ("independent-set", petersen),
-                ("recolouring", drops),
-            )
-        }
-        wanted = {
-            (1, "enough"): petersen.greatest_degree + 1,
-            (1, "rounds"): 4,
-            (2, "root"): at,
-            (2, "forests"): low.forest_count,
-            (3, "six"): max(nexts),
-            (4, "first"): merge[0][1],
-            (4, "identifiers"): 2,
-            (4, "pulse"): Rounds(ring).turns[1, 4],
-            (5, "neighbours"): 1,
-            (5, "ends"): 5,
-            (6, "events"): len(player.chosen),
-            (7, "alone"): 1,
-            (7, "pairs"): sum(one != "partner none" for one in results["matching"]) // 2,
-            (7, "in"): results["independent-set"].count("in"),
-            (7, "fewer"): len(set(results["recolouring"])),
-        }
+        wanted = {**answers_of_rounds(), **answers_of_programs()}
         asked = {
             (n, step.exercise.name): step.exercise
             for n, _, step in steps()
@@ -277,16 +289,16 @@ class Judged(Case):
                 "proper",
                 True,
                 "3 channels",
-                {"network": petersen, "plan": (2, 3, 1, 2, 1, 3, 2, 2, 1, 3)},
+                {"network": petersen, "plan": [2, 3, 1, 2, 1, 3, 2, 2, 1, 3]},
             ),
             (
                 1,
                 "proper",
                 False,
                 "6 transmitters without",
-                {"network": petersen, "plan": (1, 2, 1, 2)},
+                {"network": petersen, "plan": [1, 2, 1, 2]},
             ),
-            (1, "proper", False, "the same channel", {"network": petersen, "plan": (1,) * 10}),
+            (1, "proper", False, "the same channel", {"network": petersen, "plan": [1] * 10}),
             (1, "row", True, "3 channels", {"network": of(row, 4)}),
             (1, "row", False, "2 channels", {"network": of([(1, 2), (2, 3), (3, 4)], 4)}),
             (1, "row", False, "aren't one row", {"network": of([(1, 2), (3, 4)], 4)}),
@@ -349,7 +361,8 @@ class Cards(Page):
             self.sees(f"{on} can be reached", is_there, 20)
         else:
             self.value("document.activeElement.blur()")
-        more = {"text": "\r"} if key == "Enter" else {"text": key} if len(key) == 1 else {}
+        texts = {"Enter": "\r"} | ({key: key} if len(key) == 1 else {})
+        more = {"text": texts[key]} if key in texts else {}
         self.page.key(
             key, code=key, windowsVirtualKeyCode=KEYS.get(key, ord(key[0].upper())), **more
         )
@@ -388,43 +401,60 @@ class Cards(Page):
 
     def do_seen(self, lesson: int, name: str) -> None:
         """Does an exercise in the studio, by keys."""
-        if name == "proper":
-            for v, channel in enumerate((2, 3, 1, 2, 1, 3, 2, 2, 1, 3), 1):
-                self.press(str(channel), self.node(v))
-                self.sees(f"channel of {v}", f"studio.check.plan[{v - 1}] === {channel}", 20)
-                time.sleep(0.05)
-        elif name == "row":
-            for k in range(1, 5):
-                self.press("a")
-                self.sees("a node", f"studio.net.nodes.length === {k}", 20)
-            self.join((3, 1), (1, 4), (4, 2))
-        elif name == "two":
-            self.join((1, 2), (3, 4), (1, 3), (2, 4))
-        elif name == "long":
-            self.value("make.querySelector('select').focus()")
-            self.value(
-                "make.querySelector('select').value = 'path'; make.querySelector('select').onchange()"
-            )
-            self.value("make.querySelector('[name=nodes]').value = ''")
-            self.type_in("#make [name=nodes]", "400")
-        elif name in ("centre", "bar"):
-            label = "identifier" if name == "centre" else "barred channels"
-            self.value(
-                "Array.from(document.querySelectorAll('#chosen label')).find(one => "
-                f"one.textContent.startsWith('{label}')).querySelector('input').id = 'field'"
-            )
-            self.type_in("#field", "0" if name == "centre" else "1")
-        elif name == "far":
-            self.press("Enter", "[data-key='hold 1']")
-            for _ in range(12):
-                if not self.value(TICKED):
-                    before = self.value("studio.steps.made.length")
-                    self.press("Enter", "#chance20")
-                    self.page.until(f"studio.steps.made.length > {before} || chance20.disabled", 20)
-                    time.sleep(0.3)
-        else:
-            made = {"pulse": FIRST, "apart": APART, "wrong": WRONG}[name]
-            self.take(*made.split("_"))
+        match name:
+            case "proper":
+                self.choose_channels(2, 3, 1, 2, 1, 3, 2, 2, 1, 3)
+            case "row":
+                for k in range(1, 5):
+                    self.press("a")
+                    self.sees("a node", f"studio.net.nodes.length === {k}", 20)
+                self.join((3, 1), (1, 4), (4, 2))
+            case "two":
+                self.join((1, 2), (3, 4), (1, 3), (2, 4))
+            case "long":
+                self.make_path("400")
+            case "centre":
+                self.fill("identifier", "0")
+            case "bar":
+                self.fill("barred channels", "1")
+            case "far":
+                self.hold_node_1()
+            case _:
+                made = {"pulse": FIRST, "apart": APART, "wrong": WRONG}[name]
+                self.take(*made.split("_"))
+
+    def choose_channels(self, *channels: int) -> None:
+        for v, channel in enumerate(channels, 1):
+            self.press(str(channel), self.node(v))
+            self.sees(f"channel of {v}", f"studio.check.plan[{v - 1}] === {channel}", 20)
+            time.sleep(0.05)
+
+    def make_path(self, nodes: str) -> None:
+        self.value("make.querySelector('select').focus()")
+        self.value(
+            "make.querySelector('select').value = 'path'; make.querySelector('select').onchange()"
+        )
+        self.value("make.querySelector('[name=nodes]').value = ''")
+        self.type_in("#make [name=nodes]", nodes)
+
+    def fill(self, label: str, value: str) -> None:
+        """Fills a field of the chosen node."""
+        self.value(
+            "Array.from(document.querySelectorAll('#chosen label')).find(one => "
+            f"one.textContent.startsWith('{label}')).querySelector('input').id = 'field'"
+        )
+        self.type_in("#field", value)
+
+    def hold_node_1(self) -> None:
+        """Holds node 1, and lets chance go on until the exercise is done."""
+        self.press("Enter", "[data-key='hold 1']")
+        for _ in range(12):
+            if self.value(TICKED):
+                return
+            before = self.value("studio.steps.made.length")
+            self.press("Enter", "#chance20")
+            self.page.until(f"studio.steps.made.length > {before} || chance20.disabled", 20)
+            time.sleep(0.3)
 
     def do_predicted(self, lesson: int, name: str) -> None:
         if name == "waits":

@@ -7,6 +7,7 @@ import re
 import signal
 import subprocess
 import time
+from collections.abc import Iterator
 
 from lab.definitions.colours import colours
 from lab.networks.network_text import network_of
@@ -76,39 +77,42 @@ def contrast(one, other):
     return max(lights) / min(lights)
 
 
+def rows_of_the_palette() -> Iterator[tuple[str, str, float]]:
+    """A colour, what it is on, and the least contrast."""
+    for hue in CHANNEL_HUES + FOREST_COLOURS:
+        yield text_on(hue), hue, 4.5
+    for digits in range(24):
+        fill, ink = grey(1 << digits)
+        yield ink, fill, 4.5
+    for pale in PALE.values():
+        yield INK, pale, 4.5
+    for kind in ("payload", "ack", "safe"):
+        yield WIRES[kind], PAPER, 3
+
+
+def rows_of_a_look(variables: str) -> Iterator[tuple[str, str, float]]:
+    """The same, of the page's variables in the light or in the dark."""
+    here = dict(re.findall(r"--(\w+):(#\w+)", variables))
+    grounds = [here.pop("paper"), here.pop("panel")]
+    del here["hair"]
+    yield here["ink"], here.pop("chosen"), 4.5
+    card = here.pop("card")
+    for name in ("ink", "soft", "wrong", "good", "accent"):
+        yield here[name], card, 4.5
+    for name, hue in here.items():
+        for ground in grounds:
+            yield hue, ground, 4.5 if name in ("ink", "soft", "wrong", "good") else 3
+    for kind in WIRES:
+        rim = max(WIRES[kind], PALE[kind], key=lambda hue: contrast(hue, grounds[0]))
+        yield rim, grounds[0], 3
+
+
 class Repeated(Case):
     def test_contrast(self):
         """Text has a contrast of 4.5, a mark (a fill by its rim) one of 3, in the light and in the dark."""
         looks = re.findall(r":root\{(.*?)\}", text_in("lab/pictures/page/page.css"), re.S)
         self.note("a light and a dark look", len(looks) == 2)
-        rows = [
-            (ink, fill, 4.5)
-            for fill, ink in [
-                *((hue, text_on(hue)) for hue in CHANNEL_HUES + FOREST_COLOURS),
-                *(grey(1 << digits) for digits in range(24)),
-                *((pale, INK) for pale in PALE.values()),
-            ]
-        ]
-        rows += [(WIRES[kind], PAPER, 3) for kind in ("payload", "ack", "safe")]
-        for variables in looks:
-            here = dict(re.findall(r"--(\w+):(#\w+)", variables))
-            grounds, _ = [here.pop("paper"), here.pop("panel")], here.pop("hair")
-            rows += [(here["ink"], here.pop("chosen"), 4.5)]
-            card = here.pop("card")
-            rows += [(here[name], card, 4.5) for name in ("ink", "soft", "wrong", "good", "accent")]
-            rows += [
-                (hue, ground, 4.5 if name in ("ink", "soft", "wrong", "good") else 3)
-                for name, hue in here.items()
-                for ground in grounds
-            ]
-            rows += [
-                (
-                    max(WIRES[kind], PALE[kind], key=lambda hue: contrast(hue, grounds[0])),
-                    grounds[0],
-                    3,
-                )
-                for kind in WIRES
-            ]
+        rows = [*rows_of_the_palette(), *(row for look in looks for row in rows_of_a_look(look))]
         for one, other, least in rows:
             self.note(f"{one} on {other}", contrast(one, other) >= least, contrast(one, other))
 

@@ -69,6 +69,10 @@ GOOD: list[tuple[str, dict]] = [
     ("predict", RUN | {"vertex": 1, "pulse": 1, "forest": 0, "said": "layer 0"}),
     ("predict", RUN | {"program": "colouring"} | {"vertex": 1, "pulse": 3, "forest": 0, "said": 1}),
     ("waits", RUN | STEPS | {"vertex": 1, "said": "ack 2"}),
+    # An answer that is said, a typed plan, and steps that are taken.
+    ("exercise", {"network": "", "lesson": 1, "step": 1, "said": "4"}),
+    ("exercise", {"network": EDGE, "lesson": 1, "step": 2, "plan": [1, 2]}),
+    ("exercise", RUN | STEPS | {"lesson": 6, "step": 1}),
     ("build", {}),
     ("built", {}),
 ]
@@ -87,6 +91,8 @@ DEFAULTS = {
     **{"steps": "", "without": "", "forest": 0, "how": "seed", "workers": 4, "capacity": 4},
     **{"pulses": [], "by": 0, "in_step": False, "dare": None, "policy": None, "list": None},
 }
+# The same of a field that a call of this name may lack and another one may not.
+OWN_DEFAULTS: dict[str, dict[str, object]] = {"exercise": {"plan": [], "said": ""}}
 # The sentence of each refusal of a malformed call. The server's other tests ask only for its beginning.
 AT_NODE = {"network": EDGE, "vertex": 1}
 REFUSALS: tuple[tuple[str, dict, str], ...] = (
@@ -187,11 +193,12 @@ class Calls(FilesCase):
     def test_defaults(self):
         """A field that isn't there means the same as its default, where both are answered or refused."""
         for name, asked in GOOD:
-            for field in DEFAULTS.keys() & asked:
+            defaults = DEFAULTS | OWN_DEFAULTS.get(name, {})
+            for field in defaults.keys() & asked:
                 less = {other: value for other, value in asked.items() if other != field}
                 found, wanted = (
                     self.outcome(name, text_of(words))
-                    for words in (less, less | {field: DEFAULTS[field]})
+                    for words in (less, less | {field: defaults[field]})
                 )
                 self.same(f"{name} without {field}", found, wanted)
 
