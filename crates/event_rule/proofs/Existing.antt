@@ -23,7 +23,7 @@ use Rattle.event_rule.specs.Step.{run}
 use Rattle.event_rule.specs.Events.{IsRunFrom, Possible}
 use Rattle.event_rule.proofs.KeptRuns.{reached_kept}
 use Rattle.event_rule.specs.Commute.{vertex_of}
-use Rattle.event_rule.specs.Laps.{AreThoroughLaps, AreThoroughTurns, HasAll, IsThoroughTurn, ThoroughLapsExist}
+use Rattle.event_rule.specs.Laps.{AreThoroughLaps, AreThoroughTurns, HasAll, ThoroughLapsExist, ThoroughTurnsExist}
 use Rattle.event_rule.proofs.Later.{led, rest_then}
 use Rattle.event_rule.proofs.Maximal.{bounded, leads_on, run_more}
 use Rattle.event_rule.proofs.Laps.{run_on}
@@ -103,8 +103,7 @@ module _ {S M E : Type 0} {program : Program S M E} {net : Net} (ok : IsNetwork 
   all_was_taken xs [] le = ([], append-nil (xs ++ []) ∙ append-nil xs)
   all_was_taken xs (y ∷ ys) le = absurd (omega (arith, le, length-append xs (y ∷ ys)))
 
-  turn_of : (v : ℕ) → IsVertex net v → (before : List Event) (state : State S M) → run program net before ≡ Ok state
-      → (next : State S M) × IsThoroughTurn program net v state next
+  pub turn_of : ThoroughTurnsExist program net
   turn_of v vertex before state is =
       let done = idles v vertex (events_of_run program net) before state is (omega arith) in
       let later = (led ok runs done.events state done.next (reached_kept ok runs state (before, is)) done.leads).later in (

@@ -25,4 +25,5 @@ pub mod ThreeLaps
 pub mod LastLap
 pub mod Laps
 pub mod Existing
+mod Orders
 pub mod PulseMachine

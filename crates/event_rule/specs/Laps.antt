@@ -1,6 +1,6 @@
 -- Turns that leave nothing for later, and how many laps of them a run takes.
 use Rattle.std.specs.Prelude.{◌≡◌, ◌⊎◌, ℕ, ◌+◌, ◌*◌, ◌<◌, ◌≤◌, false, List, [], ◌∷◌, All, Contains, Ok, length}
-use Rattle.interference.specs.Net.{Net, IsVertex, degree_of}
+use Rattle.interference.specs.Net.{Net, IsVertex, degree_of, vertices}
 use Rattle.node_api.specs.Program.{Program, last_pulse_on}
 use Rattle.wires.specs.Streams.{Begins}
 use Rattle.alpha_core.specs.View.{can_pulse, expects, port_at}
@@ -42,6 +42,10 @@ AreThoroughTurns {S} {M} program net state (v ∷ vs) last =
 abbrev pub HasAll : Net → List ℕ → Type 0
 HasAll net order = (v : ℕ) → IsVertex net v → Contains order v
 
+-- Every vertex has a turn, and nobody else. The vertices by their numbers are such an order.
+abbrev pub OrdersExist : Net → Type 0
+OrdersExist net = HasAll net (vertices net) × All (λ v. IsVertex net v) (vertices net)
+
 -- Laps, one after the other, each of thorough turns in an order of its own, in which every vertex has one.
 abbrev pub AreThoroughLaps : {S M E : Type 0} → Program S M E → Net → State S M → List (List ℕ) → State S M → Type 0
 AreThoroughLaps program net state [] last = last ≡ state
@@ -57,7 +61,13 @@ ThoroughLapsEnd {S} {M} program net =
     → 3 * last_pulse_on program net + 2 ≤ length orders
     → (events : List Event) × (run program net events ≡ Ok last) × IsEnd program net events last
 
--- There are such laps: for all orders of vertices in which every vertex has a turn.
+-- In every state that is reached each node has a thorough turn.
+abbrev pub ThoroughTurnsExist : {S M E : Type 0} → Program S M E → Net → Type 0
+ThoroughTurnsExist {S} {M} program net =
+    (v : ℕ) → IsVertex net v → (events : List Event) (state : State S M) → run program net events ≡ Ok state
+    → (next : State S M) × IsThoroughTurn program net v state next
+
+-- From the start there are such laps for all lists of orders of vertices in each of which every vertex has a turn.
 abbrev pub ThoroughLapsExist : {S M E : Type 0} → Program S M E → Net → Type 0
 ThoroughLapsExist {S} {M} program net =
     (orders : List (List ℕ)) → All (λ order. HasAll net order × All (λ v. IsVertex net v) order) orders

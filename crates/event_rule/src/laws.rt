@@ -3,7 +3,8 @@
 ghost use Rattle.node_api.specs.Program.{Program};
 ghost use Rattle.alpha_laws.specs.Laws.{OnEveryNetwork};
 ghost use Rattle.event_rule.specs.Commute.{EventsCommute};
-ghost use Rattle.event_rule.specs.Laps.{ThoroughLapsEnd, ThoroughLapsExist};
+ghost use Rattle.event_rule.specs.Laps.{OrdersExist, ThoroughLapsEnd, ThoroughLapsExist, ThoroughTurnsExist};
+ghost use Rattle.interference.specs.Net.{Net};
 ghost use Rattle.event_rule.specs.Progress.{MaximalRunsAgree, MaximalRunsEnd, NoDeadlock, RunsAreBounded};
 ghost use Rattle.event_rule.specs.Progress.{RunsAreCounted, RunsAreShort, RunsCanBeCompleted, RunsHaveRoom};
 ghost use Rattle.event_rule.specs.Progress.{WholeStatesAreTerminal};
@@ -51,11 +52,14 @@ pub fn runs_are_short<S, M, E>()
 
 /// If each turn leaves nothing for later, 3·R + 2 laps are enough, where R is the last pulse, whatever the orders of
 /// the turns are. In each lap every node has a turn that takes all that was put for it, or all that it expects, puts
-/// all that waits, and makes a pulse if it can. There are such laps for all orders of the network's nodes in which
-/// every node has a turn.
+/// all that waits, and makes a pulse if it can. Such a turn exists for each node in every state that is reached; so
+/// such laps exist, from the start, for all lists of orders of the network's nodes in each of which every node has a
+/// turn. The nodes by their numbers are such an order.
 pub fn thorough_laps_end<S, M, E>()
     ensures ends { (program : Program S M E) → OnEveryNetwork program (ThoroughLapsEnd program) }
     ensures exist { (program : Program S M E) → OnEveryNetwork program (ThoroughLapsExist program) }
+    ensures turns { (program : Program S M E) → OnEveryNetwork program (ThoroughTurnsExist program) }
+    ensures orders { (net : Net) → OrdersExist net }
 {}
 
 /// Every run simulates the pulse machine, which has the nodes' pulses and nothing else: a pulse is a step of it, which

@@ -19,7 +19,7 @@ use Rattle.event_rule.specs.Laps.{HasAll}
 use Rattle.event_rule.proofs.KeptRuns.{reached_kept}
 use Rattle.event_rule.proofs.Maximal.{leads_on}
 use Rattle.event_rule.proofs.Laps.{run_on}
-use Rattle.lone_runs.specs.Fair.{AreLaps, AreTurns, FairLapsExist, IsTurn}
+use Rattle.lone_runs.specs.Fair.{AreLaps, AreTurns, FairLapsExist, FairTurnsExist}
 
 module _ {S M E : Type 0} {program : Program S M E} {net : Net} (ok : IsNetwork net) (runs : Runs program net) where
   abbrev IsStuck : ℕ → State S M → Type 0
@@ -58,8 +58,7 @@ module _ {S M E : Type 0} {program : Program S M E} {net : Net} (ok : IsNetwork 
       {B = λ i. length (sent_of (link_to net state.links v i)) ≤ length (link_to net state.links v i).taken}
       (λ i. cases_lt (length (link_to net state.links v i).taken) (length (sent_of (link_to net state.links v i)))) (degree_of net v))
 
-  turn_of : (v : ℕ) → IsVertex net v → (before : List Event) (state : State S M) → run program net before ≡ Ok state
-      → (next : State S M) × IsTurn program net v state next
+  pub turn_of : FairTurnsExist program net
   turn_of v vertex before state is = ⊎_elim
       (λ (event, own, possible).
       let on = leads_on ok runs state (reached_kept ok runs state (before, is)) event possible in (

@@ -38,7 +38,13 @@ FairOrdersEnd {S} {M} program net =
     → events_of_run program net ≤ length orders
     → (events : List Event) × (run program net events ≡ Ok last) × IsEnd program net events last
 
--- Fair turns exist in all orders of vertices in each of which every vertex has one.
+-- In every state that is reached each node has a fair turn.
+abbrev pub FairTurnsExist : {S M E : Type 0} → Program S M E → Net → Type 0
+FairTurnsExist {S} {M} program net =
+    (v : ℕ) → IsVertex net v → (events : List Event) (state : State S M) → run program net events ≡ Ok state
+    → (next : State S M) × IsTurn program net v state next
+
+-- From the start there are fair laps for all lists of orders of vertices in each of which every vertex has a turn.
 abbrev pub FairLapsExist : {S M E : Type 0} → Program S M E → Net → Type 0
 FairLapsExist {S} {M} program net =
     (orders : List (List ℕ)) → All (λ order. HasAll net order × All (λ v. IsVertex net v) order) orders

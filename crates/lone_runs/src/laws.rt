@@ -2,7 +2,7 @@
 
 ghost use Rattle.node_api.specs.Program.{Program};
 ghost use Rattle.alpha_laws.specs.Laws.{OnEveryNetwork};
-ghost use Rattle.lone_runs.specs.Fair.{FairOrdersEnd, FairLapsExist};
+ghost use Rattle.lone_runs.specs.Fair.{FairLapsExist, FairOrdersEnd, FairTurnsExist};
 
 /// Every fair order of turns ends: if each node's turn comes again and again, in whatever order and with however many
 /// events in a turn, then after at most E laps, in each of which every node has a turn, every node is in the last
@@ -12,7 +12,10 @@ pub fn fair_orders_end<S, M, E>()
     ensures law { (program : Program S M E) → OnEveryNetwork program (FairOrdersEnd program) }
 {}
 
-/// There are such turns for all orders of the network's nodes in each of which every node has one.
+/// In every state that is reached each node has a fair turn: it makes events of this node, however many, and none only
+/// if none is possible. So there are, from the start, laps of fair turns for all lists of orders of the network's nodes
+/// in each of which every node has a turn.
 pub fn fair_laps_exist<S, M, E>()
     ensures law { (program : Program S M E) → OnEveryNetwork program (FairLapsExist program) }
+    ensures turns { (program : Program S M E) → OnEveryNetwork program (FairTurnsExist program) }
 {}
