@@ -15,7 +15,7 @@ from lab.faults import Fault
 from lab.networks.fields import shown
 from lab.schedules.policies import POLICIES
 from lab.schedules.rules import OF_PROGRAMS, OF_SCHEDULES
-from lab.studio.answers import TABS, Order, PictureKind, TabName, Values, Written
+from lab.studio.answers import TABS, Order, PictureKind, Values, Written
 from lab.studio.asked import MOST_STEPS
 from lab.studio.dares import DARES
 from lab.studio.drawn import decoded
