@@ -76,8 +76,20 @@ def on_close(me, port):
 
 
 def result(me):
-    return f"leader {me.best}"
+    closed = ", closed" if me.closed == me.degree else ""
+    return f"round {me.round}, leader {me.best}{closed}"
+
+
+def always(results, neighbours):
+    """Neighbours are at most one round apart."""
+    rounds = {v: int(words.split()[1].rstrip(",")) for v, words in results.items()}
+    for v, others in neighbours.items():
+        for w in others:
+            if rounds[v] > rounds[w] + 1:
+                return f"node {v} is in round {rounds[v]}, and {w} in round {rounds[w]}"
+    return True
 
 
 def right(results, neighbours):
-    return set(results.values()) == {f"leader {max(results)}"} or "not all know the leader"
+    end = f"round {len(results)}, leader {max(results)}, closed"
+    return set(results.values()) == {end} or "not all are through, and know the leader"

@@ -8,6 +8,7 @@ earlier. A node enters when all have answered."""
 
 def start(me):
     me.state, me.time, me.asked, me.answers, me.later = "idle", 0, None, 0, []
+    me.visits = 0
 
 
 def may_act(me):
@@ -43,16 +44,17 @@ def on_yes(me, port):
 def enter(me):
     if me.answers == me.degree:
         me.state = "inside"
+        me.visits += 1
 
 
 def result(me):
-    return me.state
+    return f"{me.state}, visits {me.visits}"
 
 
 def always(results, neighbours):
-    inside = [v for v, state in results.items() if state == "inside"]
+    inside = [v for v, words in results.items() if words.startswith("inside")]
     return len(inside) < 2 or f"the nodes {inside} are inside"
 
 
 def right(results, neighbours):
-    return set(results.values()) == {"done"} or "not all have been inside"
+    return set(results.values()) == {"done, visits 1"} or "not all have been inside"

@@ -46,6 +46,12 @@ def result(me):
     return f"noted {me.noted}" + (" so far" if me.open else "")
 
 
+def always(results, neighbours):
+    if any(words == "noted None" or words.endswith("so far") for words in results.values()):
+        return True
+    return right(results, neighbours)
+
+
 def right(results, neighbours):
     noted = [words.split()[1] for words in results.values()]
     if "None" in noted:

@@ -256,7 +256,14 @@ class Samples(Case):
                 "path3",
                 "27 coins are noted of 30",
             ),
-            ("alpha", "me.last and me.said and", "me.last and", "two", "path3", "not all know"),
+            (
+                "alpha",
+                "me.safes[me.round] == me.degree",
+                "me.safes[me.round] > 0",
+                "two",
+                "path3",
+                "KeyError: 0, in `on_safe`",
+            ),
         ):
             text = text_in("examples", "algorithms", f"{name}.py")
             self.same(f"{name} has the line", text.count(old), 1)
