@@ -63,7 +63,7 @@ def shown_commands(lines):
         for below in lines[number + 1 :]:
             if not below.startswith("    ") or "$ " in below:
                 break
-            shown.append(re.split(r" {2,}", below[column:].rstrip())[0])
+            shown.append(re.split(r"(?<=\S) {2,}", below[column:].rstrip())[0])
         yield number + 1, re.split(r" {2,}", found.group(2))[0], shown
 
 

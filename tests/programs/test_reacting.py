@@ -184,6 +184,15 @@ class Samples(Case):
         self.same(f"{name} on {network}", (status, fault), (0, ""))
         return tuple(text.splitlines())
 
+    def test_the_page(self) -> None:
+        """The page has lines of the echo, with comments of its own."""
+        page = text_in("docs", "learn", "OWN_ALGORITHM.md")
+        block = page.partition("`examples/algorithms/echo.py`:\n\n")[2].partition("\n\nThen")[0]
+        lines = [line.partition("#")[0].strip() for line in block.splitlines()]
+        self.note("it is there", len(lines) > 20, block)
+        source = iter([line.strip() for line in ECHO.splitlines()])
+        self.same("other lines", [line for line in lines if line and line not in source], [])
+
     def test_published_counts(self) -> None:
         """Two messages an edge of the echo (Chang); of the ring 1 + 2 + .. + n for the identifiers, since each goes as
         far as the next greater one, and n to tell it (Chang and Roberts' worst case); 2(n - 1) for each entry of Ricart
