@@ -76,13 +76,13 @@ def on_close(me, port):
 
 
 def result(me):
-    closed = ", closed" if me.closed == me.degree else ""
-    return f"round {me.round}, leader {me.best}{closed}"
+    closed = " (closed)" if me.closed == me.degree else ""
+    return f"leader {me.best} in round {me.round}{closed}"
 
 
 def always(results, neighbours):
     """Neighbours are at most one round apart."""
-    rounds = {v: int(words.split()[1].rstrip(",")) for v, words in results.items()}
+    rounds = {v: int(words.split()[4]) for v, words in results.items()}
     for v, others in neighbours.items():
         for w in others:
             if rounds[v] > rounds[w] + 1:
@@ -91,5 +91,5 @@ def always(results, neighbours):
 
 
 def right(results, neighbours):
-    end = f"round {len(results)}, leader {max(results)}, closed"
+    end = f"leader {max(results)} in round {len(results)} (closed)"
     return set(results.values()) == {end} or "not all are through, and know the leader"

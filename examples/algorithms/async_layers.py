@@ -48,7 +48,7 @@ def settle(me):
 
 
 def result(me):
-    return f"layer {me.layer}" + (", ended" if me.ended else "")
+    return f"layer {me.layer}" + (" (ended)" if me.ended else "")
 
 
 def distances(neighbours):
@@ -62,7 +62,7 @@ def distances(neighbours):
 
 
 def always(results, neighbours, messages):
-    if not results[1].endswith("ended"):
+    if not results[1].endswith("(ended)"):
         return True
     if messages:
         return "node 1 says that it has ended, and messages are under way"
@@ -70,9 +70,9 @@ def always(results, neighbours, messages):
 
 
 def right(results, neighbours):
-    if not results[1].endswith("ended"):
+    if not results[1].endswith("(ended)"):
         return "node 1 doesn't know that it has ended"
     for v, layer in distances(neighbours).items():
-        if results[v].split(",")[0] != f"layer {layer}":
+        if results[v].removesuffix(" (ended)") != f"layer {layer}":
             return f"{v} has {results[v]}, and is in layer {layer}"
     return True

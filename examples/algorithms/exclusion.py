@@ -48,13 +48,13 @@ def enter(me):
 
 
 def result(me):
-    return f"{me.state}, visits {me.visits}"
+    return f"done (visits {me.visits})" if me.state == "done" else me.state
 
 
 def always(results, neighbours):
-    inside = [v for v, words in results.items() if words.startswith("inside")]
+    inside = [v for v, words in results.items() if words == "inside"]
     return len(inside) < 2 or f"the nodes {inside} are inside"
 
 
 def right(results, neighbours):
-    return set(results.values()) == {"done, visits 1"} or "not all have been inside"
+    return set(results.values()) == {"done (visits 1)"} or "not all have been inside"

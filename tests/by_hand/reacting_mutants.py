@@ -3,9 +3,9 @@
 
 The changes are drawn by a seed: a statement is left out, a comparison or a number is another one, `and` is `or`, True
 is False. Each changed file is explored on two, three and four nodes. It has to be refused in one line, or to have a
-list of events, or to be called right, or to be too large; and none may end with a traceback or without end. What is
-called right on all networks is printed with its change, for a reader to judge. The last lines say how many are found on
-how many nodes."""
+list of events, or to be called right, or to be too large; and none may end with a traceback or without end. Of a
+network with too many states, runs by a seed are played. What is called right on all networks is printed with its
+change, for a reader to judge. The last lines say how many are found on how many nodes."""
 
 import ast
 import copy
@@ -21,17 +21,20 @@ from lab.schedules import explore
 from tests import TOP
 from tests.cases import in_process
 
+# A ring in which two nodes have only lesser neighbours.
+MIXED = "mixed4"
+MIXED_TEXT = "p edge 4 4\ne 1 2\ne 2 3\ne 3 4\ne 4 1\ni 1 3\ni 2 1\ni 3 4\ni 4 2\n"
 # The networks of two, three and four nodes; a ring has three at least.
 NETWORKS = {
     "echo": ("two", "triangle", "ring4"),
-    "ring_leader": ("ring3", "ring4"),
-    "ring_phases": ("ring3", "ring4"),
-    "exclusion": ("two", "triangle"),
-    "async_layers": ("two", "triangle", "ring4"),
+    "ring_leader": ("ring3", MIXED),
+    "ring_phases": ("ring3", MIXED),
+    "exclusion": ("two", "triangle", "complete4"),
+    "async_layers": ("two", "triangle", "ring4", "complete4"),
     "snapshot": ("two", "triangle", "ring4"),
     "alpha": ("two", "path3", "star4"),
 }
-LIMIT = "20000"
+LIMIT, RUNS = "20000", "60"
 OTHERS = {
     ast.Eq: ast.NotEq,
     ast.NotEq: ast.Eq,
@@ -97,9 +100,10 @@ def change(place: ast.expr) -> None:
         place.value = not place.value if isinstance(place.value, bool) else place.value + 1
 
 
-def verdict_of(path: str, network: str) -> str:
+def verdict_of(path: str, network: str, *options: str) -> str:
     """What `explore` says of a changed file: refused, list, right, large; or what may not be."""
-    words = ("explore", explore.main, network, "--program", path, "--limit", LIMIT)
+    name = os.path.join(os.path.dirname(path), f"{MIXED}.col") if network == MIXED else network
+    words = ("explore", explore.main, name, "--program", path, "--limit", LIMIT, *options)
     status, out, errors = in_process(*words)
     said = out.decode() + errors.decode()
     if "Traceback" in said:
@@ -108,8 +112,8 @@ def verdict_of(path: str, network: str) -> str:
     if status == 0:
         return "right, and never ends" if "never end" in said else "right"
     if "there are more than" in first:
-        return "large"
-    if first.startswith("broken after "):
+        return f"{verdict_of(path, network, '--runs', RUNS)} in runs"
+    if first.startswith("broken "):
         return "list"
     return "refused" if status == 1 and said.count("\n") == 1 else f"unclear: {said[:300]}"
 
@@ -126,6 +130,8 @@ def main() -> None:
     drawn = chance.sample(every, min(count, len(every)))
     first_found: Counter[str] = Counter()
     with tempfile.TemporaryDirectory() as folder:
+        with open(os.path.join(folder, f"{MIXED}.col"), "w", encoding="utf-8") as file:
+            file.write(MIXED_TEXT)
         for name, what, tree in drawn:
             path = os.path.join(folder, f"{name}.py")
             with open(path, "w", encoding="utf-8") as file:
@@ -136,10 +142,10 @@ def main() -> None:
                 found[network] = verdict_of(path, network)
                 if time.monotonic() - begun > 120:
                     print(f"SLOW {name}, {what}: {network}", flush=True)
-                if found[network] in ("list", "refused"):
+                if found[network].split()[0] in ("list", "refused"):
                     break
             last = found[network]
-            if last in ("list", "refused"):
+            if last.split()[0] in ("list", "refused"):
                 first_found[f"{last} on {network}"] += 1
             else:
                 first_found[last.split(":")[0]] += 1

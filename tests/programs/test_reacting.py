@@ -57,6 +57,8 @@ def on_end(me, port):
 def result(me):
     return f"left {me.left}"
 """
+# A ring in which the nodes of the identifiers 3 and 4 have only lesser neighbours.
+MIXED_TEXT = "p edge 4 4\ne 1 2\ne 2 3\ne 3 4\ne 4 1\ni 1 3\ni 2 1\ni 3 4\ni 4 2\n"
 PING = """\
 def start(me):
     me.got = []
@@ -238,45 +240,73 @@ class Samples(Case):
         self.same("all coins are noted", coins, {30})
 
     def test_planted_mistakes(self) -> None:
-        """Each is one line that a smaller network doesn't show and a larger one does."""
-        for name, old, new, right, wrong, said in (
-            ("echo", "is None and me.id != 1:", "is None:", "path3", "triangle", "node 1 counts 2"),
+        """Each is a line or two that a smaller network doesn't show and a larger one does."""
+        mixed = self.file("mixed.col", MIXED_TEXT)
+        for name, changes, right, wrong, said in (
+            (
+                "echo",
+                [("is None and me.id != 1:", "is None:")],
+                "path3",
+                "triangle",
+                "node 1 counts 2",
+            ),
+            (
+                "ring_leader",
+                [
+                    (
+                        '    me.send(1 - port, "leader", id)\n\n\ndef on',
+                        '    me.send_all("leader", id)\n\n\ndef on',
+                    ),
+                    (
+                        '    me.send(1 - port, "leader", id)\n\n\ndef result',
+                        "    pass\n\n\ndef result",
+                    ),
+                ],
+                "ring3",
+                "ring4",
+                "not all know the leader",
+            ),
+            (
+                "ring_phases",
+                [("        probe(me)", "        announce(me, port, id)")],
+                "ring3",
+                mixed,
+                "there are the leaders ['leader 3']",
+            ),
             (
                 "exclusion",
-                "    me.time = max(me.time, time)\n",
-                "",
+                [("    me.time = max(me.time, time)\n", "")],
                 "two",
                 "triangle",
                 "the nodes [1, 2] are inside",
             ),
             (
                 "async_layers",
-                "is None or layer < me.layer:",
-                "is None:",
+                [("is None or layer < me.layer:", "is None:")],
                 "path3",
                 "triangle",
                 "3 has layer 2, and is in layer 1",
             ),
             (
                 "snapshot",
-                "me.open.discard(port)",
-                "me.open.clear()",
+                [("me.open.discard(port)", "me.open.clear()")],
                 "two",
                 "path3",
                 "27 coins are noted of 30",
             ),
             (
                 "alpha",
-                "me.safes[me.round] == me.degree",
-                "me.safes[me.round] > 0",
+                [("me.safes[me.round] == me.degree", "me.safes[me.round] > 0")],
                 "two",
                 "path3",
                 "KeyError: 0, in `on_safe`",
             ),
         ):
             text = text_in("examples", "algorithms", f"{name}.py")
-            self.same(f"{name} has the line", text.count(old), 1)
-            path = self.file(f"{name}.py", text.replace(old, new))
+            for old, new in changes:
+                self.same(f"{name} has {old!r}", text.count(old), 1)
+                text = text.replace(old, new)
+            path = self.file(f"{name}.py", text)
             done = said_by("explore", right, "--program", path)
             self.note(
                 f"{name} on {right}", done[0] == 0 and done[1].startswith("every schedule of"), done
@@ -285,6 +315,13 @@ class Samples(Case):
             first = done[1].split("\n")[0]
             good = done[0] == 1 and first.startswith("broken after ") and said in first
             self.note(f"{name} on {wrong}", good, done)
+
+    def test_identifiers(self) -> None:
+        """The samples of rings are right on a ring in which two nodes have only lesser neighbours, too."""
+        mixed = self.file("mixed.col", MIXED_TEXT)
+        for name in ("ring_leader", "ring_phases"):
+            done = said_by("explore", mixed, "--program", sample(name))
+            self.note(name, done[0] == 0 and done[1].startswith("every schedule of mixed"), done)
 
     def answer(self, name: str, *pairs: str) -> str:
         """A sample with an answer to its exercise (docs/learn/ANSWERS.md)."""
@@ -302,12 +339,8 @@ class Samples(Case):
         done = said_by("explore", "ring5", "--program", best)
         self.note("C (b)", done[0] == 0 and "each has 14 to 20 messages;" in done[1], done)
         twice = self.answer(
-            *(
-                "exclusion",
-                'me.later = "idle", 0, None, 0, []',
-                'me.later = "idle", 0, None, 0, []\n    me.visits = 0',
-            ),
-            *('"done"\n', '"idle" if me.visits == 0 else "done"\n        me.visits += 1\n'),
+            *("exclusion", '"done"\n', '"idle" if me.visits == 1 else "done"\n'),
+            *("done (visits 1)", "done (visits 2)"),
             *(
                 '        me.state, me.time = "asks"',
                 '        me.answers = 0\n        me.state, me.time = "asks"',
@@ -908,7 +941,7 @@ class Pictures(Case):
         self.same("the messages", titles(root, "message"), messages)
         self.same("the acts", len(marks(root, "tick")), 4)
         # By node, and from right to left.
-        found = ["done", "inside", "asks", "idle"] * 2
+        found = ["done (visits 1)", "inside", "asks", "idle"] * 2
         self.same("what is found", [mark.text for mark in marks(root, "result")], found)
         places = {}
         for group in marks(root, "message"):
