@@ -1,11 +1,11 @@
 """Has the gate's command, `rt ci`, prove some crates and those below them: what a program is built from, and what wrong
 bodies are tried over.
 
-`rt ci NAME` works on a copy, and removes it with all that is built there. So the copy is made here, in the user's cache
-(`$XDG_CACHE_HOME`, else `~/.cache`): a repository of these crates alone, without their must-fail edits, on which no
-proof depends. What passes is kept by `rt` itself, beside the kit, crate by crate: so a call that was interrupted goes
-on where it was, another checkout proves nothing again, and the gate takes over what a first call has proved. An older
-kit keeps nothing; `kit.keeps_proofs` says which.
+Where a kit has `rt ci NAME`, this works on a copy, and removes it with all that is built there. So the copy is made
+here, in the user's cache (`$XDG_CACHE_HOME`, else `~/.cache`): a repository of only these crates, without their
+must-fail edits, on which no proof depends. Kit 13f keeps what passes, in a folder next to itself, crate by crate: so a
+call that was interrupted goes on where it was, another checkout proves nothing again, and the gate takes over what a
+first call has proved. Kit 13b keeps nothing, so each call proves all its crates; `kit.keeps_proofs` says which it is.
 """
 import contextlib
 import fcntl

@@ -126,12 +126,9 @@ def make(room: str, section: str = SECTION) -> None:
         write(os.path.join(share, "man", "man1", f"{name}.1"), manual(commands, name))
     for path in OF_SHELLS:
         write(os.path.join(share, path), completion(commands))
-    # Which kit is here, if it isn't the one that the sources name.
-    kits = {kit.found()} - {kit.wanted()} if kit.command() else ()
-    write(
-        os.path.join(room, "VERSION"),
-        version.text() + "".join(f"built where rt is of {it}\n" for it in kits),
-    )
+    # The sources name several kits, so the folder says which one is here.
+    here = f"built where rt is of {kit.found()}\n" if kit.command() else ""
+    write(os.path.join(room, "VERSION"), version.text() + here)
     write_sums(room)
     subprocess.run(["chmod", "-R", "u=rwX,go=rX", room], check=True)
 

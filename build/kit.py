@@ -17,9 +17,9 @@ def command() -> str | None:
     return os.path.realpath(found) if found else None
 
 
-def wanted() -> str:
-    """The line of the kit that these sources are for."""
-    return line_in(TOP, "build", "kit_name.txt")
+def wanted() -> list[str]:
+    """The lines of the kits that these sources are for: each fits."""
+    return line_in(TOP, "build", "kits.txt").split("\n")
 
 
 def line_in(*path: str) -> str:
@@ -42,13 +42,14 @@ def is_there(name: str) -> bool:
     """Whether the toolchain's command is there; says if it isn't, and if it is of another kit."""
     if not command():
         print(
-            f"{name}: the toolchain's command rt is not on the PATH: {wanted()} is wanted",
+            f"{name}: the toolchain's command rt is not on the PATH; one of these kits is needed: "
+            f"{', '.join(wanted())}",
             file=sys.stderr,
         )
         return False
-    if found() != wanted():
+    if found() not in wanted():
         print(
-            f"{name}: these sources are for {wanted()}, and rt is of {found()}: proofs may fail",
+            f"{name}: these sources are for {' or '.join(wanted())}, and rt is of {found()}: proofs may fail",
             file=sys.stderr,
         )
     return True

@@ -2,10 +2,10 @@
 
 Without words all are tried. Each crates/CRATE/wrong-bodies/NAME.edit is a change of code that turns the meaning of a
 function, in the form of the gate's own edits in crates/CRATE/must-fail/. The gate's command `rt ci` tries them, in a
-repository of their crates and those below, where they are in the place of must-fail/ (gate.py). It takes what is proved
-already, proves the rest first, tries as many side by side as there are processors and memory, and says at the end what
-each came to; what it has tried of a crate isn't tried again until the crate or the edit changes. The log is
-out/build/wrong-bodies.log.
+repository of these crates and the crates below them, where they stand in the place of must-fail/ (gate.py). It proves
+the crates first, tries as many edits in parallel as processors and memory allow, and says at the end what became of
+each edit. With a kit that keeps what it has done, a crate that is proved already isn't proved again, and an edit isn't
+tried again until it or its crate changes. The log is out/build/wrong-bodies.log.
 
 With --since REV, the crates are those whose sources or wrong bodies differ from the commit REV, and those that list in
 crates.txt a crate whose contracts or definitions (src/, specs/) differ from it.
@@ -17,8 +17,9 @@ read the contract. If it lets the edit through, make it stronger; if it doesn't,
 refuses it, by a line `clause: NAME`, or `clause: NAME of WHAT` of another function, type or record.
 
 The last line is 'N refused, W of them WEAK, M PROVED, K not run'. Status: 0 every edit was tried and refused, 1 one was
-proved or not run, 2 the command line is refused, 3 all were refused, some of them WEAK. It takes about 20 seconds an
-edit, so it is run by hand, with --since before each change is handed in; `./test` doesn't call it.
+proved or not run, 2 the command line is refused, 3 all were refused, some of them WEAK. Once the crates are proved, it
+takes about 20 seconds for each edit, so it is run by hand, with --since before each change is handed in; `./test`
+doesn't call it.
 """
 import os
 import re

@@ -1,4 +1,4 @@
-"""Which forestplan this is: its version, the commit, and the kit of the toolchain that it is proved with.
+"""Which forestplan this is: its version, the commit, and the kits of the toolchain for which its sources are.
 
 An installed folder has it in its file VERSION; a tree finds it out."""
 import os
@@ -36,8 +36,9 @@ def text() -> str:
         with open(os.path.join(TOP, "VERSION"), encoding="utf-8") as file:
             return file.read()
     except OSError:
-        with open(os.path.join(TOP, "build", "kit_name.txt"), encoding="utf-8") as kit:
-            return f"forestplan {NUMBER}\ncommit {commit()}\nkit {kit.readline().strip()}\n"
+        with open(os.path.join(TOP, "build", "kits.txt"), encoding="utf-8") as kits:
+            named = " or ".join(kits.read().split("\n")[:-1])
+        return f"forestplan {NUMBER}\ncommit {commit()}\nkit {named}\n"
 
 
 def main() -> int:

@@ -104,11 +104,12 @@ class Index(FilesCase):
             (before.count("!["), after.count("![")), (2, 0), "two pictures, before the claim"
         )
 
-    def test_kit(self):
-        """README and THEOREMS name the kit for which the sources are."""
-        kit = text_in("build", "kit_name.txt").split()[0]
-        for page in ("README.md", "docs/claim/THEOREMS.md"):
-            self.same(f"kits of {page}", re.findall(r"rattle-kit-\w+", text_in(page)), [kit])
+    def test_kits(self):
+        """README, THEOREMS and CHANGING name all kits for which the sources are, and no others."""
+        kits = [line.split()[0] for line in text_in("build", "kits.txt").splitlines()]
+        for page in ("README.md", "docs/claim/THEOREMS.md", "docs/work/CHANGING.md"):
+            named = sorted(set(re.findall(r"rattle-kit-\w+", text_in(page))))
+            self.same(f"kits of {page}", named, kits)
 
     def test_crate_tables(self):
         """LAYERS has the tables that `python3 build crate-tables` writes. Each group of crates.txt has a heading and a

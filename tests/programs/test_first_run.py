@@ -18,7 +18,7 @@ from tests.tools import without_rt
 
 # Seconds; a busy machine is slow.
 LIMIT = 300
-KIT = text_in("build", "kit_name.txt").strip()
+KITS = text_in("build", "kits.txt").splitlines()
 
 # In place of the toolchain's command. A crate whose source has the word `wrong` isn't proved, one with `kept` is known
 # already, and one with `slow` isn't proved before a minute has passed, or the file `go` is there. Ctrl-C doesn't end it
@@ -128,7 +128,7 @@ class Tree:
         kit = os.path.join(folder, "kits", "rattle")
         self.kit = os.path.join(kit, "KIT-ID")
         write(os.path.join(kit, "bin", "rt"), RT, 0o755)
-        write(self.kit, KIT)
+        write(self.kit, KITS[0])
         self.environment = dict(
             os.environ, PATH=f"{kit}/bin:{os.environ['PATH']}", XDG_CACHE_HOME=self.cache
         )
@@ -451,7 +451,16 @@ class FirstRun(Case):
             self.note(f"build program {words}, which doesn't run it", good, done)
 
     def run_kits(self, tree):
-        """Another kit, or a command that says none, is named before proofs begin; without a command nothing begins."""
+        """Nothing is said of a kit that fits. Another kit, or a command that says none, is named before proofs begin;
+        without a command nothing begins."""
+        self.note("several kits fit", len(KITS) == len(set(KITS)) > 1, KITS)
+        for kit in KITS:
+            write(tree.kit, f"{kit}\n")
+            tree.source("lower", kit)
+            status, out, err = tree.call("plan")
+            self.note(
+                f"{kit} fits", (status, out) == (0, "plan\n") and "sources are for" not in err, err
+            )
         write(tree.kit, "rattle-kit-99z logic 0\n")
         for kit in ("rattle-kit-99z logic 0", "no kit that says its name"):
             tree.source("lower", kit)
@@ -459,7 +468,7 @@ class FirstRun(Case):
             self.same("another kit is tried", (status, out), (0, "plan\n"))
             self.note(
                 "both kits are named",
-                f"for {KIT}, and rt is of {kit}" in err.split(" crates proved")[0],
+                f"for {' or '.join(KITS)}, and rt is of {kit}" in err.split(" crates proved")[0],
                 err,
             )
             with contextlib.suppress(FileNotFoundError):
@@ -469,7 +478,8 @@ class FirstRun(Case):
         status, out, err = tree.call("plan")
         self.note(
             "no command",
-            (status, out) == (70, "") and f"rt is not on the PATH: {KIT} is wanted" in err,
+            (status, out) == (70, "")
+            and f"rt is not on the PATH; one of these kits is needed: {', '.join(KITS)}\n" in err,
             err,
         )
         self.note(
@@ -478,7 +488,11 @@ class FirstRun(Case):
             err,
         )
         status, out, err = tree.run(os.path.join(TOP, "try"), "plan")
-        self.note("try without a command", (status, out) == (70, "") and KIT in err, err)
+        self.note(
+            "try without a command",
+            (status, out) == (70, "") and f"one of these kits is needed: {', '.join(KITS)}\n" in err,
+            err,
+        )
 
     def test_watch(self):
         """A line of a run now and then, until it ends; of another process, or none, nothing."""
