@@ -51,10 +51,10 @@ SAID_OF_LIMITS = {
         "1 to {MAX_WORKERS} workers and a capacity of 1 to {MAX_CAPACITY}.",
     ),
     "docs/claim/FORMATS.md": (
-        "hasn't ended after {READ_LIMIT:,} reads",
+        "hadn't ended after {READ_LIMIT:,} reads",
         "| F7 | NODES is above {MAX_NODES:,}, or",
-        "that is number {ABOVE_EDGES:,} |",
-        "is number {ABOVE_BARS:,} |",
+        "would add a {ABOVE_EDGES:,}st distinct edge |",
+        "would bar a {ABOVE_BARS:,}th distinct channel at its vertex |",
         "| F13 | a barred channel is 0 or above {MAX_CHANNEL:,} |",
         "a vertex has more than {MAX_DEGREE:,} neighbours",
         "| `--workers` | 1 | {MAX_WORKERS} |",
@@ -282,5 +282,6 @@ class Index(FilesCase):
         transcript = text_in("docs", "pictures", "petersen.transcript")
         average = round(len(transcript) / transcript.count("\n"))
         self.assertIn(
-            f"takes {average} bytes a line", one_line(text_in("docs", "claim", "FORMATS.md"))
+            f"a line has {average} bytes on average",
+            one_line(text_in("docs", "claim", "FORMATS.md")),
         )

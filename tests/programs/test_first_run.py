@@ -490,7 +490,8 @@ class FirstRun(Case):
         status, out, err = tree.run(os.path.join(TOP, "try"), "plan")
         self.note(
             "try without a command",
-            (status, out) == (70, "") and f"one of these kits is needed: {', '.join(KITS)}\n" in err,
+            (status, out) == (70, "")
+            and f"one of these kits is needed: {', '.join(KITS)}\n" in err,
             err,
         )
 
