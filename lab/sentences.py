@@ -464,6 +464,15 @@ SENTENCES: dict[Code, str] = {
     Code.PASSES: "there are 1 to {most} passes",
     Code.NO_NODE_AS_ROOT: "there is no node {root} that could be the root",
     Code.NO_SUCH_RULE: "there is no such rule",
+    Code.NO_ROUNDS_HERE: (
+        "{program} has no rounds: its nodes react to each message (its file has a function "
+        "`on_{word}`); the tab Adversary plays it"
+    ),
+    Code.OTHER_FORM: (
+        "its nodes made rounds when the studio began, and react to messages now, or the other way "
+        "round: end the studio and begin it again"
+    ),
+    Code.NO_FILE_OF_PROGRAM: "there is no file of your own of the name {name}",
     Code.NO_NODE_OF_FIELD: "the field vertex: there is no node {vertex}",
     Code.ONE_IDENTIFIER_NOW: (
         "nodes {vertex} and {other} have one identifier now: give one of them another"

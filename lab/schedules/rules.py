@@ -35,6 +35,14 @@ OF_SCHEDULES = {
     ),
 }
 
+# Of the links alone: of nodes that react to messages, without rounds.
+OF_LINKS = {
+    "fifo": OF_SCHEDULES["fifo"]._replace(
+        says="a link hands messages over in the order in which they were put",
+        without="a message may overtake those before it",
+    )
+}
+
 # Of the rounds of the colouring: of a forest's colours, and of the merging.
 OF_FORESTS = {
     "digit": Rule(

@@ -168,11 +168,15 @@ class AlphaPlayer(Player[AlphaNode]):
     def __init__(
         self, net: Network, program: Program = COLOURING, without: Collection[str] = ()
     ) -> None:
-        check_repeats(net, program)
-        if without:
-            super().__init__(NetState(net, partial(RuledNode, without=without, program=program)))
-        else:
-            super().__init__(alpha_start(net, program))
+        super().__init__(start_without(net, program, without))
+
+
+def start_without(net: Network, program: Program, without: Collection[str]) -> NetState[AlphaNode]:
+    """The machine at its start, whose nodes run a program under the synchroniser, without some rules."""
+    check_repeats(net, program)
+    if without:
+        return NetState(net, partial(RuledNode, without=without, program=program))
+    return alpha_start(net, program)
 
 
 def played(

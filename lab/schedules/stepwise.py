@@ -8,34 +8,46 @@ import re
 from collections.abc import Collection, Iterable
 
 from lab.definitions.events import PULSE, PUT, TAKE, Event, Kind
-from lab.definitions.machine import Refused
-from lab.definitions.nodes import COLOURING
+from lab.definitions.machine import AnyNode, NetState, Refused
+from lab.definitions.nodes import COLOURING, AlphaNode
 from lab.definitions.program import Program
 from lab.fault_codes import Code
 from lab.faults import Fault, InText
 from lab.network import Edge, Network
 from lab.schedules.policies import Step
 from lab.schedules.ruled_node import Rounds, RuledNode
-from lab.schedules.simulate import AlphaPlayer, events_of
+from lab.schedules.simulate import Player, events_of, start_without
 
 
-class Stepwise(AlphaPlayer):
-    """`chosen` are the steps so far, `lines` the events as `forestplay events` reads them. `fault` says what went wrong
-    first; after `is_over` nothing goes on, since a program has refused what came."""
+class ByHand(Player[AnyNode]):
+    """Such a run, of any nodes: `own` is the kind of their own steps. `chosen` are the steps so far, `lines` the events
+    as a list has them. `fault` says what went wrong first; after `is_over` nothing goes on, since a node has failed.
+    """
 
-    def __init__(
-        self, net: Network, program: Program = COLOURING, without: Collection[str] = ()
-    ) -> None:
-        super().__init__(net, program, without)
+    own: Kind
+
+    def __init__(self, state: NetState[AnyNode], without: Collection[str] = ()) -> None:
+        super().__init__(state)
         self.without = without
         self.chosen: list[str] = []
         self.lines: list[str] = []
         self.said = ""
         self.fault: str | None = None
         self.is_over = False
-        self.rounds = Rounds(net, program) if without else None
         for v in self.state.nodes:
             self.put_all(v)
+
+    def own_step_words(self, v: int) -> str:
+        """What a node does in its next own step."""
+        raise NotImplementedError
+
+    def fault_of_own_step(self, v: int) -> str | None:
+        """What is wrong with the next own step of a node, if something is; it may end the run."""
+        raise NotImplementedError
+
+    def fault_of_making(self, event: Event) -> str | None:
+        """Makes an event and the puts that it makes possible, and says what went wrong; that may end the run."""
+        raise NotImplementedError
 
     def put_all(self, v: int) -> None:
         for w, port in zip(self.state.neighbours[v], self.state.nodes[v].ports):
@@ -52,7 +64,7 @@ class Stepwise(AlphaPlayer):
         """The steps that can come next."""
         found = []
         for v, own in self.steps.items():
-            found += [str(v) for step in own if step.kind is PULSE]
+            found += [str(v) for step in own if step.kind is self.own]
             for step in (step for step in own if step.kind is TAKE):
                 found.append(f"{v}-{step.neighbour}")
                 if "fifo" in self.without:
@@ -64,13 +76,13 @@ class Stepwise(AlphaPlayer):
         for number, step in enumerate(filter(None, steps), 1):
             fields = re.fullmatch("([0-9]{1,5})(?:-([0-9]{1,5}))?(?:-([0-9]{1,5}))?", step)
             v, w, place = (int(field or 0) for field in fields.groups()) if fields else (0, 0, 0)
-            if not self.makes(TAKE if w else PULSE, v, w, place):
+            if not self.makes(TAKE if w else self.own, v, w, place):
                 raise Fault(Code.STEP_NOT_POSSIBLE, number=number, step=step)
 
     def follow_list(self, text: str) -> None:
         """The events of a list. Puts make themselves as soon as they can, so one of the list has been made before."""
         puts: list[str] = []
-        for line, event in events_of(text, "the list", "fifo" in self.without):
+        for line, event in events_of(text, "the list", "fifo" in self.without, self.own):
             near = self.state.neighbours.get(event.node, ())
             if event.kind is PUT:
                 puts.append(str(event))
@@ -99,7 +111,8 @@ class Stepwise(AlphaPlayer):
         v, w, event = step.node, step.neighbour, self.event_of(step)
         fault = None
         if event.port is None:
-            fault = self.fault_of_pulse(v)
+            self.said = self.own_step_words(v)
+            fault = self.fault_of_own_step(v)
         else:
             wires = self.state.link_to(v, event.port)
             wires.insert(0, wires.pop(place))
@@ -107,20 +120,8 @@ class Stepwise(AlphaPlayer):
         self.note_step(step, event, place)
         self.fault = self.fault or fault
         if not self.is_over:
-            try:
-                self.make(event)
-                self.put_all(v)
-            except Refused:
-                self.is_over = True
-                self.fault = self.fault or f"node {v} can't take what came from {w}"
-
-    def fault_of_pulse(self, v: int) -> str | None:
-        """What is wrong with the next pulse of a node, if something is; all is over if its program refuses it."""
-        node, fault = self.state.nodes[v], None
-        self.said = f"node {v} makes pulse {node.pulse_number + 1}"
-        if self.rounds and isinstance(node, RuledNode):
-            fault, self.is_over = node.fault_of_pulse(v, self.rounds)
-        return fault
+            fault = self.fault_of_making(event)
+            self.fault = self.fault or fault
 
     def note_step(self, step: Step, event: Event, place: int) -> None:
         """Writes a step down, as the page has it and as a list of events has it."""
@@ -135,14 +136,14 @@ class Stepwise(AlphaPlayer):
 
     def free(self, slow: Collection[Edge], lazy: Collection[int]) -> list[Step]:
         """The steps that can come next and that nothing holds: what goes over a slow edge, (v, w) with v < w, and the
-        pulse of a node that waits."""
+        own step of a node that waits."""
         return [
             step
             for own in self.steps.values()
             for step in own
             if not (
                 step.node in lazy
-                if step.kind is PULSE
+                if step.kind is self.own
                 else (min(step.link), max(step.link)) in slow
             )
         ]
@@ -157,6 +158,39 @@ class Stepwise(AlphaPlayer):
             if self.is_over or not steps:
                 return
             self.step(steps[int(source.random() * len(steps))])
+
+
+class Stepwise(ByHand[AlphaNode]):
+    """Such a run under the synchroniser, whose list of events `forestplay events` reads."""
+
+    own = PULSE
+
+    def __init__(
+        self, net: Network, program: Program = COLOURING, without: Collection[str] = ()
+    ) -> None:
+        super().__init__(start_without(net, program, without), without)
+        self.rounds = Rounds(net, program) if without else None
+
+    def own_step_words(self, v: int) -> str:
+        return f"node {v} makes pulse {self.state.nodes[v].pulse_number + 1}"
+
+    def fault_of_own_step(self, v: int) -> str | None:
+        """What is wrong with the next pulse of a node, if something is; all is over if its program refuses it."""
+        node, fault = self.state.nodes[v], None
+        if self.rounds and isinstance(node, RuledNode):
+            fault, self.is_over = node.fault_of_pulse(v, self.rounds)
+        return fault
+
+    def fault_of_making(self, event: Event) -> str | None:
+        v = event.node
+        try:
+            self.make(event)
+            self.put_all(v)
+        except Refused:
+            self.is_over = True
+            w = self.state.neighbours[v][event.port or 0]
+            return f"node {v} can't take what came from {w}"
+        return None
 
     def in_step(self, slow: Collection[Edge], lazy: Collection[int]) -> None:
         """All nodes make one pulse: what can come comes first, and then those that are behind make theirs."""

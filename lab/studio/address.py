@@ -4,7 +4,7 @@
 address has it read here: the page by the call `address`, a class's links by `studio --links`. What can't be read is
 named with the reason; nothing of it is guessed."""
 import re
-from collections.abc import Callable, Collection
+from collections.abc import Callable, Collection, Mapping
 from dataclasses import dataclass, field, replace
 from typing import get_args
 
@@ -14,12 +14,14 @@ from lab.fault_codes import Code
 from lab.faults import Fault
 from lab.networks.fields import shown
 from lab.schedules.policies import POLICIES
-from lab.schedules.rules import OF_PROGRAMS, OF_SCHEDULES
+from lab.schedules.rules import OF_LINKS, OF_PROGRAMS, OF_SCHEDULES
 from lab.studio.answers import TABS, Order, PictureKind, Values, Written
 from lab.studio.asked import MOST_STEPS
 from lab.studio.dares import DARES
 from lab.studio.drawn import decoded
 from lab.studio.lessons import LECTURE, LESSONS, step_place, steps_in
+from lab.studio.own_dares import OWN_DARES
+from lab.studio.session import Form
 
 # Letters of an address: browsers take no longer one. And how many faults of one are named.
 MOST_LETTERS, MOST_NAMED = 2 << 20, 5
@@ -29,13 +31,18 @@ MOST_CHANNEL = 9999
 @dataclass(frozen=True)
 class Here:
     """What the other values of an address are of: the network that it has, the program, the lesson, and
-    the programs of one's own that there are."""
+    the programs of one's own that there are, with their forms."""
 
     nodes: int = 0
     edges: Collection[tuple[int, int]] = ()
     program: str = COLOURING.name
-    own: Collection[str] = ()
+    own: Mapping[str, Form] = field(default_factory=dict)
     lesson: int | None = None
+
+    @property
+    def reacts(self) -> bool:
+        """Whether the nodes react to messages, without rounds."""
+        return self.own.get(self.program) == "reactions"
 
     def node(self, said: str) -> int:
         v = whole(said)
@@ -162,8 +169,10 @@ NAMES: dict[str, Name] = {
     "other": Name("run", other_run),
     "beside": Name("flag", flag_of),
     "steps": Name("list", steps_of),
-    "without": Name("rules", lambda said, _: rules_of(said, OF_SCHEDULES)),
-    "dare": Name("word", among(DARES)),
+    "without": Name(
+        "rules", lambda said, here: rules_of(said, OF_LINKS if here.reacts else OF_SCHEDULES)
+    ),
+    "dare": Name("word", lambda said, here: among(OWN_DARES if here.reacts else DARES)(said, here)),
     "plan": Name("list", plan_of),
     "kind": Name("word", among(get_args(PictureKind))),
     "lesson": Name("number", lambda said, _: within(said, 1, len(LESSONS))),

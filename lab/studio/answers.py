@@ -8,6 +8,7 @@ from typing import Literal, get_args
 
 from lab.network import Edge
 from lab.pictures.page_data import Look, Net, RunFound
+from lab.studio.session import Form
 
 TabName = Literal["draw", "rounds", "run", "adversary", "check", "pictures"]
 TABS: tuple[TabName, ...] = get_args(TabName)
@@ -35,9 +36,10 @@ class RuleSaid:
 
 @dataclass(frozen=True)
 class RulesSaid:
-    """The rules of the synchroniser and its links, and those of each program's rounds."""
+    """The rules of the synchroniser and its links, those of the links alone, and those of each program's rounds."""
 
     orders: Mapping[str, RuleSaid]
+    links: Mapping[str, RuleSaid]
     rounds: Mapping[str, Mapping[str, RuleSaid]]
 
 
@@ -95,7 +97,8 @@ class LecturePlace:
 
 @dataclass(frozen=True)
 class Hello:
-    """What there is to choose from."""
+    """What there is to choose from. `own` are the programs of one's own, each with its form, and `own_dares` the dares
+    of those whose nodes react to messages."""
 
     proved: bool
     most: int
@@ -103,12 +106,14 @@ class Hello:
     examples: Sequence[str]
     kinds: Mapping[str, KindOfNetwork]
     programs: Sequence[str]
+    own: Mapping[str, Form]
     passes: int
     policies: Mapping[str, str]
     rules: RulesSaid
     lessons: Sequence[Lesson]
     lecture: Sequence[LecturePlace]
     dares: Mapping[str, str]
+    own_dares: Mapping[str, str]
     address: Mapping[str, Written]
 
 
@@ -312,22 +317,83 @@ class DareJudged:
 
 
 @dataclass(frozen=True)
-class StepsFound:
-    """Where a run is that is made by steps: those made, those that can come next, its last pulse, its nodes, the wires
-    of its links (from, to), what was done last, and what is wrong."""
+class Ran:
+    """The function of a file that ran last, and the node whose step that was; 0 if each node has run it, at the
+    start."""
+
+    function: str
+    node: int
+
+
+@dataclass(frozen=True, kw_only=True)
+class AnySteps:
+    """Where a run is that is made by steps: those made, those that can come next, the messages of its links (from, to),
+    what was done last, and what is wrong; and what has run last of a file."""
 
     made: Sequence[str]
     steps: Sequence[str]
-    last: int
-    looks: Sequence[Look]
     wires: Sequence[tuple[int, int, Sequence[str]]]
     said: str
     fault: str | None
     over: bool
     list: Sequence[str]
     entries: int
+    ran: Ran | None = None
     dare: DareJudged | None = None
+
+
+@dataclass(frozen=True, kw_only=True)
+class StepsFound(AnySteps):
+    """Such a run under the synchroniser: its last pulse, and its nodes."""
+
+    last: int
+    looks: Sequence[Look]
     judge: Replayed | None = None
+    nodes: None = None
+
+
+@dataclass(frozen=True)
+class Reacted:
+    """A node that reacts to messages: how often it has acted, whether it may act now, what it has found, and what it
+    keeps in `me`, by name, as Python writes it."""
+
+    acts: int
+    able: bool
+    found: str
+    keeps: Sequence[tuple[str, str]]
+
+
+@dataclass(frozen=True)
+class FileSays:
+    """What a function of a file says of where a run is: whether that is right, and in words what isn't."""
+
+    ok: bool
+    said: str
+
+
+@dataclass(frozen=True, kw_only=True)
+class ReactionsFound(AnySteps):
+    """Such a run of nodes that react to messages. `always` is what the file says of the state that is there now, and
+    `right` of the end, if it is there; each is None if the file doesn't say it. `dares` are those that its functions
+    make sense of."""
+
+    nodes: Sequence[Reacted]
+    ended: bool
+    always: FileSays | None
+    right: FileSays | None
+    dares: Sequence[str]
+
+
+@dataclass(frozen=True)
+class FileText:
+    """The text of a program of one's own, as its file is now: `lines` has of each function the first and the last one,
+    from 1. A page that has this version already gets nothing but the version, and of a file with a fault its fault.
+    """
+
+    version: str
+    text: str | None = None
+    lines: Mapping[str, tuple[int, int]] | None = None
+    fault: str | None = None
 
 
 @dataclass(frozen=True)

@@ -5,14 +5,14 @@ from typing import Protocol
 
 from lab.definitions.nodes import COLOURING
 from lab.definitions.program import Program
-from lab.definitions.programs import MAX_PASSES, PROGRAMS, program_at
+from lab.definitions.programs import MAX_PASSES, PROGRAMS, any_program_at
+from lab.definitions.reacting import AnyProgram, Reacting, words_taken
 from lab.fault_codes import Code
-from lab.faults import Fault
+from lab.faults import Fault, InText
 from lab.network import Network
 from lab.networks.network_text import read_network
 from lab.studio.messages import OfNetwork, OfProgram, WithoutRules
-from lab.studio.session import Session
-
+from lab.studio.session import Form, Session
 
 # Nodes that are drawn; that the rounds, and a run without a clock, are shown of.
 MOST_DRAWN, MOST_ROUNDS, MOST_RUN = 400, 100, 40
@@ -46,8 +46,21 @@ def network_asked(asked: OfNetwork, most: int = MOST_DRAWN) -> Network:
     return network
 
 
+def form_of_program(program: AnyProgram) -> Form:
+    """What the nodes of a program do."""
+    return "reactions" if isinstance(program, Reacting) else "rounds"
+
+
 def program_asked(asked: OfProgram, network: Network, session: Session) -> Program:
-    """A program by its name, which its option may follow: `recolouring passes 2`, `layers root 3`."""
+    """A program by rounds, by its name, which its option may follow: `recolouring passes 2`, `layers root 3`."""
+    program = either_program_asked(asked, network, session)
+    if isinstance(program, Reacting):
+        raise Fault(Code.NO_ROUNDS_HERE, program=program.name, word=words_taken(program.file)[0])
+    return program
+
+
+def either_program_asked(asked: OfProgram, network: Network, session: Session) -> AnyProgram:
+    """The same, or a file whose nodes react to messages."""
     said = re.fullmatch("([^ ]+)(?: (passes|root) ([0-9]{1,5}))?", asked.program or COLOURING.name)
     name, option, value = said.groups() if said else ("?", None, None)
     options: dict[str, int] = {str(option): int(value)} if value else {}
@@ -57,9 +70,20 @@ def program_asked(asked: OfProgram, network: Network, session: Session) -> Progr
         raise Fault(Code.NO_NODE_AS_ROOT, root=options["root"])
     if name not in (*PROGRAMS, *session.own):
         name = "?"
-    return program_at(
+    if name in session.own and not options:
+        return own_program_now(name, session)
+    return any_program_at(
         session.own.get(name, name), root=options.get("root"), passes=options.get("passes")
     )
+
+
+def own_program_now(name: str, session: Session) -> AnyProgram:
+    """A program of one's own, as its file is now. It has to be of the form that it had when the studio began, by which
+    the page shows it."""
+    program = any_program_at(session.own[name])
+    if form_of_program(program) != session.forms[name]:
+        raise Fault(Code.OTHER_FORM, InText(session.own[name]))
+    return program
 
 
 def rules_asked(asked: WithoutRules, among: Collection[str]) -> tuple[str, ...]:

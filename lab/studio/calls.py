@@ -3,7 +3,7 @@ from collections.abc import Callable, Mapping
 from dataclasses import dataclass
 from typing import TypeVar
 
-from lab.studio import building, exercises, messages, networks, predictions, rounds, runs
+from lab.studio import building, exercises, messages, networks, predictions, reactions, rounds, runs
 from lab.studio.fields import parsed_call
 from lab.studio.session import Session
 from lab.studio.telling import Tell
@@ -50,6 +50,7 @@ CALLS = {
     "replay": answered(messages.ReplayCall, runs.replay),
     "judge": answered(messages.JudgeCall, runs.judge),
     "steps": answered(messages.StepsCall, runs.steps),
+    "file_text": answered(messages.FileCall, reactions.file_text),
     "predict": answered(messages.PredictCall, predictions.predict),
     "waits": answered(messages.WaitsCall, predictions.waits),
     "exercise": answered(messages.ExerciseCall, exercises.exercise_judged),

@@ -2,15 +2,17 @@
 from collections.abc import Iterator
 from functools import partial
 
+from lab.definitions.reacting import Reacting
 from lab.fault_codes import Code
 from lab.faults import Fault
 from lab.networks.fields import shown
 from lab.studio.address import program_named
-from lab.studio.asked import network_asked, program_asked
+from lab.studio.asked import either_program_asked, network_asked
 from lab.studio.dares import judged
 from lab.studio.limits import apart
 from lab.studio.messages import OfProgram
 from lab.studio.networks import opened_by
+from lab.studio.own_dares import own_dare_judged
 from lab.studio.session import Session
 
 
@@ -44,8 +46,12 @@ def judged_link(link: str, session: Session) -> str:
     asked = OfProgram(network=opened.text, program=program_named(values))
     network = network_asked(asked)
     rules = tuple(values.without.split(",")) if values.without else ()
-    program = program_asked(asked, network, session)
-    found = judged(network, program, rules, values.steps or (), values.dare)
+    program = either_program_asked(asked, network, session)
+    steps = values.steps or ()
+    if isinstance(program, Reacting):
+        found = own_dare_judged(network, program, rules, steps, values.dare)
+    else:
+        found = judged(network, program, rules, steps, values.dare)
     without = f" without {','.join(rules)}" if rules else ""
     verdict = "won" if found.won else "not won"
     return f"{verdict}: {values.dare}{without}: {found.said}"

@@ -12,6 +12,7 @@ from lab.networks.kinds import KINDS
 from lab.schedules.policies import POLICIES
 from lab.studio.answers import PictureKind
 from lab.studio.dares import DARES
+from lab.studio.own_dares import OWN_DARES
 from lab.studio.fields import among, word, words_by_name
 
 # A text or a number, as the field of a form has it.
@@ -189,9 +190,18 @@ class StepsCall(Seeded, WithoutRules, AfterSteps, Held, OfProgram):
     `in_step` makes all nodes' next pulse."""
 
     list: str | None = None
-    dare: Annotated[str, among(("", *DARES))] | None = None
+    dare: Annotated[str, among(("", *DARES, *OWN_DARES))] | None = None
     by: int = 0
     in_step: bool = False
+
+
+@dataclass(frozen=True, kw_only=True)
+class FileCall:
+    """Asks for the text of the file of a program of one's own, by the program's name; `seen` is the version that the
+    page has."""
+
+    own: str
+    seen: str = ""
 
 
 @dataclass(frozen=True, kw_only=True)

@@ -21,7 +21,7 @@ from lab.pictures.pages import net_of
 from lab.pictures.places import page_bends, places_of
 from lab.programs import TOP
 from lab.schedules.policies import POLICIES
-from lab.schedules.rules import OF_PROGRAMS, OF_SCHEDULES, Rule
+from lab.schedules.rules import OF_LINKS, OF_PROGRAMS, OF_SCHEDULES, Rule
 from lab.studio.address import Address, Here, NAMES, pairs_of, place_opened, read_values
 from lab.studio.answers import (
     Bends,
@@ -47,6 +47,7 @@ from lab.studio.messages import (
     ReadCall,
     TidyCall,
 )
+from lab.studio.own_dares import OWN_DARES
 from lab.studio.session import Session
 from lab.studio.telling import Tell
 
@@ -77,15 +78,18 @@ def hello(_call: HelloCall, session: Session, _tell: Tell) -> Hello:
         examples=sorted(stem(file) for file in os.listdir(EXAMPLES) if file.endswith(".col")),
         kinds={name: KindOfNetwork(kind.sizes, kind.is_by_chance) for name, kind in KINDS.items()},
         programs=[*PROGRAMS, *session.own],
+        own=session.forms,
         passes=MAX_PASSES,
         policies=POLICIES,
         rules=RulesSaid(
             orders=said_of(OF_SCHEDULES),
+            links=said_of(OF_LINKS),
             rounds={name: said_of(of) for name, of in OF_PROGRAMS.items()},
         ),
         lessons=lessons(),
         lecture=LECTURE,
         dares=DARES,
+        own_dares=OWN_DARES,
         # How the page writes what an address has, by its name.
         address={name: of.written for name, of in NAMES.items()},
     )
@@ -131,7 +135,7 @@ def opened_by(place: str, session: Session, before: Here = Here()) -> Place:
         text, network = drawn.text(), drawn.for_page()
     elif {"example", "net"} & set(unread):
         raise Fault(Code.TWO_NETWORKS)
-    here = replace(before if network is None else here_of(network), own=session.own)
+    here = replace(before if network is None else here_of(network), own=session.forms)
     return Place(read_values(pairs, unread, here), text, network)
 
 

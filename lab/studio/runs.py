@@ -6,23 +6,35 @@ from dataclasses import replace
 
 from lab import processors
 from lab.definitions.events import Event
+from lab.definitions.machine import AnyNode
 from lab.definitions.nodes import COLOURING
 from lab.definitions.program import Program
 from lab.definitions.programs import program_words
+from lab.definitions.reacting import Reacting
 from lab.fault_codes import Code
 from lab.faults import Fault
-from lab.network import Network
+from lab.network import Edge, Network
 from lab.pictures.program_rounds import is_own, least_wires, rounds_of
 from lab.pictures.watch_page import MOST_ENTRIES, Run, Steps, draw, look_of, run_of_text
 from lab.schedules.policies import Policy
-from lab.schedules.rules import OF_SCHEDULES
+from lab.schedules.reacting_stepwise import ReactingStepwise
+from lab.schedules.rules import OF_LINKS, OF_SCHEDULES
 from lab.schedules.simulate import AlphaPlayer, events_of, text_of_run
-from lab.schedules.stepwise import Stepwise
-from lab.studio.answers import JudgedText, Replayed, RunPart, StepsFound, WholeRun
+from lab.schedules.stepwise import ByHand, Stepwise
+from lab.studio.answers import (
+    JudgedText,
+    Ran,
+    ReactionsFound,
+    Replayed,
+    RunPart,
+    StepsFound,
+    WholeRun,
+)
 from lab.studio.asked import (
     MOST_DRAWN,
     MOST_RUN,
     MOST_STEPS,
+    either_program_asked,
     network_asked,
     program_asked,
     rules_asked,
@@ -30,6 +42,7 @@ from lab.studio.asked import (
 from lab.studio.dares import impossible, judged as dare_judged, results_of
 from lab.studio.judges import PYTHON, beginning_judged, by_definitions, judged, text_from
 from lab.studio.messages import Held, JudgeCall, ReplayCall, RunCall, RunPageCall, StepsCall
+from lab.studio.reactions import reactions_found
 from lab.studio.session import Session
 from lab.studio.telling import Tell
 from lab.transcripts.reading import line_of
@@ -196,7 +209,7 @@ def judge(call: JudgeCall, session: Session, _tell: Tell) -> JudgedText:
     return JudgedText(ok=line is None, said=said, line=line, by=PYTHON, proved=proved)
 
 
-def follow(player: Stepwise, call: StepsCall, held: tuple[set[tuple[int, int]], set[int]]) -> None:
+def follow(player: ByHand[AnyNode], call: StepsCall, held: tuple[set[Edge], set[int]]) -> None:
     """Makes the steps that are listed, and plays what is left to chance, with some links and nodes held up."""
     if call.list is not None:
         player.follow_list(call.list)
@@ -206,18 +219,23 @@ def follow(player: Stepwise, call: StepsCall, held: tuple[set[tuple[int, int]], 
         raise Fault(Code.TOO_MANY_STEPS_BY_HAND, most=MOST_STEPS)
     if call.by:
         player.by_chance(min(call.by, MOST_BY_CHANCE), call.seed, *held)
-    if call.in_step:
-        player.in_step(*held)
 
 
-def steps(call: StepsCall, session: Session, _tell: Tell) -> StepsFound:
+def steps(call: StepsCall, session: Session, _tell: Tell) -> StepsFound | ReactionsFound:
     """A run that is made step by step: where it is after some steps, or the events of a `list`, and what can come next.
     `by` steps more are left to chance, or up to all nodes' next pulse `in step`."""
     network = network_asked(call, MOST_RUN)
-    program = program_asked(call, network, session)
+    program = either_program_asked(call, network, session)
+    held = held_of(call, network)
+    if isinstance(program, Reacting):
+        reacting = ReactingStepwise(network, program, rules_asked(call, OF_LINKS))
+        follow(reacting, call, held)
+        return reactions_found(call, network, program, reacting)
     without = rules_asked(call, OF_SCHEDULES)
     player = Stepwise(network, program, without)
-    follow(player, call, held_of(call, network))
+    follow(player, call, held)
+    if call.in_step:
+        player.in_step(*held)
     wires = [(v, w, player.words_on(v, w)) for v in network.vertices for w in network.neighbours[v]]
     dare = judge_found = None
     if call.dare:
@@ -239,6 +257,17 @@ def steps(call: StepsCall, session: Session, _tell: Tell) -> StepsFound:
         over=player.is_over,
         list=player.lines,
         entries=len(player.made),
+        ran=ran_last(player, program),
         dare=dare,
         judge=judge_found,
     )
+
+
+def ran_last(player: Stepwise, program: Program) -> Ran | None:
+    """Which function of a file ran last: that of the last pulse, or at first the greeting of each node."""
+    if program.file is None:
+        return None
+    pulses = [int(step) for step in player.chosen if "-" not in step]
+    if not pulses:
+        return Ran("greet", 0)
+    return Ran("step" if "step" in program.file.functions else "next", pulses[-1])

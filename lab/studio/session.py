@@ -2,15 +2,22 @@
 built."""
 from dataclasses import dataclass, field
 
+from typing import Literal
+
 from lab.pictures.page_data import Net
+
+# What the nodes of a file do: they make rounds, or they react to each message.
+Form = Literal["rounds", "reactions"]
 
 
 @dataclass
 class Session:
-    """What the command line gives: the network to begin with, and programs of one's own by name; and whether the
-    programs are proved and built, and the file with what their build says."""
+    """What the command line gives: the network to begin with, and programs of one's own by name, each with the path of
+    its file and with its form; and whether the programs are proved and built, and the file with what their build says.
+    """
 
     network: Net | None = None
     own: dict[str, str] = field(default_factory=dict)
+    forms: dict[str, Form] = field(default_factory=dict)
     is_proved: bool = False
     log: str | None = None

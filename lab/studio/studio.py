@@ -8,7 +8,7 @@ import webbrowser
 from argparse import Namespace
 from collections.abc import Iterable
 
-from lab.definitions.programs import PROGRAMS, program_at
+from lab.definitions.programs import PROGRAMS, any_program_at
 from lab.fault_codes import Code
 from lab.faults import Fault, InText
 from lab.network import Network
@@ -16,11 +16,12 @@ from lab.networks.sources import network_bytes
 from lab.networks.options import commands_for
 from lab.networks.reading import form_read, read_any
 from lab.networks.forms import Stated, Unsaid
+from lab.studio.asked import form_of_program
 from lab.studio.building import are_built
 from lab.studio.links import judge
 from lab.studio.networks import shown
 from lab.studio.serving import Server
-from lab.studio.session import Session
+from lab.studio.session import Form, Session
 from lab.words import Parser, one_line, parser_of, text_at, text_name
 
 PORT, NEXT_PORTS = 8321, 20
@@ -83,14 +84,17 @@ def command_line() -> Parser:
     return words
 
 
-def own_programs(files: Iterable[str]) -> dict[str, str]:
+def own_programs(files: Iterable[str]) -> tuple[dict[str, str], dict[str, Form]]:
+    """The paths of programs of one's own by their names, and their forms."""
     found: dict[str, str] = {}
+    forms: dict[str, Form] = {}
     for file in files:
-        program = program_at(file)
+        program = any_program_at(file)
         if not file.endswith(".py") or program.name in found or program.name in PROGRAMS:
             raise Fault(Code.OWN_FILE, InText(file))
         found[program.name] = file
-    return found
+        forms[program.name] = form_of_program(program)
+    return found, forms
 
 
 def server_at(port: int | None, folder: str, session: Session) -> Server:
@@ -139,7 +143,7 @@ def main(words: list[str]) -> int:
     with tempfile.TemporaryDirectory(prefix="forestplan-studio-") as folder:
         try:
             network = None if given.network is None else shown(opened(given.network))
-            session = Session(network, own_programs(given.own), are_built())
+            session = Session(network, *own_programs(given.own), are_built())
             server = server_at(given.port, folder, session)
         except Fault as why:
             print(f"studio: {why}", file=sys.stderr)
@@ -156,7 +160,8 @@ def judge_links(given: Namespace) -> int:
     """Says of each link of a file whether it wins its dare."""
     are_judged = True
     try:
-        session = Session(own=own_programs(given.own))
+        own, forms = own_programs(given.own)
+        session = Session(own=own, forms=forms)
         for said, is_judged in judge(text_at(given.links).split("\n"), session):
             print(one_line(said), flush=True)
             are_judged = are_judged and is_judged

@@ -12,11 +12,14 @@ from lab.studio.calls import CALLS
 from lab.studio.fields import fields_of, object_of
 from lab.studio.messages import RunCall
 from lab.studio.session import Session
+from tests import TOP
 from tests.cases import FilesCase
 
 EDGE = "p edge 2 1\ne 1 2\n"
 RUN = {"network": EDGE, "name": "two", "program": "layers root 2"}
 STEPS = {"steps": "1-2_2-1", "without": "fifo"}
+ECHO = os.path.join(TOP, "examples", "algorithms", "echo.py")
+SESSION = Session(own={"echo": ECHO}, forms={"echo": "reactions"})
 # A call of each name that has all its fields, each good. What is one of two or more (a list or steps, a transcript or a
 # seed) has rows of its own.
 GOOD: list[tuple[str, dict]] = [
@@ -66,6 +69,12 @@ GOOD: list[tuple[str, dict]] = [
         | {"slow": [[1, 2]], "lazy": [1], "dare": "apart", "by": 2, "in_step": True, "seed": "1"},
     ),
     ("steps", RUN | {"list": "take 1 0\n"}),
+    ("steps", RUN | {"program": "echo", "steps": "2-1", "without": "fifo", "dare": "other"}),
+    ("file_text", {"own": "echo", "seen": "0"}),
+    (
+        "exercise",
+        RUN | STEPS | {"without": "", "lesson": 1, "step": 1, "said": "x", "plan": [1, 2]},
+    ),
     ("predict", RUN | {"vertex": 1, "pulse": 1, "forest": 0, "said": "layer 0"}),
     ("predict", RUN | {"program": "colouring"} | {"vertex": 1, "pulse": 3, "forest": 0, "said": 1}),
     ("waits", RUN | STEPS | {"vertex": 1, "said": "ack 2"}),
@@ -148,7 +157,7 @@ class Calls(FilesCase):
         """What is answered to a call with this body, in words if it is refused."""
         return limits.outcome(
             lambda: CALLS[name].answer(
-                object_of(body), Session(), lambda done=0, of=0, part=None: None
+                object_of(body), SESSION, lambda done=0, of=0, part=None: None
             )
         )
 

@@ -21,17 +21,20 @@ function wireWords(said, isLong) {
   return isLong ? kind + (pulse ? " " + pulse : "") : kind[0] + (pulse || "");
 }
 // A wire's mark at a place of its way, 0 at its start and 1 at its end.
-/** @type {(stage: Stage, v: number, w: number, far: number, said: string, isLong: boolean, more?: Attributes, look?: Attributes & {ink?: string}) => Mark} */
-function wireMark(stage, v, w, far, said, isLong, more = {}, look = {}) {
+/** @type {(stage: Stage, v: number, w: number, far: number, said: string, isLong: boolean, more?: Attributes, look?: Attributes & {ink?: string}, shown?: string) => Mark} */
+function wireMark(stage, v, w, far, said, isLong, more = {}, look = {}, shown = wireWords(said, isLong)) {
   const kind = said.split(" ")[0], size = Math.max(9, Math.min(stage.largest - 10.5, stage.radius * 0.55));
-  const shown = wireWords(said, isLong), [x, y] = stage.beside(v, w, far, pillWidth(shown, size), size + 6, 3);
+  const [x, y] = stage.beside(v, w, far, pillWidth(shown, size), size + 6, 3);
   return mark("g", {class: "wire", ...more},
     [mark("title", {}, `${said}, from ${v} to ${w}`), ...pill(x, y, shown, kind, size, look)]);
 }
+// The messages of the synchroniser, as they are shown.
+/** @type {LooksOfMessages} */
+const OF_ALPHA = {shown: wireWords, look: () => ({})};
 // The wires that a link holds, the next one nearest to its taker; `look(place)` says which of them are free, and gives
-// more attributes.
-/** @param {Stage} stage @param {number} v @param {number} w @param {string[]} wires @param {(place: number) => Attributes} look */
-export function queueMarks(stage, v, w, wires, look) {
+// more attributes. Messages of another machine have looks `of` their own.
+/** @param {Stage} stage @param {number} v @param {number} w @param {string[]} wires @param {(place: number) => Attributes} look @param {LooksOfMessages} of */
+export function queueMarks(stage, v, w, wires, look, of = OF_ALPHA) {
   const isLong = stage.net.nodes.length <= 12 && stage.wide > 500;
   const length = Math.hypot(stage.X(v) - stage.X(w), stage.Y(v) - stage.Y(w));
   const wide = (isLong ? 92 : 34) / Math.max(1, length - 2 * stage.radius);
@@ -39,7 +42,7 @@ export function queueMarks(stage, v, w, wires, look) {
   return wires.map((said, place) => {
     const {free, ...more} = look(place);
     return wireMark(stage, v, w, 1 - place * apart, said, isLong, {...more, opacity: free ? null : 0.6},
-      {"stroke-dasharray": free ? null : "3 2", "stroke-width": free ? 2 : 1.2});
+      {...of.look(said), "stroke-dasharray": free ? null : "3 2", "stroke-width": free ? 2 : 1.2}, of.shown(said, isLong));
   }).reverse();
 }
 // A node under the synchroniser: its pulse, what it awaits of whom and what it keeps, and what it has found.

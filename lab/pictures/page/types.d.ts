@@ -58,6 +58,11 @@ interface RoundsOptions {
 
 // A neighbour, and what is awaited of it, or what it has sent.
 type OfNeighbour = [string, number];
+// How messages on a link look: their words, with room or without, and their colours.
+interface LooksOfMessages {
+  shown(said: string, isLong: boolean): string;
+  look(said: string): Attributes & {ink?: string};
+}
 interface RunOptions { at?: number; node?: number | null; only?: boolean; slow?: Edge[]; lazy?: number[]; }
 interface WaitsOptions {
   last: number;

@@ -1,5 +1,7 @@
 // Written by `python3 build page-types` from lab/studio/answers.py, messages.py and calls.py.
 
+type Form = "rounds" | "reactions";
+
 type TabName = "draw" | "rounds" | "run" | "adversary" | "check" | "pictures";
 
 type PictureKind = "plan" | "results" | "rounds" | "bits" | "why" | "run";
@@ -18,6 +20,7 @@ interface RuleSaid {
 
 interface RulesSaid {
   orders: Record<string, RuleSaid>;
+  links: Record<string, RuleSaid>;
   rounds: Record<string, Record<string, RuleSaid>>;
 }
 
@@ -63,12 +66,14 @@ interface Hello {
   examples: string[];
   kinds: Record<string, KindOfNetwork>;
   programs: string[];
+  own: Record<string, Form>;
   passes: number;
   policies: Record<string, string>;
   rules: RulesSaid;
   lessons: Lesson[];
   lecture: LecturePlace[];
   dares: Record<string, string>;
+  own_dares: Record<string, string>;
   address: Record<string, Written>;
 }
 
@@ -212,19 +217,56 @@ interface DareJudged {
   impossible: string;
 }
 
-interface StepsFound {
+interface Ran {
+  function: string;
+  node: number;
+}
+
+interface AnySteps {
   made: string[];
   steps: string[];
-  last: number;
-  looks: Look[];
   wires: [number, number, string[]][];
   said: string;
   fault: string | null;
   over: boolean;
   list: string[];
   entries: number;
+  ran?: Ran;
   dare?: DareJudged;
+}
+
+interface StepsFound extends AnySteps {
+  last: number;
+  looks: Look[];
   judge?: Replayed;
+  nodes?: undefined;
+}
+
+interface Reacted {
+  acts: number;
+  able: boolean;
+  found: string;
+  keeps: [string, string][];
+}
+
+interface FileSays {
+  ok: boolean;
+  said: string;
+}
+
+interface ReactionsFound extends AnySteps {
+  nodes: Reacted[];
+  ended: boolean;
+  always: FileSays | null;
+  right: FileSays | null;
+  dares: string[];
+}
+
+interface FileText {
+  version: string;
+  text?: string;
+  lines?: Record<string, [number, number]>;
+  fault?: string;
 }
 
 interface Predicted {
@@ -348,6 +390,11 @@ interface StepsCall extends Seeded, WithoutRules, AfterSteps, Held, OfProgram {
   in_step?: boolean | null;
 }
 
+interface FileCall {
+  own: string;
+  seen?: string | null;
+}
+
 interface PredictCall extends OfProgram {
   forest?: number | null;
   vertex: number;
@@ -391,6 +438,7 @@ interface Asks {
   replay: ReplayCall;
   judge: JudgeCall;
   steps: StepsCall;
+  file_text: FileCall;
   predict: PredictCall;
   waits: WaitsCall;
   exercise: ExerciseCall;
@@ -416,7 +464,8 @@ interface Answers {
   run_page: string;
   replay: Replayed;
   judge: JudgedText;
-  steps: StepsFound;
+  steps: StepsFound | ReactionsFound;
+  file_text: FileText;
   predict: Predicted;
   waits: Predicted;
   exercise: ExerciseJudged;

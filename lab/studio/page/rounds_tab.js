@@ -4,6 +4,7 @@ import {KEYS, all, announce, asks, by, capital, count, fill, go, hang, hello, hi
   rulesOf, say, sayLast, seen, show, showOptions, stage, tabs, time, timeAt, tried} from "./base.js";
 import {html, patch, sentence} from "./marks.js";
 import {load as load_, net, text} from "./model.js";
+import {enterFile, markRan} from "./own.js";
 import {Question} from "./predict.js";
 import {RoundsFilm} from "./rounds.js";
 
@@ -65,6 +66,7 @@ function showAt() {
   const isFirst = !by("welcome").hidden, p = film.draw(stage, time.at, {forest: rounds.forest, node, why, plain: isFirst});
   const [caption, told] = film.said(p, node), said = p === film.last ? endSaid(film, p, told) : told;
   say("when", `pulse ${p} of ${film.last}`);
+  markRan(p ? ["step", "next"] : ["greet"], 0);
   if (isFirst) say("story", storyOf(film, p));
   const ofNode = node ? ` Node ${node}: ${film.words(node, p, film.forestAt(p, rounds.forest))}.` : "";
   announce(`pulse ${p}. ${said}${ofNode}`);
@@ -167,6 +169,8 @@ tabs.rounds = {
   enter(more = {}) {
     by("program2").value = seen.program;
     showOptions();
+    enterFile();
+    all(".noown").forEach(one => { one.hidden = Object.keys(hello().own).length > 0; });
     rounds.without = rulesOf(rulesHere(), rounds.without);
     showRules();
     const mine = ++entered;

@@ -1,10 +1,12 @@
 // The tab Adversary: whoever looks is the network, and chooses which message is taken next and which node pulses.
-import {all, announce, asks, by, count, go, hello, hooks, leftOutWords, programNamed, ruleBoxes, seen, show, showOptions,
-  stage, tabs, toggleLazy, toggleSlow} from "./base.js";
+import {all, announce, asks, by, count, go, hello, hooks, leftOutWords, option, programNamed, ruleBoxes, rulesOf, seen, show, showOptions,
+  stage, tabs, toggleLazy, toggleSlow, wrong} from "./base.js";
 import {keep, keptNumbers} from "./kept.js";
 import {html, sentence} from "./marks.js";
 import {neighbours, net, text} from "./model.js";
+import {enterFile, markRan, reacts} from "./own.js";
 import {Question} from "./predict.js";
+import {MESSAGES, fileSays, hueOf, keptLine, reactedMarks, reactedWords} from "./reactions.js";
 import {alphaMarks, foundWords, heldEdge, lookWords, queueMarks, waitsWords} from "./run.js";
 import {nameOf} from "./stage.js";
 
@@ -12,10 +14,10 @@ import {nameOf} from "./stage.js";
 /** @type {Steps} */
 export const steps = {made: [], found: null, without: "", predicts: false, dare: ""};
 const question = new Question("question2", () => {
-  if (!steps.predicts) return null;
-  const {node} = seen, {without, made} = steps, program = programNamed();
-  if (!node || !steps.found) return {words: "Click a node that can’t make its pulse: what does it wait for?"};
-  const look = steps.found.looks[node - 1], kinds = look && look.pulse < steps.found.last ? ["ack", "safe"] : ["close"];
+  const {node} = seen, {without, made, found} = steps, program = programNamed();
+  if (!steps.predicts || found && found.nodes) return null;
+  if (!node || !found) return {words: "Click a node that can’t make its pulse: what does it wait for?"};
+  const look = found.looks[node - 1], kinds = look && look.pulse < found.last ? ["ack", "safe"] : ["close"];
   const choices = neighbours(node).flatMap(w => kinds.map(kind => `${kind} ${w}`));
   return {words: `What does node ${node} wait for? Tick it, or nothing.`, call: "waits", choices,
     asked: {network: text(), program, without, steps: made.join("_"), vertex: node}};
@@ -32,9 +34,10 @@ let asking = 0;
 async function ask(more = {}) {
   const {slow, lazy} = seen, {without, made, dare} = steps, program = programNamed();
   begun(1);
-  await asks("steps", {network: text(), program, slow, lazy, without, dare, steps: made.join("_"), ...more},
+  const isFound = await asks("steps", {network: text(), program, slow, lazy, without, dare, steps: made.join("_"), ...more},
     "playing these steps", found => { Object.assign(steps, {found, made: found.made}); show(); });
   begun(-1);
+  return isFound;
 }
 /** @param {number} more */
 function begun(more) { asking += more; }
@@ -59,23 +62,36 @@ function queue([v, w, wires]) {
   return queueMarks(stage, v, w, wires, place => {
     const step = `${w}-${v}` + (place ? "-" + place : ""), free = isFree(step);
     return {free, "data-step": free ? step : null};
-  });
+  }, reacts() ? MESSAGES : undefined);
+}
+// What is drawn of the nodes, and said of them.
+/** @param {AnySteps & (StepsFound | ReactionsFound)} is */
+function nodesDrawn(is) {
+  if (is.nodes) {
+    const {nodes} = is;
+    return {below: true, says: (/** @type {number} */ v) => reactedWords(nodes[v - 1]),
+      node: (/** @type {number} */ v, /** @type {number} */ x, /** @type {number} */ y, /** @type {number} */ r) =>
+        reactedMarks(stage, nodes[v - 1], x, y, r)};
+  }
+  // What is asked of a node isn't on the network before it is answered.
+  const hidden = hiddenNode(), {looks} = is;
+  /** @param {number} v */
+  const look = v => v === hidden ? {...looks[v - 1], waits: [], safe: false} : looks[v - 1];
+  return {below: typeof looks[0].found === "string", says: (/** @type {number} */ v) => saysOf(is, v),
+    node: (/** @type {number} */ v, /** @type {number} */ x, /** @type {number} */ y, /** @type {number} */ r) =>
+      alphaMarks(stage, look(v), v, x, y, r)};
 }
 function showAt() {
   const is = steps.found;
-  if (!is || is.looks.length !== net.nodes.length) return false;
+  if (!is || (is.nodes || is.looks).length !== net.nodes.length) return false;
   const slow = new Set(seen.slow.map(e => e.join("-")));
-  const isWord = typeof is.looks[0].found === "string";
   question.show();
-  // What is asked of a node isn't on the network before it is answered.
   const hidden = hiddenNode();
-  /** @param {number} v */
-  const look = v => v === hidden ? {...is.looks[v - 1], waits: [], safe: false} : is.looks[v - 1];
-  stage.draw({node: (v, x, y, r) => alphaMarks(stage, look(v), v, x, y, r), bars: false, apart: 4.6,
-    below: isWord, ring: v => v !== hidden && isFree(String(v)) ? "var(--good)" : v === seen.node ? "var(--edge)" : null,
-    says: v => saysOf(is, v),
+  stage.draw({...nodesDrawn(is), bars: false, apart: 4.6,
+    ring: v => v !== hidden && isFree(String(v)) ? "var(--good)" : v === seen.node ? "var(--edge)" : null,
     label: v => nameOf(net, v) + (seen.lazy.includes(v) ? " (held)" : ""),
     edge: (v, w) => heldEdge(v, w, slow.has(v + "-" + w)), above: () => is.wires.flatMap(queue)});
+  if (is.ran) markRan([is.ran.function], is.ran.node);
   sayWhere(is);
   showDare(is);
   listSteps(is);
@@ -83,9 +99,10 @@ function showAt() {
   by("list").scrollTop = by("list").scrollHeight;
   by("undostep").disabled = by("anew").disabled = !steps.made.length;
   [by("chance"), by("chance20"), by("instep")].forEach(one => { one.disabled = is.over || !is.steps.some(isFree); });
+  if (is.nodes) { by("instep").disabled = true; offerDares(is.dares); }
 }
 // The node of which it is asked what it waits for, as long as that isn't answered.
-function hiddenNode() { return steps.predicts && !question.isTold ? seen.node : null; }
+function hiddenNode() { return steps.predicts && !reacts() && !question.isTold ? seen.node : null; }
 // What is said of a node: what it waits for isn't, if that is asked; and in a run that has ended it waits for nothing.
 /** @param {StepsFound} is @param {number} v */
 function saysOf(is, v) {
@@ -107,12 +124,12 @@ function bestOf({won}) {
 }
 // The card of a dare: its goal, the rules that are left out, and how far it is; of one that nobody can win, that this is
 // proved. Who has won hands in the link, and who sets it as a task copies it without the steps.
-/** @param {StepsFound} is */
+/** @param {AnySteps} is */
 function showDare(is) {
   const card = by("dared"), {dare} = is;
   card.hidden = !dare;
   if (!dare) return;
-  const goal = `${dare.won ? "☑" : "☐"} I dare you to ${hello().dares[steps.dare]}.`;
+  const goal = `${dare.won ? "☑" : "☐"} I dare you to ${daresHere()[steps.dare]}.`;
   const rules = steps.without ? `Left out: ${steps.without.split(",").join(", ")}.` : "All rules are kept.";
   const far = `${dare.won ? "Won" : "Not yet"}: ${dare.said}.${dare.impossible ? ` ${dare.impossible}.` : ""}`;
   const best = bestOf(dare), ever = html("p", best === undefined ? "Best so far: not won yet." : `Best so far: won in ${count(best, "step")}.`, {class: "soft"});
@@ -120,6 +137,19 @@ function showDare(is) {
   copy.onclick = () => hooks.copy(copy, dare.won ? {} : {steps: []});
   card.className = dare.won ? "card won" : "card";
   card.replaceChildren(html("b", goal), html("p", rules, {class: "soft"}), sentence(far), ever, copy);
+}
+// The dares of the program; those of a file make sense only if it has their function.
+function daresHere() { return reacts() ? hello().own_dares : hello().dares; }
+/** @param {string[]} names */
+function offerDares(names) {
+  const list = by("dare"), key = names.join();
+  if (list.dataset.of !== key) {
+    list.dataset.of = key;
+    list.replaceChildren();
+    option(list, "", "none");
+    names.forEach(name => option(list, name, daresHere()[name]));
+  }
+  list.value = steps.dare;
 }
 // Why nothing goes on, or that all is done; what is under way then is taken by nodes that have halted.
 /** @param {StepsFound} is @returns {[string, string] | null} */
@@ -135,16 +165,18 @@ function endWords(is) {
   if (!is.steps.length) return ["Nothing can happen, and not all are done.", "bad"];
   return is.steps.some(isFree) ? null : ["All that could happen is held.", "soft"];
 }
-/** @param {StepsFound} is */
+/** @param {StepsFound | ReactionsFound} is */
 function sayWhere(is) {
-  const box = by("stepsaid"), {judge} = is, n = steps.made.length, end = endWords(is);
+  const box = by("stepsaid"), n = steps.made.length, end = is.nodes ? null : endWords(is);
   const lines = [html("b", n ? `${n}: ${is.said}.` : "Nothing has happened yet: choose what comes first.")];
   if (is.fault) lines.push(sentence(`✗ ${is.fault}.`, {class: "bad"}));
   // What a dare asks for may be what a program refuses.
   if (end) lines.push(html("p", end[0], {class: is.dare && is.dare.won ? "soft" : end[1]}));
-  if (judge) lines.push(judgement(judge, is));
+  if (is.nodes) lines.push(...fileSays(is, !is.steps.some(isFree)));
+  else if (is.judge) lines.push(judgement(is.judge, is));
   box.replaceChildren(...lines);
-  announce(lines.map(line => line.textContent).join(" "));
+  const ran = is.ran ? `${is.ran.function} ran.` : "";
+  announce(lines.map(line => line.textContent).concat(ran).join(" "));
 }
 /** @param {Replayed} judge @param {StepsFound} is */
 function judgement(judge, is) {
@@ -154,7 +186,7 @@ function judgement(judge, is) {
   return sentence(`${agrees ? "✓" : "✗"} ${judge.by} ${said}`, {class: agrees ? "good" : "bad"});
 }
 // What can happen now, node by node, as buttons; of a large network the chosen node's, or the first ones.
-/** @param {StepsFound} is */
+/** @param {StepsFound | ReactionsFound} is */
 function listSteps(is) {
   const place = by("possible"), on = document.activeElement;
   const focus = on instanceof HTMLElement && place.contains(on) ? on.dataset.key : null;
@@ -165,12 +197,14 @@ function listSteps(is) {
   let keyed = 0;
   const rows = net.nodes.map((_, k) => k + 1).filter(v => few || (seen.node ? v === seen.node : byNode.has(v)));
   place.replaceChildren(...rows.slice(0, 14).map(v => {
-    const line = html("div", null, {class: "possible"}), look = is.looks[v - 1], hold = html("button",
-      seen.lazy.includes(v) ? "let go" : "hold its pulse", {class: "quiet", "data-key": "hold " + v,
-        "aria-label": `hold the pulse of node ${v}`, "aria-pressed": seen.lazy.includes(v)});
+    const line = html("div", null, {class: "possible"}), own = is.nodes ? "act" : "pulse", hold = html("button",
+      seen.lazy.includes(v) ? "let go" : `hold its ${own}`, {class: "quiet", "data-key": "hold " + v,
+        "aria-label": `hold the ${own} of node ${v}`, "aria-pressed": seen.lazy.includes(v)});
     hold.onclick = () => { toggleLazy(v); show(); };
-    line.append(html("b", `node ${v} `), html("span", `pulse ${look.pulse}${steps.predicts || is.over ? "" : ": " + waitsWords(look, is.last)} `,
-      {class: "soft"}), hold);
+    // A file without acts has none to hold.
+    hold.hidden = is.nodes !== undefined && !is.nodes.some(one => one.able || one.acts);
+    line.append(html("b", `node ${v} `), html("span", `${rowWords(is, v)} `, {class: "soft"}), hold);
+    if (is.nodes && (few || v === seen.node)) line.append(keptLine(is.nodes[v - 1]));
     (byNode.get(v) || []).forEach(step => {
       // That a node can make its pulse says that it waits for nothing.
       if (v === hiddenNode() && !step.includes("-")) return;
@@ -178,6 +212,7 @@ function listSteps(is) {
         class: kindOf(is, step)});
       if (free && keyed < KEYED) button.append(html("kbd", ++keyed), " ");
       button.append(saidOf(is, step));
+      if (is.nodes && step.includes("-")) button.style.borderColor = hueOf(wireOf(is, step));
       button.disabled = !free;
       button.onclick = () => make(step);
       line.append(button);
@@ -188,22 +223,33 @@ function listSteps(is) {
   if (focus) (all("#possible [data-key]").find(one => one.dataset.key === focus) || all("#possible [data-step]")[0]
     || place).focus();
 }
-/** @param {StepsFound} is @param {string} step */
+// What is said of a node before what can happen at it.
+/** @param {StepsFound | ReactionsFound} is @param {number} v */
+function rowWords(is, v) {
+  if (is.nodes) return reactedWords(is.nodes[v - 1], true);
+  const look = is.looks[v - 1];
+  return `pulse ${look.pulse}${steps.predicts || is.over ? "" : ": " + waitsWords(look, is.last)}`;
+}
+/** @param {AnySteps} is @param {string} step */
 function wireOf(is, step) {
   const [w, v, place] = step.split("-").map(Number), found = is.wires.find(one => one[0] === v && one[1] === w);
   return found ? found[2][place || 0] : "";
 }
-/** @param {StepsFound} is @param {string} step */
-function kindOf(is, step) { return step.includes("-") ? wireOf(is, step).split(" ")[0] : "pulse"; }
-/** @param {StepsFound} is @param {string} step */
+/** @param {StepsFound | ReactionsFound} is @param {string} step */
+function kindOf(is, step) {
+  if (!step.includes("-")) return "pulse";
+  return is.nodes ? "message" : wireOf(is, step).split(" ")[0];
+}
+/** @param {StepsFound | ReactionsFound} is @param {string} step */
 function saidOf(is, step) {
   const [v, w, place] = step.split("-").map(Number);
-  if (!w) return `make pulse ${is.looks[v - 1].pulse + 1}`;
-  return `${wireOf(is, step).replace(/^payload \d+ /, "")} from ${w}` + (place ? `, before ${place} others` : "");
+  if (!w) return is.nodes ? "act" : `make pulse ${is.looks[v - 1].pulse + 1}`;
+  const said = wireOf(is, step);
+  return `${is.nodes ? said : said.replace(/^payload \d+ /, "")} from ${w}` + (place ? `, before ${place} others` : "");
 }
 tabs.adversary = {
   show: showAt,
-  hint: () => "Click a message to have it taken, a node in a green ring to make its pulse, an edge to hold it.",
+  hint: () => `Click a message to have it taken, ${reacts() ? "a ringed node to have it act" : "a node in a green ring to make its pulse"}, an edge to hold it.`,
   click(v, edge, event, step) {
     if (step) return make(step);
     if (v && steps.found && !steps.predicts && isFree(String(v))) return make(String(v));
@@ -220,12 +266,14 @@ tabs.adversary = {
     return Boolean(chosen);
   },
   enter(more = {}) {
-    const {orders} = hello().rules;
+    const {orders, links} = hello().rules, rules = reacts() ? links : orders;
     by("program3").value = seen.program;
     showOptions();
-    ruleBoxes("without", orders, steps.without, leaveOut);
-    by("rule").textContent = leftOutWords(orders, steps.without);
-    by("dare").value = steps.dare;
+    enterFile();
+    leaveWhatIsOfOthers(rules);
+    ruleBoxes("without", rules, steps.without, leaveOut);
+    by("rule").textContent = leftOutWords(rules, steps.without);
+    offerDares(Object.keys(daresHere()));
     by("handover").disabled = Boolean(steps.without);
     by("handoversaid").textContent = steps.without ? "The tab No clock keeps all rules, so it can’t go on from here." : "";
     steps.found = null;
@@ -243,6 +291,24 @@ tabs.adversary = {
     by("predicts2").checked = predict;
   },
 };
+// What nodes without rounds have no use for is hidden: pulses in step, waits, and the tab No clock. What isn't a rule or
+// a dare of the program is chosen no more.
+/** @param {Rules} rules */
+function leaveWhatIsOfOthers(rules) {
+  const isWithoutRounds = reacts();
+  [by("instep"), by("instepsaid"), by("predicts2box"), by("handoverbox")].forEach(one => { one.hidden = isWithoutRounds; });
+  by("listfor").textContent = isWithoutRounds ? `forestlab simulate --program ${seen.program}.py --events` : "forestplay events";
+  all(".noown").forEach(one => { one.hidden = Object.keys(hello().own).length > 0; });
+  steps.without = rulesOf(rules, steps.without);
+  if (!Object.hasOwn(daresHere(), steps.dare)) steps.dare = "";
+}
+// After the file has been changed the same steps are made again, if they are possible.
+export async function makeAgain() {
+  steps.found = null;
+  if (await ask() || !steps.made.length || seen.tab !== "adversary") return;
+  steps.made = [];
+  if (await ask()) wrong("The file has changed, and the steps so far aren’t possible any more: the run begins again.");
+}
 /** @param {string} left */
 function leaveOut(left) {
   steps.without = left;

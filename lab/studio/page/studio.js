@@ -6,9 +6,10 @@ import {all, asks, by, endsOf, hello, hooks, inputs, option, say, seen, show, st
 import {askPlan, drawn, inspect, makeForm, openFile, save} from "./draw.js";
 import {check} from "./check.js";
 import {fillMenu, look, showCard, turns} from "./lessons.js";
+import {enterFile, reacts, watchFile} from "./own.js";
 import {rounds} from "./rounds_tab.js";
 import {run} from "./run_tab.js";
-import {steps} from "./steps_tab.js";
+import {makeAgain, steps} from "./steps_tab.js";
 import {legend} from "./legend.js";
 import {blank, coded, targetOf} from "./marks.js";
 import {ROUNDS_WORDS} from "./rounds.js";
@@ -41,7 +42,8 @@ hooks.show = () => {
   document.title = titleSeen();
   by("slider").setAttribute("aria-valuetext", by("when").textContent || "");
   by("legend").hidden = seen.tab === "pictures";
-  legend(by("legend"), [stage.svg, by("second")].filter(one => !one.hasAttribute("hidden")), LEGENDS[seen.tab]);
+  const words = seen.tab === "adversary" && reacts() ? {ring_good: "it may act now: click it"} : LEGENDS[seen.tab];
+  legend(by("legend"), [stage.svg, by("second")].filter(one => !one.hasAttribute("hidden")), words);
   look();
   hooks.link();
 };
@@ -90,6 +92,7 @@ function enter(more = {}) {
   by("picture").hidden = name !== "pictures";
   by("picture").replaceChildren();
   wrong("");
+  enterFile();
   showCard();
   if (name !== "draw" && !net.nodes.length) { tabs.draw.show(); wrong("Draw a network first."); return hooks.link(); }
   TABS.forEach(other => {
@@ -374,6 +377,8 @@ function tabNamed(name) { return TABS.find(tab => tab === name) || "draw"; }
 
 document.onkeydown = event => {
   const on = targetOf(event);
+  // The text of a file is read with the keys that scroll it.
+  if (on === by("codebox") && /^(Arrow|Page|Home|End)/.test(event.key)) return;
   if (["INPUT", "TEXTAREA", "SELECT"].includes(on.tagName) && on !== by("slider")) return;
   const isUsed = event.ctrlKey || event.metaKey ? undoes(event) : !event.altKey && uses(event, on);
   if (isUsed) event.preventDefault();
@@ -472,6 +477,10 @@ async function begin() {
   });
   makeForm();
   watchOptions(() => { tabs[seen.tab].enter({fresh: true}); hooks.link(); });
+  watchFile(() => {
+    run.key = rounds.of = null;
+    if (seen.tab === "adversary") makeAgain(); else tabs[seen.tab].enter();
+  });
   watchBuild(async () => { await greet(); run.key = rounds.of = null; enter(); askPlan(); });
   await (location.hash || opened ? follow() : welcome());
 }

@@ -139,6 +139,15 @@ interface Elements {
   zoomout: HTMLButtonElement;
   zoomfit: HTMLButtonElement;
   busy: HTMLElement;
+  code: HTMLElement;
+  codesaid: HTMLElement;
+  codefault: HTMLElement;
+  codebox: HTMLElement;
+  numbers: HTMLElement;
+  codetext: HTMLElement;
+  before: HTMLElement;
+  ran: HTMLElement;
+  after: HTMLElement;
   time: HTMLElement;
   back: HTMLButtonElement;
   play: HTMLButtonElement;
@@ -221,6 +230,10 @@ interface Elements {
   chance20: HTMLButtonElement;
   instep: HTMLButtonElement;
   anew: HTMLButtonElement;
+  instepsaid: HTMLElement;
+  predicts2box: HTMLElement;
+  handoverbox: HTMLElement;
+  listfor: HTMLElement;
   handover: HTMLButtonElement;
   handoversaid: HTMLElement;
   predicts2: HTMLInputElement;
@@ -290,4 +303,12 @@ interface Run {
   judgedAt: number | null;
   at: number;
 }
-interface Steps { made: string[]; found: StepsFound | null; without: string; predicts: boolean; dare: string; }
+// The file of a program of one's own: its text, and the first and the last line of each function.
+interface OwnFile {
+  name: string;
+  version: string;
+  text: string | null;
+  lines: Record<string, [number, number]>;
+  fault: string;
+}
+interface Steps { made: string[]; found: StepsFound | ReactionsFound | null; without: string; predicts: boolean; dare: string; }

@@ -1,0 +1,75 @@
+"""The dares of a file whose nodes react to messages: to break what its own functions `always` and `right` say. Nothing
+is proved of a file, so whether a dare can be won isn't known; `forestlab explore` finds out on a small network."""
+from collections.abc import Collection, Iterable, Sequence
+
+from lab.definitions.own_program import what_is_wrong
+from lab.definitions.reacting import Reacting, results_in
+from lab.fault_codes import Code
+from lab.faults import Fault
+from lab.network import Network
+from lab.schedules.policies import Policy
+from lab.schedules.reacting_stepwise import ReactingStepwise
+from lab.schedules.simulate import Player
+from lab.studio.answers import DareJudged
+from lab.words import counted
+
+# In words that go on a sentence which begins with "I dare you to".
+OWN_DARES = {
+    "always": "reach a state that the file’s always refuses",
+    "right": "reach an end that the file’s right refuses",
+    "other": "reach an end with other results than if what has been possible for longest always comes first",
+}
+# The end of that order is looked for among so many entries.
+MOST_ENTRIES = 20_000
+
+
+def own_dares_of(program: Reacting) -> Sequence[str]:
+    """The dares that make sense for a file, by its functions."""
+    return [dare for dare in OWN_DARES if dare == "other" or dare in program.file.functions]
+
+
+def own_dare_judged(
+    network: Network, program: Reacting, without: Collection[str], steps: Iterable[str], dare: str
+) -> DareJudged:
+    """Whether steps win the dare, and how far they come."""
+    if dare not in own_dares_of(program):
+        raise Fault(Code.NO_DARE, dare=dare)
+    player = ReactingStepwise(network, program, without)
+    refused = player.refused
+    for step in filter(None, steps):
+        player.follow([step])
+        refused = refused or player.refused
+    count = counted(len(player.chosen), "step")
+    if dare == "always":
+        said = f"`always` says: {refused}" if refused else "`always` is true so far"
+        return DareJudged(bool(refused), f"{said}, in {count}")
+    if not player.is_ended:
+        why = (
+            "a function of the file has failed" if player.is_over else "something can still happen"
+        )
+        return DareJudged(False, f"this is no end: {why}")
+    if dare == "right":
+        wrong = what_is_wrong(network, program.file, player.results)
+        said = f"`right` says: {wrong}" if wrong else "`right` is true at this end"
+        return DareJudged(bool(wrong), f"{said}, in {count}")
+    return other_judged(player, usual_end(network, program), count)
+
+
+def other_judged(player: ReactingStepwise, usual: dict[int, str], count: str) -> DareJudged:
+    differs = [v for v, words in player.results.items() if words != usual[v]]
+    if not differs:
+        return DareJudged(False, "the results are the same as in that order")
+    v = differs[0]
+    return DareJudged(
+        True, f"node {v} has {player.results[v]}, and {usual[v]} in that order, in {count}"
+    )
+
+
+def usual_end(network: Network, program: Reacting) -> dict[int, str]:
+    """What nodes have found at the end, if what has been possible for longest always comes first."""
+    player = Player(program.start(network))
+    policy = Policy("oldest", network.vertices, network.edges, "1")
+    for number, _ in enumerate(player.entries(policy), 1):
+        if number == MOST_ENTRIES:
+            raise Fault(Code.RUN_WITHOUT_END, policy=policy.name, most=MOST_ENTRIES)
+    return results_in(player.state)

@@ -1,0 +1,64 @@
+// What the tab Adversary shows of nodes that react to messages, without rounds: what each has found and keeps, and what
+// the file says of where the run is.
+import {HUES} from "./hues.js";
+import {count} from "./base.js";
+import {html, mark, resultWords, sentence, words} from "./marks.js";
+
+// Each word of messages has a hue, in the order in which they are first seen.
+/** @type {Map<string, string>} */
+const hues = new Map();
+/** @param {string} said */
+export function hueOf(said) {
+  const [word] = said.split(" ");
+  if (!hues.has(word)) hues.set(word, HUES[hues.size % HUES.length][0]);
+  return hues.get(word) || "";
+}
+// What a message on a link looks like: all of it, or if there is no room its first letter and its first number.
+/** @type {LooksOfMessages} */
+export const MESSAGES = {
+  shown: (said, isLong) => isLong && said.length <= 16 ? said : said[0] + (said.split(" ")[1] || "").slice(0, 3),
+  look: said => ({fill: "var(--paper)", stroke: hueOf(said), ink: "var(--ink)", "data-mark": "message"}),
+};
+// A node, with how often it has acted, and below it what it has found.
+/** @param {Stage} stage @param {Reacted} is @param {number} x @param {number} y @param {number} r @returns {Marks} */
+export function reactedMarks(stage, is, x, y, r) {
+  return [mark("circle", {cx: x, cy: y, r, fill: "var(--paper)", stroke: "var(--ink)", "stroke-width": 1.6, "data-mark": "reacting"}),
+    words(x, y, r * 0.9, "var(--ink)", is.acts || "", {"font-weight": "bold"}),
+    ...resultWords(x, y + r + 14, 11, is.found, stage.least)];
+}
+// What a node has found, how often it has acted and whether it may, in words.
+/** @param {Reacted} is @param {boolean} isBrief */
+export function reactedWords(is, isBrief = false) {
+  const acted = is.acts ? `has acted ${is.acts === 1 ? "once" : `${is.acts} times`}` : "";
+  return [isBrief ? is.found : `result: ${is.found || "nothing"}`, acted, is.able && !isBrief ? "may act" : ""].filter(Boolean).join(", ");
+}
+// What a node keeps in `me`.
+/** @param {Reacted} is */
+export function keptLine(is) {
+  const said = is.keeps.map(([name, value]) => `me.${name} = ${value}`).join("; ");
+  return html("div", said || "It keeps nothing in me.", {class: "kept"});
+}
+// What the file says of where the run is, and why nothing goes on.
+/** @param {ReactionsFound} is @param {boolean} isHeld */
+export function fileSays(is, isHeld) {
+  /** @type {[string, string][]} */
+  const found = [];
+  if (is.over) found.push(["A function of the file has failed, so the run ends here: go back.", "bad"]);
+  if (is.always && is.always.ok) found.push(["`always` is true here.", "good"]);
+  if (is.always && !is.always.ok) found.push([`\`always\` refuses this state: ${is.always.said}.`, "bad"]);
+  if (is.ended) found.push(endSaid(is), [resultsSaid(is), "soft"]);
+  else if (!is.over && isHeld) found.push(["All that could happen is held.", "soft"]);
+  return found.map(([said, kind]) => sentence(said, {class: kind}));
+}
+/** @param {ReactionsFound} is @returns {[string, string]} */
+function endSaid({right}) {
+  if (!right) return ["This is an end: nothing can happen any more. The file has no `right`, so it doesn’t say whether the end is right.", ""];
+  return right.ok ? ["This is an end: nothing can happen any more, and `right` is true of it.", "good"]
+    : [`This is an end: nothing can happen any more, and \`right\` refuses it: ${right.said}.`, "bad"];
+}
+// The result of each node, when the run has ended.
+/** @param {ReactionsFound} is */
+function resultsSaid({nodes, made}) {
+  const results = nodes.map((one, k) => `${k + 1} ${one.found}`).join(", ");
+  return `Results: ${results}. These ${count(made.length, "step")} are one order of one network: another order may end otherwise.`;
+}

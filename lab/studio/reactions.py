@@ -1,0 +1,104 @@
+"""The calls on a program of one's own: the text of its file, and a run of nodes that react to messages, made step by
+step. What is said of such a file is tried out, and nothing is proved of it."""
+import hashlib
+from collections.abc import Mapping
+from types import CodeType
+
+from lab.definitions.own_program import MOST_BYTES
+from lab.definitions.program import ProgramFile
+from lab.definitions.reacting import Reacting
+from lab.fault_codes import Code
+from lab.faults import Fault
+from lab.network import Network
+from lab.schedules.reacting_stepwise import ReactingStepwise
+from lab.studio.answers import FileSays, FileText, Ran, Reacted, ReactionsFound
+from lab.studio.asked import own_program_now
+from lab.studio.messages import FileCall, StepsCall
+from lab.studio.own_dares import own_dare_judged, own_dares_of
+from lab.studio.session import Session
+from lab.studio.telling import Tell
+from lab.words import bytes_at
+
+# The version of a file that can't be read.
+UNREAD = "unread"
+
+
+def file_text(call: FileCall, session: Session, _tell: Tell) -> FileText:
+    """The text of a program of one's own, if it isn't the version that the page has."""
+    path = session.own.get(call.own)
+    if path is None:
+        raise Fault(Code.NO_FILE_OF_PROGRAM, name=call.own)
+    version = UNREAD
+    try:
+        data = bytes_at(path, MOST_BYTES)
+        version = hashlib.sha256(data).hexdigest()[:16]
+        if version == call.seen:
+            return FileText(version)
+        program = own_program_now(call.own, session)
+        text = data.decode("utf-8-sig")
+    except Fault as why:
+        return FileText(version, fault=None if version == call.seen else str(why))
+    lines = {} if program.file is None else lines_by_function(program.file)
+    return FileText(version, text, lines)
+
+
+def lines_by_function(file: ProgramFile) -> Mapping[str, tuple[int, int]]:
+    """The lines of each function that a file defines itself."""
+    found = {}
+    for name, function in file.functions.items():
+        code = getattr(function, "__code__", None)
+        if isinstance(code, CodeType) and code.co_filename == file.path:
+            found[name] = code.co_firstlineno, last_line(code)
+    return found
+
+
+def last_line(code: CodeType) -> int:
+    """The last line of a function's code, with that of the functions in it."""
+    own = [line for *_, line in code.co_lines() if line]
+    inside = [last_line(one) for one in code.co_consts if isinstance(one, CodeType)]
+    return max([code.co_firstlineno, *own, *inside])
+
+
+def reactions_found(
+    call: StepsCall, network: Network, program: Reacting, player: ReactingStepwise
+) -> ReactionsFound:
+    """Where a run is that is made step by step, what each node has and keeps, and what the file says of it."""
+    dare = None
+    if call.dare:
+        dare = own_dare_judged(network, program, player.without, player.chosen, call.dare)
+    has_always = "always" in program.file.functions and not player.is_over
+    has_right = "right" in program.file.functions and player.is_ended
+    function, node = player.ran
+    wires = [(v, w, player.words_on(v, w)) for v in network.vertices for w in network.neighbours[v]]
+    return ReactionsFound(
+        made=player.chosen,
+        steps=[] if player.is_over else player.possible(),
+        wires=[row for row in wires if row[2]],
+        said=player.said,
+        fault=player.fault,
+        over=player.is_over,
+        list=player.lines,
+        entries=len(player.made),
+        ran=Ran(function, node or 0),
+        dare=dare,
+        nodes=[reacted(player, v) for v in network.vertices],
+        ended=player.is_ended,
+        always=says(player.refused) if has_always else None,
+        right=says(player.said_by_right()) if has_right else None,
+        dares=own_dares_of(program),
+    )
+
+
+def says(wrong: str) -> FileSays:
+    return FileSays(not wrong, wrong)
+
+
+def reacted(player: ReactingStepwise, v: int) -> Reacted:
+    """What a node has and keeps. Of a node that has failed it is what it had found before."""
+    node = player.state.nodes[v]
+    return Reacted(
+        acts=node.acts,
+        able=node.may_act() and not player.is_over,
+        found=player.results.get(v, ""),
+        keeps=list(player.kept_by(v)),
+    )
