@@ -71,10 +71,6 @@ GOOD: list[tuple[str, dict]] = [
     ("steps", RUN | {"list": "take 1 0\n"}),
     ("steps", RUN | {"program": "echo", "steps": "2-1", "without": "fifo", "dare": "other"}),
     ("file_text", {"own": "echo", "seen": "0"}),
-    (
-        "exercise",
-        RUN | STEPS | {"without": "", "lesson": 1, "step": 1, "said": "x", "plan": [1, 2]},
-    ),
     ("predict", RUN | {"vertex": 1, "pulse": 1, "forest": 0, "said": "layer 0"}),
     ("predict", RUN | {"program": "colouring"} | {"vertex": 1, "pulse": 3, "forest": 0, "said": 1}),
     ("waits", RUN | STEPS | {"vertex": 1, "said": "ack 2"}),
