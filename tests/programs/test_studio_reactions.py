@@ -51,7 +51,7 @@ def result(me):
 def right(results, neighbours):
     return results[1] == "first 2" or "node 1 has heard 3 first"
 """
-# Two may be inside.
+# Each node goes in and out when it likes, so two may be inside.
 INSIDE = """\
 def start(me):
     me.inside = False
@@ -63,11 +63,11 @@ def on_hello(me, port):
 
 
 def may_act(me):
-    return not me.inside
+    return True
 
 
 def act(me):
-    me.inside = True
+    me.inside = not me.inside
 
 
 def result(me):
@@ -297,15 +297,12 @@ class OwnFiles(FilesCase):
 
     def test_functions_elsewhere(self) -> None:
         """A function of another module has no lines here; one with a function in it ends with that."""
-        text = FIRST.replace(
-            "def result(me):\n",
-            "from os.path import join\n\n\ndef result(me):\n    def words():\n        return 1\n\n",
-        )
+        text = f"from os.path import join\n\n\n{FIRST}\n\ndef outer():\n    def inner():\n        return 1\n"
         session = session_of(self.file("first.py", text))
         lines = answer(session, "file_text", own="first")["lines"]
         self.note("of another module", "join" not in lines, lines)
-        low, high = lines["result"]
-        self.same("with the inner one", high - low, 4)
+        low, high = lines["outer"]
+        self.same("with the inner one", high - low, 2)
 
     def test_what_fails(self) -> None:
         """A function that fails ends the run, and its line is said; what the node had found before is still there."""
@@ -337,7 +334,8 @@ class OwnFiles(FilesCase):
             ("first", "other", "1-2_1-3", False, "the same"),
             ("inside", "always", "1", False, "`always` is true so far, in 1 step"),
             ("inside", "always", "1_2", True, "`always` says: two are inside, in 2 steps"),
-            ("inside", "always", "1_2_3", True, "in 3 steps"),
+            ("inside", "always", "1_2_1", True, "in 3 steps"),
+            ("inside", "always", "1_1_2", False, "`always` is true so far, in 3 steps"),
         )
         for name, dare, steps, is_won, words in rows:
             found = self.found(session, program=name, dare=dare, steps=steps)["dare"]
