@@ -51,7 +51,7 @@ class Pages(Case):
             (workshop, defaults.timeout, r"An answer may take ([\d,]+) seconds"),
             (talking, defaults.timeout, r"no answer within ([\d,]+) seconds"),
             (workshop, defaults.memory, r"([\d,]+)\s+megabytes of\s+memory"),
-            (workshop, guard.PROCESSOR_SECONDS, r"([\d,]+) seconds of processor time"),
+            (workshop, guard.PROCESSOR_SECONDS, r"([\d,]+)\s+seconds\s+of\s+processor\s+time"),
             (workshop, guard.Limits(1, 1, 16).written >> 20, r"may\s+have ([\d,]+) megabytes"),
             (workshop, guard.OPEN_FILES, r"It may open ([\d,]+) files"),
             (talking, protocol.MOST_LETTERS, r"up to ([\d,]+)\s+letters"),
