@@ -73,6 +73,18 @@ class Pages(Case):
             self.same(words, NUMBERS.get(found, found), f"{number:.0f}")
         self.assertEqual(guard.Limits(1, 1, 17).written < guard.Limits(1, 1, 16).written, True)
 
+    def test_the_protocol_shows_a_message_and_its_answer(self):
+        """With a clock and without: both are blocks of code, a line for each line, and end in `end`."""
+        shown = re.findall(
+            r"workshop writes this message:\n\n((?: {4}.*\n)+)"
+            r"\nand your program answers:\n\n((?: {4}.*\n)+)",
+            page("PROTOCOL.md"),
+        )
+        self.same("messages with their answers", len(shown), 2)
+        for text in (text for pair in shown for text in pair):
+            lines = text.split("\n")[:-1]
+            self.same(lines[0].strip(), lines[-1], "    end")
+
     def test_the_page_has_each_policy_and_each_payload(self):
         for names, text in (
             (POLICIES, "WORKSHOP.md"),
