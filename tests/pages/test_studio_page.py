@@ -126,8 +126,9 @@ class Repeated(Case):
 
 
 class Page(Case):
-    """A studio and a browser for all tests of a class."""
+    """A studio and a browser for all tests of a class; `words` are those of its command."""
 
+    words: tuple[str, ...] = ()
     process: subprocess.Popen[str]
     address: str
     page: browser.Browser
@@ -137,7 +138,7 @@ class Page(Case):
         program = browser.command()
         if program is None:
             return
-        cls.process, cls.address = begin()
+        cls.process, cls.address = begin(*cls.words)
         cls.addClassCleanup(cls.end_server)
         cls.page = browser.Browser(program)
         cls.addClassCleanup(cls.page.end)

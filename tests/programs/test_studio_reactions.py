@@ -14,9 +14,10 @@ from lab.definitions.reacting import Reacting, ReactingNode
 from lab.faults import Fault
 from lab.networks.network_text import network_of
 from lab.pictures.page_data import as_object
+from lab.studio.address import Here
 from lab.studio.calls import CALLS
 from lab.studio.links import judged_link
-from lab.studio.networks import Here, opened_by
+from lab.studio.networks import opened_by
 from lab.studio.session import Session
 from lab.studio.studio import own_programs
 from tests import TOP
@@ -174,7 +175,8 @@ class States(FilesCase):
 
     def walk(self, machine: Machine) -> Iterator[list[str]]:
         """A list of steps to each state."""
-        known, waiting = {key_of(machine.state([]))}, [[]]
+        known = {key_of(machine.state([]))}
+        waiting: list[list[str]] = [[]]
         for steps in waiting:
             yield steps
             for step in machine.possible(machine.state(steps)):
@@ -374,14 +376,15 @@ class OwnFiles(FilesCase):
     def test_without_rounds(self) -> None:
         """What asks for rounds says in one line why there are none, and names no command."""
         session = session_of(sample("echo"))
-        asked = {"network": TRIANGLE, "program": "echo"}
-        for name, more in (
+        asked: dict[str, object] = {"network": TRIANGLE, "program": "echo"}
+        rows: tuple[tuple[str, dict[str, object]], ...] = (
             ("rounds", {}),
             ("run", {"policy": "random"}),
             ("picture", {"kind": "rounds"}),
             ("predict", {"vertex": 1, "pulse": 1, "said": "x"}),
             ("waits", {"vertex": 1, "said": "x"}),
-        ):
+        )
+        for name, more in rows:
             said = self.refused(session, name, **asked | more)
             is_said = said.startswith("echo has no rounds: ") and "Adversary" in said
             self.note(name, is_said and "\n" not in said and "simulate" not in said, said)

@@ -4,15 +4,16 @@ import {call} from "./api.js";
 import {by, hello, messageOf, seen} from "./base.js";
 import {coded, html} from "./marks.js";
 
-// How often it is looked at, in milliseconds; and the tabs that show it.
-const EVERY = 1500, TABS = ["rounds", "adversary"];
+// How often it is looked at, in milliseconds.
+const EVERY = 1500;
 // `text` is what was loaded last without a fault, or null; `version` is that of the file as it was looked at last.
 /** @type {OwnFile} */
 export const file = {name: "", version: "", text: null, lines: {}, fault: ""};
 // Which function ran last, by the names that it may have, and of which node; 0 is each node.
 /** @type {{functions: string[], node: number}} */
 let last = {functions: [], node: 0};
-let isAsking = false, lost = "", drawn = "";
+// The program whose file is asked for now; why it can't be; and what is drawn.
+let asking = "", lost = "", drawn = "";
 /** @type {() => unknown} */
 let changed = () => 0;
 
@@ -27,12 +28,17 @@ export function watchFile(does) {
 }
 function look() {
   const {program} = seen;
-  if (isAsking || !isOwn()) return;
-  isAsking = true;
+  if (asking === program || !isOwn()) return;
+  asking = program;
   call("file_text", {own: program, seen: file.name === program ? file.version : ""}).then(got => {
+    // A later question has taken the place of one that has no answer.
+    if (!got || seen.program !== program) return;
     lost = "";
-    if (got && seen.program === program) take(program, got);
-  }).catch(fault => { lost = messageOf(fault); }).finally(() => { isAsking = false; show(); });
+    take(program, got);
+  }).catch(fault => { lost = messageOf(fault); }).finally(() => {
+    if (asking === program) asking = "";
+    show();
+  });
 }
 // Of a file with a fault the fault is said, and what was there stays.
 /** @param {string} name @param {FileText} found */
@@ -57,7 +63,8 @@ export function markRan(functions, node) {
   show();
 }
 function show() {
-  const isSeen = isOwn() && file.name === seen.program && TABS.includes(seen.tab);
+  const isMoving = seen.tab === "adversary" || seen.tab === "rounds" && !reacts();
+  const isSeen = isMoving && isOwn() && file.name === seen.program;
   by("code").hidden = !isSeen;
   document.body.classList.toggle("coded", isSeen);
   if (!isSeen) return;
