@@ -60,6 +60,11 @@ class ByHand(Player[AnyNode]):
         """What the link from v to w holds, in words."""
         return [str(wire) for wire in self.state.link[v, self.state.port_to[v, w]]]
 
+    def words_under_way(self) -> list[tuple[int, int, list[str]]]:
+        """What each link holds that holds something, in words: (from, to, messages)."""
+        links = [(v, w, self.words_on(v, w)) for v, ws in self.state.neighbours.items() for w in ws]
+        return [link for link in links if link[2]]
+
     def possible(self) -> list[str]:
         """The steps that can come next."""
         found = []

@@ -66,14 +66,12 @@ def reactions_found(
     dare = None
     if call.dare:
         dare = own_dare_judged(network, program, player.without, player.chosen, call.dare)
-    has_always = "always" in program.file.functions and not player.is_over
-    has_right = "right" in program.file.functions and player.is_ended
+    always, right = verdicts(program, player)
     function, node = player.ran
-    wires = [(v, w, player.words_on(v, w)) for v in network.vertices for w in network.neighbours[v]]
     return ReactionsFound(
         made=player.chosen,
         steps=[] if player.is_over else player.possible(),
-        wires=[row for row in wires if row[2]],
+        wires=player.words_under_way(),
         said=player.said,
         fault=player.fault,
         over=player.is_over,
@@ -83,14 +81,23 @@ def reactions_found(
         dare=dare,
         nodes=[reacted(player, v) for v in network.vertices],
         ended=player.is_ended,
-        always=says(player.refused) if has_always else None,
-        right=says(player.said_by_right()) if has_right else None,
+        always=always,
+        right=right,
         dares=own_dares_of(program),
     )
 
 
-def says(wrong: str) -> FileSays:
-    return FileSays(not wrong, wrong)
+def verdicts(
+    program: Reacting, player: ReactingStepwise
+) -> tuple[FileSays | None, FileSays | None]:
+    """What `always` says of where the run is, and `right` of the end if it is there."""
+    always = right = None
+    if "always" in program.file.functions and not player.is_over:
+        always = FileSays(not player.refused, player.refused)
+    if "right" in program.file.functions and player.is_ended:
+        wrong = player.said_by_right()
+        right = FileSays(not wrong, wrong)
+    return always, right
 
 
 def reacted(player: ReactingStepwise, v: int) -> Reacted:

@@ -231,12 +231,18 @@ def steps(call: StepsCall, session: Session, _tell: Tell) -> StepsFound | Reacti
         reacting = ReactingStepwise(network, program, rules_asked(call, OF_LINKS))
         follow(reacting, call, held)
         return reactions_found(call, network, program, reacting)
-    without = rules_asked(call, OF_SCHEDULES)
-    player = Stepwise(network, program, without)
+    player = Stepwise(network, program, rules_asked(call, OF_SCHEDULES))
     follow(player, call, held)
     if call.in_step:
         player.in_step(*held)
-    wires = [(v, w, player.words_on(v, w)) for v in network.vertices for w in network.neighbours[v]]
+    return pulses_found(call, network, player, program, session)
+
+
+def pulses_found(
+    call: StepsCall, network: Network, player: Stepwise, program: Program, session: Session
+) -> StepsFound:
+    """Where a run under the synchroniser is."""
+    without = tuple(player.without)
     dare = judge_found = None
     if call.dare:
         dare = replace(
@@ -251,7 +257,7 @@ def steps(call: StepsCall, session: Session, _tell: Tell) -> StepsFound | Reacti
         steps=[] if player.is_over else player.possible(),
         last=player.state.nodes[1].last,
         looks=[look_of(player.state, v) for v in network.vertices],
-        wires=[row for row in wires if row[2]],
+        wires=player.words_under_way(),
         said=player.said,
         fault=player.fault,
         over=player.is_over,

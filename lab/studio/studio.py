@@ -44,8 +44,9 @@ if it is taken, one of the next {NEXT_PORTS - 1} is used, and printed. Through `
 to be the same at both ends.
 
 With --own the nodes can run a program of your own, too (docs/learn/OWN_ALGORITHM.md):
-the page names no file, it has the choice between those given here. It is run as it is,
-with your rights.
+the page names no file, it has the choice between those given here. Its text is beside
+the network, and is loaded again when you save the file. It is run as it is, with your
+rights. Nothing is proved of it.
 
 With --links it opens nothing: it judges links that a class hands in, a line each, of the
 tab Adversary with a dare in it, and says which are won. A link that can't be read has a
