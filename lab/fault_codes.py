@@ -325,6 +325,7 @@ class Code(Enum):
     NO_NODE_AS_ROOT = auto()
     NO_SUCH_RULE = auto()
     NO_ROUNDS_HERE = auto()
+    ROUNDS_HERE = auto()
     OTHER_FORM = auto()
     NO_FILE_OF_PROGRAM = auto()
     NO_NODE_OF_FIELD = auto()

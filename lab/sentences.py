@@ -468,6 +468,7 @@ SENTENCES: dict[Code, str] = {
         "{program} has no rounds: its nodes react to each message (its file has a function "
         "`on_{word}`); the tab Adversary plays it"
     ),
+    Code.ROUNDS_HERE: "{program} has rounds: what a node sends at once is asked of files without any",
     Code.OTHER_FORM: (
         "its nodes made rounds when the studio began, and react to messages now, or the other way "
         "round: end the studio and begin it again"

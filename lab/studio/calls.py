@@ -53,6 +53,7 @@ CALLS = {
     "file_text": answered(messages.FileCall, reactions.file_text),
     "predict": answered(messages.PredictCall, predictions.predict),
     "waits": answered(messages.WaitsCall, predictions.waits),
+    "sends": answered(messages.SendsCall, predictions.sends),
     "exercise": answered(messages.ExerciseCall, exercises.exercise_judged),
     "build": answered(messages.BuildCall, building.begin),
     "built": answered(messages.BuiltCall, building.so_far),

@@ -223,6 +223,14 @@ class WaitsCall(AfterSteps, WithoutRules, OfProgram):
 
 
 @dataclass(frozen=True, kw_only=True)
+class SendsCall(AfterSteps, WithoutRules, OfProgram):
+    """Asks whether a node without rounds sends in a step what a student has said: the word, and to whom."""
+
+    step: str
+    said: Word
+
+
+@dataclass(frozen=True, kw_only=True)
 class ExerciseCall(AfterSteps, WithoutRules, OfProgram):
     """Asks whether the exercise of a lesson's step is done: by what a student has said, or by the network, the typed
     plan and the steps of the page."""

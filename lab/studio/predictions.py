@@ -1,6 +1,8 @@
 """Predict, then look: what a node has after a pulse, or what it waits for, as a student says it, beside what the
 definitions find and why."""
+from lab.definitions.events import PUT, Entry, Message
 from lab.definitions.nodes import COLOURING
+from lab.definitions.reacting import Reacting
 from lab.definitions.rounds import Rounds, SEED
 from lab.fault_codes import Code
 from lab.faults import Fault
@@ -8,18 +10,20 @@ from lab.pictures.player_page import SAY
 from lab.pictures.program_rounds import ProgramRounds
 from lab.pictures.watch_page import waits_of
 from lab.pictures.why_picture import Cone, choice_lines
-from lab.schedules.rules import OF_SCHEDULES
+from lab.schedules.reacting_stepwise import ReactingStepwise
+from lab.schedules.rules import OF_LINKS, OF_SCHEDULES
 from lab.schedules.stepwise import Stepwise
 from lab.studio.asked import (
     MOST_ROUNDS,
     MOST_RUN,
+    either_program_asked,
     network_asked,
     program_asked,
     rules_asked,
     vertex_asked,
 )
 from lab.studio.answers import Predicted
-from lab.studio.messages import PredictCall, WaitsCall
+from lab.studio.messages import PredictCall, SendsCall, WaitsCall
 from lab.studio.session import Session
 from lab.studio.telling import Tell
 from lab.words import in_words
@@ -101,9 +105,41 @@ def waits(call: WaitsCall, session: Session, _tell: Tell) -> Predicted:
     player = Stepwise(network, program, rules_asked(call, OF_SCHEDULES))
     player.follow(call.steps.split("_"))
     found, why = waited(player, v)
-    said = sorted(filter(None, map(words, call.said.split(","))))
-    is_right = said == found or not found and said == ["nothing"]
-    return Predicted(is_right, ", ".join(found) or "nothing", why)
+    return Predicted(is_list(call.said, found), ", ".join(found) or "nothing", why)
+
+
+def is_list(said: str, found: list[str]) -> bool:
+    """Whether a student has said all of a list, with commas between; of none it is `nothing`."""
+    parts = sorted(filter(None, map(words, said.split(","))))
+    return parts == found or not found and parts == ["nothing"]
+
+
+def sends(call: SendsCall, session: Session, _tell: Tell) -> Predicted:
+    """Whether it is right what a node without rounds is said to send in a step, as `wave 2, echo 3`."""
+    network = network_asked(call, MOST_RUN)
+    program = either_program_asked(call, network, session)
+    if not isinstance(program, Reacting):
+        raise Fault(Code.ROUNDS_HERE, program=program.name)
+    player = ReactingStepwise(network, program, rules_asked(call, OF_LINKS))
+    player.follow(call.steps.split("_"))
+    before = len(player.made)
+    player.follow([call.step])
+    if len(player.made) == before and not player.is_over:
+        raise Fault(Code.STEP_NOT_POSSIBLE, number=len(player.chosen) + 1, step=call.step)
+    function, _ = player.ran
+    if player.is_over:
+        return Predicted(is_list(call.said, []), "nothing", f"`{function}` fails: {player.fault}.")
+    puts = [entry for entry in player.made[before:] if entry.kind is PUT]
+    sent = in_words([f"`{entry.what}` to {entry.neighbour}" for entry in puts]) or "nothing"
+    found = sorted(set(map(word_and_end, puts)))
+    why = f"`{function}` runs, and sends {sent}."
+    return Predicted(is_list(call.said, found), ", ".join(found) or "nothing", why)
+
+
+def word_and_end(put: Entry) -> str:
+    """The word of a message that is put, and to whom it goes."""
+    word = put.what.word if isinstance(put.what, Message) else ""
+    return f"{word} {put.neighbour}"
 
 
 def waited(player: Stepwise, v: int) -> tuple[list[str], str]:

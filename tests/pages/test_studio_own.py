@@ -184,8 +184,8 @@ class OwnFiles(Page):
     def test_what_makes_no_sense(self) -> None:
         """Without rounds there are no pulses to make in step, no waits to predict and no tab No clock; Rounds says
         why in one line."""
-        self.open(ECHO + "&predict=1&node=2")
-        for name in ("instep", "predicts2box", "handoverbox", "question2"):
+        self.open(ECHO)
+        for name in ("instep", "handoverbox", "question2"):
             self.reads(name, f"document.getElementById('{name}').getClientRects().length", 0)
         rules = "Array.from(document.querySelectorAll('#without input'), one => one.value).join()"
         self.reads("one rule", rules, "fifo")
@@ -195,6 +195,26 @@ class OwnFiles(Page):
             self.go_to(f"example=triangle&program=echo&tab={tab}")
             self.sees(f"{tab} says why", "wrong.textContent.startsWith('echo has no rounds: ')")
             self.reads("without a text", "document.getElementById('code').hidden", True)
+
+    def test_predict(self) -> None:
+        """The question is what a node sends in its next step, and then it is seen."""
+        self.open(ECHO + "&predict=1&node=2")
+        asked = "document.getElementById('question2').textContent"
+        self.sees(
+            "a question", f"{asked}.startsWith('Node 2 takes wave from 1. What does it send then?')"
+        )
+        choices = "Array.from(document.querySelectorAll('#question2 input'), one => one.value).sort().join()"
+        self.sees("its choices", f"{choices} === 'echo 1,echo 3,wave 1,wave 3'")
+        self.value("document.querySelector('#question2 form').requestSubmit()")
+        self.sees("not nothing", f"{asked}.includes('Not yet: it isn’t nothing.')")
+        self.value("document.querySelector('#question2 [value=\"wave 3\"]').click()")
+        self.value("document.querySelector('#question2 form').requestSubmit()")
+        self.sees(
+            "right", f"{asked}.includes('✓ Yes: wave 3.') && {asked}.includes('on_wave runs')"
+        )
+        self.click_on("#question2 .quiet")
+        self.sees("it is seen", "studio.steps.made.join() === '2-1'")
+        self.sees("another question", f"{asked}.startsWith('Node 3 takes wave from 1.')")
 
     def test_keys_and_names(self) -> None:
         """The text is reached by the keyboard and scrolled by it; it has a name, and its numbers aren't read out."""

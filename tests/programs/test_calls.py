@@ -74,6 +74,10 @@ GOOD: list[tuple[str, dict]] = [
     ("predict", RUN | {"vertex": 1, "pulse": 1, "forest": 0, "said": "layer 0"}),
     ("predict", RUN | {"program": "colouring"} | {"vertex": 1, "pulse": 3, "forest": 0, "said": 1}),
     ("waits", RUN | STEPS | {"vertex": 1, "said": "ack 2"}),
+    (
+        "sends",
+        RUN | {"program": "echo", "steps": "2-1", "without": "fifo", "step": "1-2", "said": "x"},
+    ),
     # An answer that is said, a typed plan, and steps that are taken.
     ("exercise", {"network": "", "lesson": 1, "step": 1, "said": "4"}),
     ("exercise", {"network": EDGE, "lesson": 1, "step": 2, "plan": [1, 2]}),

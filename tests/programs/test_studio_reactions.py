@@ -107,6 +107,7 @@ class Machine:
         program = any_program_at(file)
         assert isinstance(program, Reacting)
         self.net, self.program, self.rules = network_of(text.encode()), program, rules
+        self.text = text
 
     def state(self, steps: list[str]) -> NetState[ReactingNode]:
         state = self.program.start(self.net)
@@ -202,6 +203,30 @@ class States(FilesCase):
                 self.same(f"{at}: node {v}, me.{name}", said, kept[name])
         self.file_says(at, machine, state, found)
         self.ran(at, machine, steps, found)
+        for step in possible:
+            self.sends(at, machine, steps, step)
+
+    def sends(self, at: str, machine: Machine, steps: list[str], step: str) -> None:
+        """The answer to the question what a node sends in a step: what its links hold then and didn't hold before."""
+        before, after = machine.state(steps), machine.state([*steps, step])
+        v = int(step.split("-", maxsplit=1)[0])
+        sent = set()
+        for port, w in enumerate(after.neighbours[v]):
+            new = after.link[v, port][len(before.link[v, port]) :]
+            sent |= {f"{message.word} {w}" for message in new}
+        asked = {
+            "network": machine.text,
+            "program": machine.program.name,
+            "without": machine.rules,
+            "steps": "_".join(steps),
+            "step": step,
+        }
+        said = ", ".join(sorted(sent, reverse=True)) or "nothing"
+        session = session_of(machine.program.file.path)
+        found = answer(session, "sends", **asked, said=said)
+        self.note(f"{at}, then {step}: {said}", found["right"], found)
+        wrong = answer(session, "sends", **asked, said=f"{said}, x 1")
+        self.same(f"{at}, then {step}: more", wrong["right"], False)
 
     def file_says(
         self, at: str, machine: Machine, state: NetState[ReactingNode], found: dict
@@ -315,6 +340,24 @@ class OwnFiles(FilesCase):
         self.same("no verdict", (found["right"], found["always"]), (None, None))
         self.same("found before", found["nodes"][0]["found"], "first None")
         self.same("the function", found["ran"], {"function": "on_hi", "node": 1})
+
+    def test_what_is_sent(self) -> None:
+        """A question is of a step that is possible, and the answer names the function."""
+        session = session_of(
+            self.file("fails.py", FAILS), sample("echo"), sample("independent_set")
+        )
+        asked = {"network": TRIANGLE, "program": "echo", "said": "wave 3"}
+        found = answer(session, "sends", **asked, step="2-1")
+        self.same("right", (found["right"], found["found"]), (True, "wave 3"))
+        self.same("why", found["why"], "`on_wave` runs, and sends `wave` to 3.")
+        for step in ("", "1", "1-2", "x"):
+            said = self.refused(session, "sends", **asked, step=step)
+            self.note(repr(step), "isn't possible there" in said, said)
+        said = self.refused(session, "sends", **asked | {"program": "independent_set"}, step="1-2")
+        self.note("of rounds", said.startswith("independent_set has rounds"), said)
+        failed = {"network": ROW, "program": "fails", "said": "nothing", "step": "1-3"}
+        found = answer(session, "sends", **failed)
+        self.note("what fails", found["right"] and "`on_hi` fails: " in found["why"], found)
 
     def test_list(self) -> None:
         """The list of events is one that is played again, and `act` is its word."""

@@ -407,6 +407,11 @@ interface WaitsCall extends AfterSteps, WithoutRules, OfProgram {
   said: number | string;
 }
 
+interface SendsCall extends AfterSteps, WithoutRules, OfProgram {
+  step: string;
+  said: number | string;
+}
+
 interface ExerciseCall extends AfterSteps, WithoutRules, OfProgram {
   lesson: number;
   step: number;
@@ -441,6 +446,7 @@ interface Asks {
   file_text: FileCall;
   predict: PredictCall;
   waits: WaitsCall;
+  sends: SendsCall;
   exercise: ExerciseCall;
   build: BuildCall;
   built: BuiltCall;
@@ -468,6 +474,7 @@ interface Answers {
   file_text: FileText;
   predict: Predicted;
   waits: Predicted;
+  sends: Predicted;
   exercise: ExerciseJudged;
   build: Build;
   built: Build;

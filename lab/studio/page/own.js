@@ -20,6 +20,10 @@ let changed = () => 0;
 // Whether the nodes run a file; and whether they react to messages, without rounds.
 export function isOwn() { return seen.hello !== null && Object.hasOwn(seen.hello.own, seen.program); }
 export function reacts() { return isOwn() && hello().own[seen.program] === "reactions"; }
+// The words of messages for which the file has functions.
+export function wordsOfFile() {
+  return Object.keys(file.lines).filter(name => name.startsWith("on_")).map(name => name.slice(3));
+}
 // `does` is called when the file is another one than before.
 /** @param {() => unknown} does */
 export function watchFile(does) {

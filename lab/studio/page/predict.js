@@ -31,11 +31,12 @@ export class Question {
     if (is.call) place.append(this.form(is), html("div", null, {role: "status"}));
   }
   // Of an answer that is a list its parts are ticked.
-  /** @param {OfRounds | OfWaits} is */
+  /** @param {OfRounds | OfWaits | OfSends} is */
   form(is) {
     const form = html("form", null, {class: "row chips"}), said = html("input", null, {size: 14, "aria-label": "your answer"});
     const boxes = (is.choices || []).map(choice => html("input", null, {type: "checkbox", value: choice}));
-    form.append(...boxes.length ? boxes.map(labelled) : [said], html("button", "is it so?"), ...(is.picks || []).map(pick => {
+    const between = is.call === "sends" ? "to" : "of";
+    form.append(...boxes.length ? boxes.map(box => labelled(box, between)) : [said], html("button", "is it so?"), ...(is.picks || []).map(pick => {
       const button = html("button", pick, {type: "button"});
       button.onclick = () => this.judge(is, pick);
       return button;
@@ -55,7 +56,7 @@ export class Question {
     place.className = "verdict " + kind;
     place.replaceChildren(...parts);
   }
-  /** @param {OfRounds | OfWaits} is @param {string} said */
+  /** @param {OfRounds | OfWaits | OfSends} is @param {string} said */
   judge(is, said) {
     /** @param {Predicted} answer */
     const told = ({right, found, why}) => {
@@ -64,7 +65,7 @@ export class Question {
         score.asked++;
         if (right) score.right++;
       }
-      if (right) hooks.answered(is.asked);
+      if (right && is.call !== "sends") hooks.answered(is.asked);
       const reason = html("span", null, {class: "soft"}), next = html("button", "look, and the next question",
         {type: "button", class: "quiet"});
       reason.append(...coded(why + " "));
@@ -76,18 +77,19 @@ export class Question {
       this.say(right ? "good" : "bad", [verdict, reason, html("span", `${score.right} of ${score.asked} at the first try. `),
         next]);
     };
+    if (is.call === "sends") return asks("sends", {...is.asked, said}, "looking for the answer", told);
     return is.call === "waits" ? asks("waits", {...is.asked, said}, "looking for the answer", told)
       : asks("predict", {...is.asked, said}, "looking for the answer", told);
   }
 }
-/** @param {HTMLInputElement} box */
-function labelled(box) {
+/** @param {HTMLInputElement} box @param {string} between */
+function labelled(box, between) {
   const label = html("label", null, {class: "tick"}), [word, of] = box.value.split(" ");
-  label.append(box, ` ${word} of ${of}`);
+  label.append(box, ` ${word} ${between} ${of}`);
   return label;
 }
 // What is said of a first answer that isn't right: the numbers of which it is made, below each other.
-/** @param {OfRounds | OfWaits} is @param {string} said @param {string | HTMLElement} reason */
+/** @param {OfRounds | OfWaits | OfSends} is @param {string} said @param {string | HTMLElement} reason */
 function notYet({compared = []}, said, reason) {
   const wide = Math.max(0, ...compared.map(([who]) => who.length));
   const digits = compared.map(([, number]) => BigInt(number).toString(2));

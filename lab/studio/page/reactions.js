@@ -3,6 +3,8 @@
 import {HUES} from "./hues.js";
 import {count} from "./base.js";
 import {html, mark, resultWords, sentence, words} from "./marks.js";
+import {neighbours} from "./model.js";
+import {wordsOfFile} from "./own.js";
 
 // Each word of messages has a hue, in the order in which they are first seen.
 /** @type {Map<string, string>} */
@@ -37,6 +39,16 @@ export function reactedWords(is, isBrief = false) {
 export function keptLine(is) {
   const said = is.keeps.map(([name, value]) => `me.${name} = ${value}`).join("; ");
   return html("div", said || "It keeps nothing in me.", {class: "kept"});
+}
+// Of a node at which something can happen, and else of the first one: what does it send then?
+/** @param {ReactionsFound} is @param {number | null} node @param {Omit<SendsCall, "said" | "step">} asked @returns {Asked} */
+export function sendsQuestion(is, node, asked) {
+  const step = is.steps.find(one => parseInt(one, 10) === node) || is.steps[0], kinds = wordsOfFile();
+  if (!step || !kinds.length) return {words: step ? "The file is being read." : "Nothing can happen any more."};
+  const [v, w] = step.split("-").map(Number), link = is.wires.find(one => one[0] === w && one[1] === v);
+  const does = link ? `takes ${link[2][0]} from ${w}` : "acts";
+  const choices = neighbours(v).flatMap(to => kinds.map(kind => `${kind} ${to}`));
+  return {words: `Node ${v} ${does}. What does it send then? Tick it, or nothing.`, call: "sends", choices, asked: {...asked, step}};
 }
 // What the file says of where the run is, and why nothing goes on.
 /** @param {ReactionsFound} is @param {boolean} isHeld */

@@ -6,22 +6,27 @@ import {html, sentence} from "./marks.js";
 import {neighbours, net, text} from "./model.js";
 import {enterFile, markRan, reacts} from "./own.js";
 import {Question} from "./predict.js";
-import {MESSAGES, fileSays, hueOf, keptLine, reactedMarks, reactedWords} from "./reactions.js";
+import {MESSAGES, fileSays, hueOf, keptLine, reactedMarks, reactedWords, sendsQuestion} from "./reactions.js";
 import {alphaMarks, foundWords, heldEdge, lookWords, queueMarks, waitsWords} from "./run.js";
 import {nameOf} from "./stage.js";
 
 // `made` are the steps so far, as `3` (node 3 makes its next pulse) or `2-1` (node 2 takes the next wire from node 1).
 /** @type {Steps} */
 export const steps = {made: [], found: null, without: "", predicts: false, dare: ""};
-const question = new Question("question2", () => {
+/** @returns {Asked | null} */
+function questionHere() {
   const {node} = seen, {without, made, found} = steps, program = programNamed();
-  if (!steps.predicts || found && found.nodes) return null;
+  if (!steps.predicts) return null;
+  if (found && found.nodes) return sendsQuestion(found, node, {network: text(), program, without, steps: made.join("_")});
   if (!node || !found) return {words: "Click a node that can’t make its pulse: what does it wait for?"};
   const look = found.looks[node - 1], kinds = look && look.pulse < found.last ? ["ack", "safe"] : ["close"];
   const choices = neighbours(node).flatMap(w => kinds.map(kind => `${kind} ${w}`));
   return {words: `What does node ${node} wait for? Tick it, or nothing.`, call: "waits", choices,
     asked: {network: text(), program, without, steps: made.join("_"), vertex: node}};
-}, () => {
+}
+const question = new Question("question2", questionHere, () => {
+  const is = questionHere();
+  if (is && is.call === "sends") return from(steps.made.concat(is.asked.step));
   // One step more, and another node.
   seen.node = (seen.node || 0) % net.nodes.length + 1;
   goOn({by: 1, seed: seed()});
@@ -291,12 +296,12 @@ tabs.adversary = {
     by("predicts2").checked = predict;
   },
 };
-// What nodes without rounds have no use for is hidden: pulses in step, waits, and the tab No clock. What isn't a rule or
+// What nodes without rounds have no use for is hidden: pulses in step, and the tab No clock. What isn't a rule or
 // a dare of the program is chosen no more.
 /** @param {Rules} rules */
 function leaveWhatIsOfOthers(rules) {
   const isWithoutRounds = reacts();
-  [by("instep"), by("instepsaid"), by("predicts2box"), by("handoverbox")].forEach(one => { one.hidden = isWithoutRounds; });
+  [by("instep"), by("instepsaid"), by("handoverbox")].forEach(one => { one.hidden = isWithoutRounds; });
   by("listfor").textContent = isWithoutRounds ? `forestlab simulate --program ${seen.program}.py --events` : "forestplay events";
   all(".noown").forEach(one => { one.hidden = Object.keys(hello().own).length > 0; });
   steps.without = rulesOf(rules, steps.without);

@@ -96,7 +96,16 @@ interface OfWaits {
   compared?: undefined;
   tells?: undefined;
 }
-type Asked = Hint | OfRounds | OfWaits;
+interface OfSends {
+  words: string;
+  call: "sends";
+  asked: Omit<SendsCall, "said">;
+  choices: string[];
+  picks?: undefined;
+  compared?: undefined;
+  tells?: undefined;
+}
+type Asked = Hint | OfRounds | OfWaits | OfSends;
 
 // The rules that can be left out, by their names.
 type Rules = Record<string, RuleSaid>;
