@@ -5,6 +5,7 @@ import os
 import sys
 
 MODULES = {
+    "command-table": "command_table",
     "completion": "completion",
     "crate-tables": "crate_tables",
     "help-texts": "help_texts",

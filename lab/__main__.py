@@ -18,15 +18,24 @@ READERS = {
             "lab.pictures.picture",
             "draws plans, rounds and runs, and makes pages that play them",
         ),
-        "network": ("lab.networks.network", "makes networks, reads other forms, says what one is"),
-        "channels": ("lab.networks.channels", "replaces a plan's channels by real ones"),
+        "network": (
+            "lab.networks.network",
+            "makes networks, reads yours from other forms, and describes them",
+        ),
+        "channels": (
+            "lab.networks.channels",
+            "turns the channels 1, 2, 3 of a plan into your real ones",
+        ),
     },
     "To run": {
         "simulate": (
             "lab.schedules.simulate",
             "makes a run without a clock, by a seed or a list of events",
         ),
-        "explore": ("lab.schedules.explore", "plays every order of events of up to four nodes"),
+        "explore": (
+            "lab.schedules.explore",
+            "plays every order of events, on networks of up to four nodes",
+        ),
     },
     "To judge": {
         "transcript": ("lab.transcripts.transcript", "checks, replays and converts transcripts")

@@ -24,8 +24,8 @@ standard input, and written with the other numbers. So `forestplan check` can ju
 of real numbers, whoever made it.
 
 With --back without TABLE, channel 1 is the lowest number that the plan has, channel 2
-the next, and so on; which is which is said on standard error. Take that only for a
-network without barred channels, which are given by number.
+the next, and so on; standard error says which is which. Use this only for a
+network without barred channels, because bars are given by number.
 
 With --run the text is what `forestplay ends` or `run` writes of a program whose nodes
 find channels, `colouring` or `recolouring`: it is read as the plan that it has. Without
@@ -33,7 +33,7 @@ TABLE that plan is written as it is.
 """
 
 MORE_HELP = """\
-Status: 0 done, 1 the text is no plan, or has a channel that the table hasn't, 2 the
+Status: 0 done, 1 the text is no plan, or has a channel that isn't in the table, 2 the
 command line is refused.
 
 Examples:

@@ -19,7 +19,7 @@ Makes networks, reads them in other forms, and says what they are.
 MORE_HELP = """\
 A network is written in the DIMACS format on standard output, with places and names
 of its nodes in comment lines: `c at V X Y` and `c name V NAME`. FILE may be - for
-standard input. Nothing is guessed; what isn't read is said on standard error.
+standard input. Nothing is guessed; standard error names what isn't read.
 This is Python: tested, not proved. So compare the counts that it reports.
 
 Status: 0 done, 1 the file can't be read as a network, 2 the command line is refused.
@@ -40,20 +40,21 @@ COMMANDS = {
   graphml gexf gml json    .graphml .gexf .gml .json    by networkx
   graph6 sparse6           .g6 .s6                      by networkx
 The file's ending says the form, or --as; standard input is DIMACS unless --as is there.
-What isn't as its form has it is refused with its line. What isn't read of it, as columns,
-keys and directions, is said.
+A line that doesn't fit the form is refused, with its number. Standard error names what
+isn't read, such as columns, keys and directions.
 
-The columns of tables, by their titles in small letters; commas, semicolons or tabs are
-between:
+Tables have these columns, here by their titles in small letters. Commas, semicolons or
+tabs separate them:
   pairs       source (from) and target (to)
   sites       site (name, id); if there are any, lat (latitude) and lon (lng, longitude)
               in degrees, or x_km and y_km, or x_m (easting) and y_m (northing); identifier
   bars        site and channel
   channels    channel
-Of places the first two columns of this list that are there count. --columns says which
-columns are meant if they are called otherwise. With --no-heading they are the first ones,
-in the order of this list, or those whose numbers --columns has. Nodes of a form of networkx
-are named by their label, if each has one of its own, or by their name, or by their id.
+If a table has several kinds of places, the first kind in this list counts. --columns says
+which columns are meant if they have other titles. With --no-heading they are the first
+columns, in the order of this list, or the columns whose numbers --columns gives. In the
+forms that networkx reads, nodes are named by their label, if each has a label of its own,
+or by their name, or by their id.
 
 With a table of sites the nodes are its sites, in its order, and each end of a pair has to
 be one of them.
@@ -61,7 +62,7 @@ be one of them.
 A network of 1,000 nodes or more is numbered again by breadth first search, from a node with
 the fewest neighbours, so that a run takes less time. Lines `i V NUMBER` keep identifiers:
 each node has the same channel. What the programs write has the new numbers, and `names`
-puts names in their place. --keep-order leaves the numbers, for plans that have them.""",
+replaces them by names. --keep-order leaves the numbers, for plans that have them.""",
         "forestlab network read pairs.csv --sites sites.csv > sites.col\n"
         "  forestlab network read --sites sites.csv --reach 5.5 --bars bars.csv > sites.col",
     ),
@@ -71,8 +72,9 @@ puts names in their place. --keep-order leaves the numbers, for plans that have 
         """\
 A node keeps its name; one without a name gets its old number as name. Identifiers and
 barred channels of lines `i` and `b` go with their nodes. The forests depend on the
-identifiers, and so does the plan. Of 1,000 nodes or more these are the random numbers,
-and the nodes are numbered once more, as by `read`; --keep-order leaves that out.""",
+identifiers, and so does the plan. In a network of 1,000 nodes or more the random numbers
+are the identifiers of the nodes without a line `i`, and the nodes are numbered once more,
+as by `read`; --keep-order leaves that out.""",
         "forestlab network number examples/petersen.col --seed 2 | forestplan forests",
     ),
     "tell": (
@@ -86,9 +88,9 @@ and the nodes are numbered once more, as by `read`; --keep-order leaves that out
   wires       what all links of such a run carry: the payloads, as many
               acknowledgements, a safe of each pulse and a closing mark
   transcript  how many lines `transcript` prints of it
-  time        about how much processor time `plan` and `transcript` take, by the wires
-              alone: the machine and nodes with few edges can double it. `plain` prints
-              the same plan as `plan`.
+  time        about how much processor time `plan` and `transcript` take. Only the wires
+              are reckoned with: the machine, and nodes with few edges, can double it.
+              `plain` prints the same plan as `plan`.
 
 If FILE is a code that the programs report, and no file, it says what the fault is and
 what to do. The words after the code may follow: C8 vertex 1.""",
@@ -195,7 +197,7 @@ def add_sizes(command: ArgumentParser, kind: NetworkKind) -> None:
 
 
 def add_file(command: ArgumentParser, name: str) -> None:
-    said = "a file, - for standard input, or a name, as path5"
+    said = "a file, - for standard input, or a name, such as path5"
     if name in FILES:
         command.add_argument("file", metavar="FILE", nargs=FILES[name], help=said)
     else:

@@ -45,7 +45,9 @@ def add_stated(command: argparse.ArgumentParser) -> None:
         help="tables have no heading; --columns then has numbers, as source=2,target=3",
     )
     command.add_argument(
-        "--encoding", metavar="NAME", help="that of all files, as cp1252; default: UTF-8"
+        "--encoding",
+        metavar="NAME",
+        help="the encoding of all files, such as cp1252; default: UTF-8",
     )
     command.set_defaults(form=None, refuse=command.error)
 

@@ -306,15 +306,16 @@ HELP = (
 
 MORE_HELP = """\
 NETWORK is a file in the DIMACS format, - for standard input, as in
-`forestlab picture plan - < net.col > net.svg`, or a name, as petersen or path5. Comment
-lines `c at V X Y` place its vertices, y growing downwards; they count if each vertex has one. Else up to six
-are on a circle, and more are laid out by their edges. Vertices that would overlap
-are drawn smaller, and those still too near are pushed apart. Comment lines
-`c name V NAME` name them, in plan, player and run.
+`forestlab picture plan - < net.col > net.svg`, or a name, such as petersen or path5.
+Comment lines `c at V X Y` place its vertices, y growing downwards; they count if
+each vertex has one. Otherwise up to six vertices are on a circle, and more are laid out
+by their edges. Vertices that would overlap are drawn smaller, and vertices that are still
+too near are pushed apart. Comment lines `c name V NAME` name them, in plan, player and
+run.
 
-Without a stored text, run and watch draw what the built program writes, and plan,
-too, if it is built. All else is worked out by the definitions in
-Python, which are tested and not proved.
+Without a stored text, run and watch draw what the built program writes, and so does plan
+if the program is built. Everything else is worked out by the definitions in Python, which
+are tested and not proved.
 
 Status: 0 done, 1 not drawn (one line on standard error says why), 2 the command
 line is refused; if a program refuses, its own line and status.
@@ -406,7 +407,7 @@ def command_line() -> Parser:
         kind = add_command(
             kinds, f"picture {name}", usage, does.does, most + does.more, does.example
         )
-        said = "a file, - for standard input, or a name, as petersen or path5"
+        said = "a file, - for standard input, or a name, such as petersen or path5"
         if name == "broken":
             kind.add_argument("network", metavar="NETWORK", nargs="?", help=said)
         else:

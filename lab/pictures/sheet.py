@@ -262,7 +262,7 @@ def command_line() -> Parser:
         choices=LESSONS,
         action="append",
         metavar="N",
-        help="the questions of this lesson alone; may be given again",
+        help="only the questions of this lesson; may be given again",
     )
     words.add_argument("--answers", action="store_true", help="with the answers")
     add_output(words)

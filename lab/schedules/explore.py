@@ -41,17 +41,16 @@ REDUCED = "reduced: a safe or close is taken at once, so schedules, pulses apart
 
 HELP = f"""\
 Plays every schedule of a network of up to {MOST_NODES} nodes: all lists of events that
-the synchroniser and its links allow, a put being made as soon as it can be. In
-every state it checks that each pulse had the round's inbox, and that something is
+the synchroniser and its links allow, in which each put is made as soon as it can be.
+In every state it checks that each pulse had the round's inbox, and that something is
 possible unless all nodes are at the end and all links are empty.
 
-Of a file of your own whose `right` says that the rounds already end wrong, it writes
-these rounds, pulse by pulse, and of a larger network how the rounds end. With
---networks it plays the rounds on random networks, and writes a smallest one on
-which they end wrong.
+If `right` of a file of your own says that even the rounds end wrong, it writes these
+rounds pulse by pulse, or for a larger network how the rounds end. With --networks it
+plays the rounds on random networks, and writes a smallest one on which they end wrong.
 
 A file with a function `on_WORD` has nodes that react to each message, without rounds
-and without a synchroniser. Of such a file it plays every schedule of any network that
+and without a synchroniser. It plays every schedule of such a file, on any network that
 has few enough states. It writes how many messages a schedule has, at least and at most,
 what the nodes have found at each end, whether some schedules never end, and a shortest
 list of events after which `right` or `always` isn't true, or a function of the file
@@ -134,12 +133,13 @@ def command_line() -> ArgumentParser:
     words.add_argument(
         "--list",
         action="store_true",
-        help="write one list of events alone, as `forestplay events` reads it",
+        help="write only one list of events, as `forestplay events` reads it",
     )
     words.add_argument(
         "--reduce",
         action="store_true",
-        help="take a safe or a close that comes next on its link at once and alone: far fewer states",
+        help="if a safe or a close comes next on its link, take it at once, and try nothing else: "
+        "far fewer states",
     )
     words.add_argument("--json", action="store_true", help="write what was found for a program")
     words.add_argument(
@@ -149,7 +149,7 @@ def command_line() -> ArgumentParser:
         help="play the rounds of a file on N random networks, and ask its `right`",
     )
     words.add_argument(
-        "--connected", action="store_true", help="of --networks, connected networks alone"
+        "--connected", action="store_true", help="with --networks: only connected networks"
     )
     words.add_argument(
         "--runs",

@@ -47,7 +47,7 @@ OF_LINKS = {
 OF_FORESTS = {
     "digit": Rule(
         "a bit step is the place and the node's own digit there",
-        "it is the place alone",
+        "it is only the place",
         "cole_vishkin",
         "bit_step_leaves_the_digit_out",
     ),
@@ -79,13 +79,13 @@ OF_FORESTS = {
 OF_MERGING = {
     "pair": Rule(
         "nodes choose in the order of pairs: colour in the forest, old colour",
-        "the order is by the colour in the forest alone",
+        "the order is only by the colour in the forest",
         "colour_rules",
         "chooses_by_the_colour_in_the_forest_alone",
     ),
     "earlier": Rule(
         "a node tells its choice to its neighbours in this forest and in earlier ones",
-        "to those in this forest alone",
+        "only to those in this forest",
         "colour_rules",
         "is_merged_takes_the_merged_forest_alone",
     ),

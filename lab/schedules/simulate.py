@@ -53,15 +53,16 @@ The transcript is of edition 2, as `forestplan transcript` writes it, or of anot
 program of edition 3, which names it, so that `forestlab transcript`, `forestlab
 picture` and `forestplay replay` read it. Of a file whose nodes react to messages,
 without rounds, it is of edition 4, with `act` instead of `pulse`. NETWORK is a file
-in the DIMACS format, - for standard input, or a name, as petersen or path5. 4,500 entries
-(petersen) take half a second, and half a million one to several minutes.
+in the DIMACS format, - for standard input, or a name, such as petersen or path5. 4,500
+entries (petersen) take half a second, and half a million one to several minutes.
 
 This is Python over slow definitions: tested, and not proved. `forestplay replay`, which
-is, accepts what it writes of its three programs, if it is given the same --program.
+is proved, accepts such a transcript of each of its six programs, if it is given the
+same --program, --root and --passes.
 
 Status: 0 done, 1 the network or the list can't be read, an event isn't possible, the
-network hasn't the slow edge, or the `right` of a file of your own says that the end isn't
-right (one line on standard error says why), 2 the command line is refused.
+network doesn't have the slow edge, or the `right` of a file of your own says that the
+end isn't right (one line on standard error says why), 2 the command line is refused.
 
 Examples:
   forestlab simulate examples/chain6.col --slow 2-3 --seed 7 > slow.transcript
@@ -260,7 +261,7 @@ def command_line() -> ArgumentParser:
     words.add_argument(
         "network",
         metavar="NETWORK",
-        help="a file, - for standard input, or a name, as petersen or path5",
+        help="a file, - for standard input, or a name, such as petersen or path5",
     )
     add_seed(words)
     words.add_argument(

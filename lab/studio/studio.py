@@ -29,7 +29,7 @@ HELP = """\
 Opens a page in the browser on which you draw a network and everything of it moves: its
 plan, its rounds, runs without a clock, and what goes wrong without a rule.
 
-The page comes from this command, which answers this machine alone and needs no other.
+The page comes from this command, which answers only this machine and needs no other.
 Ctrl-C ends it, and all that it has started. If the proved programs aren't built yet, it
 begins at once with Python's definitions, says so on the page, and has a button there
 that proves and builds them. Only this button needs the Rattle kit.
@@ -72,7 +72,7 @@ def command_line() -> Parser:
     words.add_argument(
         "--links",
         metavar="FILE",
-        help="judge the links of a class, a dare a line, and end; - for standard input",
+        help="judge the links of a class, one dare on each line, and end; - for standard input",
     )
     words.add_argument("--no-browser", action="store_true", help="only print the address")
     words.add_argument(

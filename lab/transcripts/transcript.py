@@ -88,13 +88,13 @@ and what is wrong there, as
         """\
 A transcript of edition 1 lists all entries of node 1, then all of node 2, and so on.
 They can't have happened in this order, so `forestplay replay` refuses it (LinkEmpty).
-One of edition 2, which `forestplan transcript` writes without `--edition 1`, or 3, of
-another program, has an order, and `forestplay replay` takes it. This command looks for an
-order that is a run, and gives the network and the entries in that order to `forestplay
-replay`.
+A transcript of edition 2, which `forestplan transcript` writes without `--edition 1`, or
+of edition 3, of another program, has an order, and `forestplay replay` takes it. This
+command looks for an order that is a run, and gives the network and the entries in that
+order to `forestplay replay`.
 
 It prints the state that the entries lead to, as `forestplay replay --help` says.
-Of a transcript that isn't right it prints what `forestlab transcript check` says.""",
+If the transcript isn't right, it prints what `forestlab transcript check` says.""",
         "forestlab transcript replay examples/chain6.col examples/chain6_slow.transcript",
     ),
     "convert": (
@@ -108,8 +108,8 @@ Of a transcript that isn't right it prints what `forestlab transcript check` say
   shiviz: a log for ShiViz (bestchai.bitbucket.io/shiviz), with vector clocks
   rounds: edition 4, of nodes that run a synchroniser themselves, as a run of the rounds
           of a proved program, which --program names: each `act` becomes a `pulse`. So
-          `forestplay replay` judges a synchroniser in a file, run by run. It shows of
-          that run alone that it is one of synchroniser alpha and of that program
+          `forestplay replay` judges a synchroniser in a file, run by run. It shows only
+          of this run that it is one of synchroniser alpha and of that program
 
 Only a take without a put before it and lines that no transcript has are refused:
 forestlab transcript check judges a run.
@@ -143,7 +143,7 @@ def command_line() -> ArgumentParser:
             command.add_argument(
                 "network",
                 metavar="NETWORK",
-                help="a file that `forestplan` reads without a fault, or a name, as petersen or path5",
+                help="a file that `forestplan` reads without a fault, or a name, such as petersen or path5",
             )
             add_program(command)
         command.add_argument(

@@ -34,16 +34,16 @@ words name files of the folder itself, without `/`, `@` and `..`.
 
 rounds has {POINTS['rounds']} points times the share of its {RUNS['rounds']} runs that are right,
 rounded down; alpha {EACH} for each of the {len(POLICIES)} policies of which all {RUNS_EACH} runs
-are right; open {POINTS['open']} if all its {RUNS['open']} plans are right. What wasn't answered in time,
-or has no result, is played once more, alone, and the better of both counts; these
-second plays share {AGAIN} times the seconds of --seconds.
+are right; open {POINTS['open']} if all its {RUNS['open']} plans are right. A part that wasn't answered in time,
+or has no result, is played once more, by itself, and the better result counts. All
+these repeated parts together have {AGAIN} times the seconds of --seconds.
 
 Each node runs in a container of its own, which bubblewrap makes (`apt install
 bubblewrap`): it reads the system's programs and libraries, what is on your PATH, what
 --show names, and the submission. Nothing else of the disk is there, and nothing of other
-processes or the network. It begins in /tmp, where links lead to its files, and writes
-there and in /dev/shm alone, at most 256 and 16 megabytes, which count as its memory. As
-root each submission is another user.
+processes or the network. It begins in /tmp, where links lead to its files. It can write
+only there and in /dev/shm, at most 256 and 16 megabytes, which count as its memory. If
+you are root, each submission runs as a user of its own.
 """
 MORE_HELP = """\
 After `--` come words that are put before each command, as those of a container, in which

@@ -77,7 +77,7 @@ def command_line() -> argparse.ArgumentParser:
         metavar="LIST",
         help=f"of alpha, with commas: {', '.join(POLICIES)}; default: all, in turn",
     )
-    words.add_argument("--case", type=int, metavar="K", help="run number K of these alone")
+    words.add_argument("--case", type=int, metavar="K", help="play only run number K of these")
     words.add_argument(
         "--first", action="store_true", help="end with the first run that isn't right"
     )

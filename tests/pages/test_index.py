@@ -6,7 +6,7 @@ import glob
 import os
 import re
 
-from build import crate_tables
+from build import command_table, crate_tables
 from build.crate_lists import PROGRAMS, listed, with_below
 from lab.__main__ import COMMANDS as OF_LAB
 from tests import TOP
@@ -155,6 +155,11 @@ class Index(FilesCase):
                 for crate in ("sync_rounds", "node_pool", "silent")
             ],
         )
+
+    def test_command_table(self):
+        """README has the table that `python3 build command-table` writes."""
+        page = text_in("README.md")
+        self.same("README as the help texts have it", page, command_table.written(page))
 
     def test_readme_has_each_command(self):
         """Each command of forestlab and of the programs is in the table."""
