@@ -343,13 +343,15 @@ class OwnFiles(FilesCase):
 
     def test_what_is_sent(self) -> None:
         """A question is of a step that is possible, and the answer names the function."""
-        session = session_of(
-            self.file("fails.py", FAILS), sample("echo"), sample("independent_set")
-        )
+        samples = map(sample, ("echo", "exclusion", "independent_set"))
+        session = session_of(self.file("fails.py", FAILS), *samples)
         asked = {"network": TRIANGLE, "program": "echo", "said": "wave 3"}
         found = answer(session, "sends", **asked, step="2-1")
         self.same("right", (found["right"], found["found"]), (True, "wave 3"))
         self.same("why", found["why"], "`on_wave` runs, and sends `wave` to 3.")
+        act = asked | {"program": "exclusion", "step": "1", "said": "ask 3, ask 2"}
+        found = answer(session, "sends", **act)
+        self.same("two", (found["right"], found["found"]), (True, "ask 2, ask 3"))
         for step in ("", "1", "1-2", "x"):
             said = self.refused(session, "sends", **asked, step=step)
             self.note(repr(step), "isn't possible there" in said, said)
