@@ -597,7 +597,8 @@ LECTURE = (
         "0 to 4",
         "ten transmitters",
         "example=petersen&tab=draw",
-        "who chooses first? Part two nodes by two clicks, join two others, drag one.",
+        "who chooses first? Click two joined nodes to part them, click two others to join them, and "
+        "drag a node.",
     ),
     LecturePlace(
         "4 to 6",
