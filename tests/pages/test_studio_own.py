@@ -25,8 +25,15 @@ class OwnFiles(Page):
         files = ("echo", "alpha", "exclusion", "independent_set")
         for name in files:
             shutil.copy(os.path.join(ALGORITHMS, f"{name}.py"), cls.folder)
+        # The echo, without what it says of states and ends.
+        with open(os.path.join(cls.folder, "echo.py"), encoding="utf-8") as echo:
+            bare = echo.read().partition("\n\ndef right(")[0]
+        with open(os.path.join(cls.folder, "bare.py"), "w", encoding="utf-8") as file:
+            file.write(bare + "\n")
         cls.words = tuple(
-            word for name in files for word in ("--own", os.path.join(cls.folder, f"{name}.py"))
+            word
+            for name in (*files, "bare")
+            for word in ("--own", os.path.join(cls.folder, f"{name}.py"))
         )
         super().setUpClass()
 
@@ -92,13 +99,12 @@ class OwnFiles(Page):
         self.value("document.getElementById('chance20').click()")
         self.sees("it is won", "dared.textContent.startsWith('☑')")
         self.reads("and looks like it", "dared.className", "card won")
-        self.go_to("example=two&program=alpha&tab=adversary")
-        self.sees(
-            "alpha",
-            "studio.steps.found && studio.steps.found.nodes && studio.steps.found.nodes.length === 2",
-        )
-        has = [one for one in ("always", "right") if f"def {one}(" in self.text("alpha")]
-        self.reads("its functions' dares", names, ["", *has, "other"])
+        self.go_to("example=two&program=bare&tab=adversary")
+        self.sees("without functions", f"{names}.join() === ',other'")
+        self.value("document.getElementById('chance20').click()")
+        self.sees("an end", "studio.steps.found.ended")
+        said = self.page.text("stepsaid")
+        self.note("of which nothing is said", "The file has no right, so" in said, said)
         self.go_to("example=two&tab=adversary")
         self.sees("the synchroniser", "studio.steps.found && studio.steps.found.looks")
         self.reads("its own dares", names, ["", "apart", "ends", "wrong", "results"])

@@ -30,7 +30,7 @@ const KINDS = {
   lit: [() => [mark("circle", {cx: X, cy: Y, r: R + 1, fill: "var(--chosen)", stroke: "var(--glow)", "stroke-width": 1.5})], "it has just chosen"],
   pulse: [() => node("var(--paper)", "var(--ink)"), "a node, with its pulse"],
   reacting: [() => node("var(--paper)", "var(--ink)"), "a node, with how often it has acted; below it is its result so far"],
-  message: [() => [mark("rect", {x: 2, y: 3, width: WIDE - 4, height: HIGH - 6, rx: 6, fill: "var(--paper)", stroke: WIRES.payload, "stroke-width": 1.6})],
+  message: [() => [mark("rect", {x: 2, y: 3, width: WIDE - 4, height: HIGH - 6, rx: 6, fill: WIRES.payload, stroke: "var(--rim)"})],
     "a message: each word has its colour"],
   safe_node: [() => node(PALE.safe, "var(--ink)"), "it has said safe"],
   done_node: [() => node(PALE.close, "var(--ink)"), "it is done"],

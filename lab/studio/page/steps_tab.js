@@ -217,7 +217,7 @@ function listSteps(is) {
         class: kindOf(is, step)});
       if (free && keyed < KEYED) button.append(html("kbd", ++keyed), " ");
       button.append(saidOf(is, step));
-      if (is.nodes && step.includes("-")) button.style.borderColor = hueOf(wireOf(is, step));
+      if (is.nodes && step.includes("-")) [button.style.background, button.style.color] = hueOf(wireOf(is, step));
       button.disabled = !free;
       button.onclick = () => make(step);
       line.append(button);
@@ -284,6 +284,8 @@ tabs.adversary = {
     steps.found = null;
     [by("undostep"), by("chance"), by("chance20"), by("instep")].forEach(one => { one.disabled = true; });
     [by("stepsaid"), by("possible")].forEach(one => one.replaceChildren());
+    [by("dared"), by("question2")].forEach(one => { one.hidden = true; });
+    markRan([], 0);
     if (more.fresh) steps.made = [];
     ask();
   },
