@@ -130,7 +130,7 @@ def summary(cone: Cone) -> str:
     most = max(far[v] for v in names)
     return (
         f"{len(cone.messages)} of {sent} messages decided it, and the identifiers of {len(names)} of "
-        f"{counted(cone.network.nodes, 'node')}. The farthest, {counted(most, 'edge')} away by the shortest way: "
+        f"{counted(cone.network.nodes, 'node')}. The farthest of these nodes, {counted(most, 'edge')} away: "
         f"{in_words([v for v in names if far[v] == most])}."
     )
 

@@ -15,8 +15,7 @@ from tests.pictures.marks import marks, parsed
 
 HAND = [
     "why node 2 of net has channel 3",
-    "8 of 49 messages decided it, and the identifiers of 2 of 3 nodes. The farthest, 1 edge away by the shortest way: "
-    "3.",
+    "8 of 49 messages decided it, and the identifiers of 2 of 3 nodes. The farthest of these nodes, 1 edge away: 3.",
     "pulse 26, merge of forest 1: the turn of node 2, with colour 1 in the forest and 1 so far; it chooses colour 2, "
     "channel 3",
     "  channel 1 is taken: node 3 told it so in pulse 22",
