@@ -52,7 +52,11 @@ def own_dare_judged(
         wrong = what_is_wrong(network, program.file, player.results)
         said = f"`right` says: {wrong}" if wrong else "`right` is true at this end"
         return DareJudged(bool(wrong), f"{said}, in {count}")
-    return other_judged(player, usual_end(network, program), count)
+    try:
+        usual = usual_end(network, program)
+    except Fault as why:
+        return DareJudged(False, f"in that order there is no end: {why}")
+    return other_judged(player, usual, count)
 
 
 def other_judged(player: ReactingStepwise, usual: dict[int, str], count: str) -> DareJudged:

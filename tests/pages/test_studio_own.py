@@ -177,6 +177,10 @@ class OwnFiles(Page):
         self.sees("the greeting", f"({MARKED}) === 'def greet(me):'")
         self.value("studio.time.set(2)")
         self.sees("a step", f"({MARKED}) === 'def step(me, pulse, inbox):'")
+        self.value("document.getElementById('codebox').focus()")
+        self.page.key("ArrowRight", code="ArrowRight", windowsVirtualKeyCode=39)
+        self.page.key("ArrowDown", code="ArrowDown", windowsVirtualKeyCode=40)
+        self.reads("keys of the text make no step", "studio.time.at", 2)
         self.go_to("example=two&program=independent_set&tab=adversary")
         self.sees(
             "the greeting once more", f"studio.steps.found && ({MARKED}) === 'def greet(me):'"

@@ -78,6 +78,12 @@ def result(me):
 def always(results, neighbours):
     return list(results.values()).count("inside") < 2 or "two are inside"
 """
+# If node 2 is heard first, the greeting goes round for ever.
+ENDLESS = """\
+    me.first = me.first or id
+    if me.first == 2 or me.id != 1:
+        me.send(port, "hi", id)
+"""
 FAILS = FIRST.replace("me.first = me.first or id", "me.first = {}[id]")
 ROUNDS = (
     "def greet(me):\n    return None\n\n\ndef step(me, pulse, inbox):\n    return None\n\n\n"
@@ -397,6 +403,13 @@ class OwnFiles(FilesCase):
                 judged_link(link, session).startswith("won: "),
                 is_won,
             )
+        endless = FIRST.replace("    me.first = me.first or id\n", ENDLESS)
+        session = session_of(self.file("first.py", endless))
+        found = self.found(session, program="first", dare="other", steps="1-3_1-2")["dare"]
+        self.note("an order without end", "in that order there is no end" in found["said"], found)
+        self.same("is no win", found["won"], False)
+        session = session_of(*files)
+        self.file("first.py", FIRST)
         self.same("of first", self.found(session, program="first")["dares"], ["right", "other"])
         self.same("of inside", self.found(session, program="inside")["dares"], ["always", "other"])
         for name, dare in (("first", "always"), ("first", "apart"), ("inside", "right")):
