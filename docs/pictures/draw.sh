@@ -29,3 +29,10 @@ forestlab picture broken --without parent -o docs/pictures/without-parent.svg
 forestlab picture broken --without pair -o docs/pictures/without-pair.svg
 forestlab picture broken --without earlier -o docs/pictures/without-earlier.svg
 forestlab picture broken --program matching --without partner -o docs/pictures/without-partner.svg
+# Mutual exclusion without Lamport's clock, up to where two nodes are inside.
+FOLDER=$(mktemp -d)
+sed '/me.time = max/d' examples/algorithms/exclusion.py > "$FOLDER/exclusion.py"
+forestlab explore triangle --program "$FOLDER/exclusion.py" --list > "$FOLDER/wrong.events" || true
+forestlab simulate triangle --program "$FOLDER/exclusion.py" --events "$FOLDER/wrong.events" > "$FOLDER/wrong.transcript"
+forestlab picture run triangle --program "$FOLDER/exclusion.py" --transcript "$FOLDER/wrong.transcript" --title "two are inside" -o docs/pictures/exclusion-without-clock.svg
+rm -r "$FOLDER"

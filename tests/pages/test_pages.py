@@ -27,7 +27,7 @@ PAGES = ["README.md"] + sorted(
 )
 # Whose links are looked at, and not the names in them.
 OTHER_PAGES = ["CHANGELOG.md", "CONTRIBUTING.md", "bench/README.md"]
-LESSONS = [f"docs/learn/LESSON_{number}.md" for number in range(1, 8)] + ["docs/learn/BY_HAND.md"]
+LESSONS = [f"docs/learn/LESSON_{number}.md" for number in range(1, 9)] + ["docs/learn/BY_HAND.md"]
 WIDEST = 150
 
 
