@@ -326,6 +326,7 @@ class Code(Enum):
     NO_SUCH_RULE = auto()
     NO_ROUNDS_HERE = auto()
     ROUNDS_HERE = auto()
+    HAS_ROUNDS = auto()
     OTHER_FORM = auto()
     NO_FILE_OF_PROGRAM = auto()
     NO_NODE_OF_FIELD = auto()

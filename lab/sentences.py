@@ -469,6 +469,7 @@ SENTENCES: dict[Code, str] = {
         "`on_{word}`); the tab Adversary plays it"
     ),
     Code.ROUNDS_HERE: "{program} has rounds: what a node sends at once is asked of files without any",
+    Code.HAS_ROUNDS: "{program} makes rounds: choose the program of this step again",
     Code.OTHER_FORM: (
         "its nodes made rounds when the studio began, and react to messages now, or the other way "
         "round: end the studio and begin it again"

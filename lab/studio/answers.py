@@ -97,8 +97,8 @@ class LecturePlace:
 
 @dataclass(frozen=True)
 class Hello:
-    """What there is to choose from. `own` are the programs of one's own, each with its form, and `own_dares` the dares
-    of those whose nodes react to messages."""
+    """What there is to choose from. `own` are the programs of one's own and the samples, each with its form, and
+    `own_dares` the dares of those whose nodes react to messages."""
 
     proved: bool
     most: int
@@ -107,6 +107,7 @@ class Hello:
     kinds: Mapping[str, KindOfNetwork]
     programs: Sequence[str]
     own: Mapping[str, Form]
+    samples: Sequence[str]
     passes: int
     policies: Mapping[str, str]
     rules: RulesSaid

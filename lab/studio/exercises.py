@@ -1,18 +1,20 @@
 """The exercises of the lessons, judged: an answer that a student has said, or what the page shows. Each verdict comes
 from the definitions, and says in one sentence how far the student is."""
-from collections.abc import Callable
+from collections.abc import Callable, Mapping
 
 from lab.definitions.colours import colours
 from lab.definitions.nodes import last_pulse
+from lab.definitions.reacting import Reacting
 from lab.fault_codes import Code
 from lab.faults import Fault
 from lab.network import Network
 from lab.pictures.layout import distances
-from lab.schedules.rules import OF_SCHEDULES
+from lab.schedules.reacting_stepwise import ReactingStepwise
+from lab.schedules.rules import OF_LINKS, OF_SCHEDULES
 from lab.schedules.stepwise import Stepwise
 from lab.studio import dares
 from lab.studio.answers import ExerciseJudged
-from lab.studio.asked import network_asked, program_asked, rules_asked
+from lab.studio.asked import either_program_asked, network_asked, program_asked, rules_asked
 from lab.studio.lessons import LESSONS, SaidExercise, SeenExercise
 from lab.studio.messages import CheckCall, ExerciseCall
 from lab.studio.rounds import check
@@ -166,6 +168,44 @@ def dared(dare: str, most: int | None = None) -> Goal:
     return judge
 
 
+def reactions_played(call: ExerciseCall, session: Session) -> ReactingStepwise:
+    """The steps of the page, of nodes that react to messages."""
+    network = network_asked(call)
+    program = either_program_asked(call, network, session)
+    if not isinstance(program, Reacting):
+        raise Fault(Code.HAS_ROUNDS, program=program.name)
+    player = ReactingStepwise(network, program, rules_asked(call, OF_LINKS))
+    player.follow(filter(None, call.steps.split("_")))
+    return player
+
+
+def has_results(wanted: Mapping[int, str], is_end: bool = False) -> Goal:
+    """Results that some nodes have to have, at an end or anywhere."""
+
+    def judge(call: ExerciseCall, session: Session, _tell: Tell) -> ExerciseJudged:
+        player = reactions_played(call, session)
+        results = player.results
+        lacking = [v for v, words in wanted.items() if results.get(v) != words]
+        if lacking:
+            v = lacking[0]
+            said = f"node {v} has {results[v]}" if v in results else f"there is no node {v}"
+            return ExerciseJudged(False, said)
+        if is_end and not player.is_ended:
+            return ExerciseJudged(False, "something can still happen")
+        has = in_words([f"node {v} has {words}" for v, words in wanted.items()])
+        return ExerciseJudged(True, f"{has}, after {counted(len(player.chosen), 'step')}")
+
+    return judge
+
+
+def refused_state(call: ExerciseCall, session: Session, _tell: Tell) -> ExerciseJudged:
+    """A state that the file's `always` refuses."""
+    player = reactions_played(call, session)
+    if player.refused:
+        return ExerciseJudged(True, player.refused)
+    return ExerciseJudged(False, "`always` is true here")
+
+
 # What judges the exercises that are done in the studio, by the lesson and the name.
 GOALS: dict[tuple[int, str], Goal] = {
     (1, "proper"): proper,
@@ -178,4 +218,7 @@ GOALS: dict[tuple[int, str], Goal] = {
     (6, "pulse"): first_pulse,
     (6, "apart"): dared("apart"),
     (6, "wrong"): dared("wrong", FEWEST),
+    (8, "tree"): has_results({1: "counts 3", 2: "counts 2"}, is_end=True),
+    (8, "later"): has_results({1: "asks", 3: "inside"}),
+    (8, "coins"): refused_state,
 }

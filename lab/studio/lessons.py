@@ -591,7 +591,110 @@ MORE = LessonSteps(
         ),
     ],
 )
-LESSONS = (CHANNELS, FORESTS, COLOURS, MERGE, NO_CLOCK, SCHEDULES, MORE)
+REACTIONS = LessonSteps(
+    "Without rounds",
+    "What if a node reacts to each message as it comes, and no synchroniser makes rounds of it?",
+    [
+        TableStep(
+            "example=triangle&tab=adversary&program=echo",
+            "Node 1 wants to know how many nodes there are, and has sent a `wave` to both others. No synchroniser runs "
+            "here: a node does something whenever it takes a message, as its file says. The file is next to the "
+            "network, and the function that ran last is marked. Choose messages until nothing is left. Below a node "
+            "is its result.",
+            SaidExercise(
+                name="messages",
+                asks="How many messages do the nodes send in all?",
+                right="6",
+                hint="How many messages go over each of the three edges?",
+                answer="Six: over each edge two, whatever comes first. They are a wave and its echo, or two waves that "
+                "meet.",
+            ),
+        ),
+        TableStep(
+            "example=triangle&tab=adversary&program=echo",
+            "The order decides who is whose parent: a node takes the sender of the first wave that it hears. Choose "
+            "the messages so that node 2 becomes the parent of node 3, and go on to the end.",
+            SeenExercise(
+                name="tree",
+                hint="Node 3 has to hear the wave of node 2 before it hears that of node 1.",
+                answer="For example: node 2 takes the wave of node 1, and node 3 that of node 2. Then choose whatever "
+                "you like. At the end node 2 counts 2, itself and node 3.",
+            ),
+        ),
+        TableStep(
+            "",
+            "`forestlab explore triangle --program examples/algorithms/echo.py` plays all 20 orders of these events. "
+            "They have three different ends, because there are three trees of parents.",
+            SaidExercise(
+                name="all",
+                asks="In how many of the 20 orders does node 1 count three nodes?",
+                right="20",
+                hint="Which nodes does node 1 count, if node 2 is the parent of node 3? And if it isn't?",
+                answer="In all 20. The file says so itself: its function `right` is asked at each end, and its "
+                "function `always` in each state.",
+            ),
+        ),
+        TableStep(
+            "example=triangle&tab=adversary&program=exclusion",
+            "Now each of three nodes wants to be *inside* once, and only one may be inside at a time. *node 1 acts* is "
+            "a step that a node makes by itself: it asks all others, and later it leaves. Each question has a time, 1 "
+            "more than the greatest that the node has heard. The earlier question goes first, and of two equal times "
+            "the one of the lesser identifier. Let node 3, node 2 and node 1 act, in this order, before any message "
+            "is taken. Then go on until a node is inside.",
+            SaidExercise(
+                name="first",
+                asks="Which node is inside first?",
+                right="1",
+                hint="Which time has each of the three questions?",
+                answer="Node 1. No node has heard a question when it asks, so all three have the time 1. Of equal "
+                "times, that of the lesser identifier goes first.",
+            ),
+        ),
+        TableStep(
+            "example=triangle&tab=adversary&program=exclusion",
+            "Start again, and get node 3 inside while node 1 asks, too.",
+            SeenExercise(
+                name="later",
+                hint="Node 1 asks with a later time if it has heard the question of node 3 before.",
+                answer="Let node 3 act, and the nodes 1 and 2 take its question. Now let node 1 act: it asks with the "
+                "time 2. Node 3 takes both answers, and is inside.",
+            ),
+        ),
+        TableStep(
+            "example=two&tab=adversary&program=snapshot&without=fifo&dare=always",
+            "Two nodes of a bank have 10 coins each, and each pays 3 of them when it likes. Node 1 begins a snapshot: a "
+            "node notes its coins and sends a `marker`, and then notes what comes until the marker of the other one "
+            "comes. Here links don't keep their order, so you may take a message that overtakes another one. Win the "
+            "dare: some coins are missing, or are noted twice.",
+            SeenExercise(
+                name="coins",
+                hint="Let the marker of node 1 overtake the coins that it has paid before.",
+                answer="Let node 1 act twice: it pays 3 coins, and then begins the snapshot. Node 2 takes the marker "
+                "before the coins, and node 1 takes the marker of node 2. Now 17 coins are noted of 20.",
+            ),
+        ),
+        TableStep(
+            "",
+            "With links that keep their order, `explore` finds that this file is right in every order on two nodes, "
+            "on three, and on a ring of four.",
+            SaidExercise(
+                name="follows",
+                asks="What follows for a ring of five?",
+                right="nothing: it has to be tried, too",
+                picks=(
+                    "it is right there, too",
+                    "nothing: it has to be tried, too",
+                    "it is wrong there",
+                ),
+                hint="Is anything proved of this file?",
+                answer="Nothing. What `explore` says holds for the network that it has played. In one of the samples "
+                "you can delete a line, and two nodes are right in every order, but three aren't: the lesson's page "
+                "has it.",
+            ),
+        ),
+    ],
+)
+LESSONS = (CHANNELS, FORESTS, COLOURS, MERGE, NO_CLOCK, SCHEDULES, MORE, REACTIONS)
 LECTURE = (
     LecturePlace(
         "0 to 4",

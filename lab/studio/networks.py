@@ -48,7 +48,7 @@ from lab.studio.messages import (
     TidyCall,
 )
 from lab.studio.own_dares import OWN_DARES
-from lab.studio.session import Session
+from lab.studio.session import SAMPLES, Session
 from lab.studio.telling import Tell
 
 # How many letters of a file's name are shown.
@@ -79,6 +79,7 @@ def hello(_call: HelloCall, session: Session, _tell: Tell) -> Hello:
         kinds={name: KindOfNetwork(kind.sizes, kind.is_by_chance) for name, kind in KINDS.items()},
         programs=[*PROGRAMS, *session.own],
         own=session.forms,
+        samples=list(SAMPLES),
         passes=MAX_PASSES,
         policies=POLICIES,
         rules=RulesSaid(

@@ -1,13 +1,19 @@
 """What the studio is open with, which each call is given. The server's own process changes it when the programs are
 built."""
+import os
 from dataclasses import dataclass, field
-
 from typing import Literal
 
 from lab.pictures.page_data import Net
+from lab.programs import TOP
 
 # What the nodes of a file do: they make rounds, or they react to each message.
 Form = Literal["rounds", "reactions"]
+# The samples without rounds of lesson 8, which the studio always has.
+SAMPLES = {
+    name: os.path.join(TOP, "examples", "algorithms", f"{name}.py")
+    for name in ("echo", "exclusion", "snapshot")
+}
 
 
 @dataclass

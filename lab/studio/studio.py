@@ -21,7 +21,7 @@ from lab.studio.building import are_built
 from lab.studio.links import judge
 from lab.studio.networks import shown
 from lab.studio.serving import Server
-from lab.studio.session import Form, Session
+from lab.studio.session import SAMPLES, Form, Session
 from lab.words import Parser, one_line, parser_of, text_at, text_name
 
 PORT, NEXT_PORTS = 8321, 20
@@ -86,7 +86,8 @@ def command_line() -> Parser:
 
 
 def own_programs(files: Iterable[str]) -> tuple[dict[str, str], dict[str, Form]]:
-    """The paths of programs of one's own by their names, and their forms."""
+    """The paths of programs of one's own by their names, and their forms; and those of the samples, unless a file of
+    one's own has the name of one."""
     found: dict[str, str] = {}
     forms: dict[str, Form] = {}
     for file in files:
@@ -95,6 +96,10 @@ def own_programs(files: Iterable[str]) -> tuple[dict[str, str], dict[str, Form]]
             raise Fault(Code.OWN_FILE, InText(file))
         found[program.name] = file
         forms[program.name] = form_of_program(program)
+    for name, file in SAMPLES.items():
+        if name not in found and os.path.exists(file):
+            found[name] = file
+            forms[name] = "reactions"
     return found, forms
 
 

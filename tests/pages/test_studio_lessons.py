@@ -6,16 +6,18 @@ import re
 import shutil
 import tempfile
 import time
-from collections.abc import Iterator
+from collections.abc import Collection, Iterator, Sequence
 from unittest import mock
 
 from lab.definitions.colours import bit
-from lab.definitions.programs import program_at
+from lab.definitions.programs import any_program_at, program_at
+from lab.definitions.reacting import Reacting
 from lab.definitions.rounds import Rounds
 from lab.faults import Fault
 from lab.network import Network
 from lab.networks.network_text import read_network
 from lab.pictures.program_rounds import ProgramRounds
+from lab.schedules.reacting_stepwise import ReactingStepwise
 from lab.schedules.stepwise import Stepwise
 from lab.studio import lessons as table
 from lab.studio.answers import ExerciseJudged
@@ -32,10 +34,14 @@ from lab.studio.lessons import (
 from lab.studio.messages import ExerciseCall
 from lab.studio.networks import opened_by
 from lab.studio.session import Session
+from lab.studio.studio import own_programs
 from tests import TOP
 from tests.cases import Case, said_by, text_in
 from tests.pages.test_studio_page import Page
 
+# As the studio is without a file of one's own: with the samples.
+OWN, FORMS = own_programs(())
+SESSION = Session(own=OWN, forms=FORMS)
 # The network of an edge list, in the DIMACS format.
 STAR = [(v, 9) for v in range(1, 9)]
 # Refuses all that a browser keeps, as one does whose user wants nothing kept.
@@ -49,8 +55,21 @@ TICKED = (
 # Two nodes without safes: node 1 makes pulses 1 and 2, and node 2 none; node 2 makes pulse 2 without a label.
 APART = "1-2_2-1_1-2_1_2-1_1-2_2-1_2-1_1-2_1"
 WRONG = "1-2_2-1_2-1_2_2"
+# Without rounds: node 3 hears the wave of node 2 first; node 3 is inside, and node 1 asks; a marker overtakes coins.
+TREE = "2-1_3-2_1-3_3-1_2-3_1-2"
+LATER = "3_1-3_2-3_1_3-1_3-2"
+COINS = "1_1_2-1-1_1-2"
 # One row of three: node 1 makes pulse 1.
 FIRST = "2-1_2-3_1-2_3-2_2-1_2-3_1-2_1-2_1"
+# The steps of the adversary that do an exercise, by its name.
+MADE = {
+    "pulse": FIRST,
+    "apart": APART,
+    "wrong": WRONG,
+    "tree": TREE,
+    "later": LATER,
+    "coins": COINS,
+}
 
 
 def tell(done: int = 0, of: int = 0, part: object = None) -> None:
@@ -86,7 +105,7 @@ def step_of(lesson: int, name: str) -> int:
 def verdict(lesson: int, name: str, **asked: object) -> ExerciseJudged:
     body = {"network": "", "lesson": lesson, "step": step_of(lesson, name)} | asked
     try:
-        return exercise_judged(parsed_call(ExerciseCall, body), Session(), tell)
+        return exercise_judged(parsed_call(ExerciseCall, body), SESSION, tell)
     except Fault as why:
         return ExerciseJudged(False, str(why))
 
@@ -124,7 +143,7 @@ def answers_of_rounds() -> dict[tuple[int, str], int]:
 
 
 def answers_of_programs() -> dict[tuple[int, str], int]:
-    """Those of the last lesson, from the rounds of its programs."""
+    """Those of lesson 7, from the rounds of its programs."""
     drops, petersen = example("drops"), example("petersen")
     results = {
         name: list(ProgramRounds(net, program_at(name)).pulses[-1].results.values())
@@ -139,6 +158,41 @@ def answers_of_programs() -> dict[tuple[int, str], int]:
         (7, "pairs"): sum(one != "partner none" for one in results["matching"]) // 2,
         (7, "in"): results["independent-set"].count("in"),
         (7, "fewer"): len(set(results["recolouring"])),
+    }
+
+
+def by_hand(network: str, name: str, without: Collection[str] = ()) -> ReactingStepwise:
+    """A run of a sample without rounds, at its start."""
+    program = any_program_at(OWN[name])
+    assert isinstance(program, Reacting)
+    return ReactingStepwise(example(network), program, without)
+
+
+def all_ends(made: Sequence[str] = ()) -> Iterator[tuple[Sequence[str], dict[int, str]]]:
+    """Each list of steps of the echo on the triangle, and what nodes have found at its end."""
+    player = by_hand("triangle", "echo")
+    player.follow(made)
+    steps = player.possible()
+    if not steps:
+        yield made, player.results
+    for step in steps:
+        yield from all_ends([*made, step])
+
+
+def answers_of_reactions() -> dict[tuple[int, str], int]:
+    """Those of lesson 8: list by list, and of some runs by chance in which all ask before any message is taken."""
+    ends = list(all_ends())
+    first = set()
+    for seed in range(20):
+        player = by_hand("triangle", "exclusion")
+        player.follow(["3", "2", "1"])
+        while "inside" not in player.results.values():
+            player.by_chance(1, f"{seed} {len(player.chosen)}", (), ())
+        first.update(v for v, words in player.results.items() if words == "inside")
+    return {
+        (8, "messages"): max(len(made) for made, _ in ends),
+        (8, "all"): sum(results[1] == "counts 3" for _, results in ends),
+        (8, "first"): max(first) if len(first) == 1 else 0,
     }
 
 
@@ -172,7 +226,7 @@ class Table(Case):
                         r"http://127\.0\.0\.1:8321/#([^)\s`\"]*)", text_in(folder, name)
                     ):
                         count += 1
-                        faults = opened_by(place, Session()).address.faults()
+                        faults = opened_by(place, SESSION).address.faults()
                         self.same(f"{name}: {place}", faults, "")
         self.note("there are some", count > 15, count)
 
@@ -180,10 +234,10 @@ class Table(Case):
         """Each place of the table is read whole, opens a network and a tab, and is opened by its lesson and step."""
         for number, k, step in steps():
             place = table.step_place(number, k)
-            opened = opened_by(place, Session())
+            opened = opened_by(place, SESSION)
             self.same(f"lesson {number} step {k}", opened.address.faults(), "")
             self.note("has a network", opened.network)
-            by_name = opened_by(f"lesson={number}&step={k}", Session()).address
+            by_name = opened_by(f"lesson={number}&step={k}", SESSION).address
             wanted = opened.address.values
             self.same(
                 "by its number",
@@ -194,7 +248,7 @@ class Table(Case):
             if isinstance(step.exercise, PredictedExercise):
                 self.note("a question", wanted.predict and wanted.node, place)
         for k, one in enumerate(LECTURE, 1):
-            values = opened_by(f"lecture={k}", Session()).address.values
+            values = opened_by(f"lecture={k}", SESSION).address.values
             self.same(f"lecture {k}", (values.tab, values.lecture), (table.tab_of(one.place), k))
 
     def test_refused(self) -> None:
@@ -204,7 +258,7 @@ class Table(Case):
             ("example=two&tab=draw&step=2", "no lesson is named"),
             ("example=two&tab=draw&lecture=8", "it is a number from 1 to 7"),
         ):
-            faults = opened_by(place, Session()).address.faults()
+            faults = opened_by(place, SESSION).address.faults()
             self.note(place, why in faults, faults)
 
     def test_names(self) -> None:
@@ -241,7 +295,7 @@ class Table(Case):
 class Judged(Case):
     def test_right_answers(self) -> None:
         """The right answers of the table, worked out from the definitions."""
-        wanted = {**answers_of_rounds(), **answers_of_programs()}
+        wanted = {**answers_of_rounds(), **answers_of_programs(), **answers_of_reactions()}
         asked = {
             (n, step.exercise.name): step.exercise
             for n, _, step in steps()
@@ -336,15 +390,30 @@ class Judged(Case):
                 {"network": two, "steps": "1-2_2-1_1-2_2-1_2_2", "without": "safes"},
             ),
         ]
+        triangle3 = text_in("examples", "triangle.col")
+        echo = {"network": triangle3, "program": "echo"}
+        exclusion = {"network": triangle3, "program": "exclusion"}
+        snapshot = {"network": two, "program": "snapshot", "without": "fifo"}
+        rows += [
+            (8, "tree", True, "node 2 has counts 2, after 6 steps", echo | {"steps": TREE}),
+            (8, "tree", False, "node 1 has counts 1 so far", echo | {"steps": "2-1_3-2"}),
+            (8, "tree", False, "node 2 has counts 1", echo | {"steps": "2-1_3-1_2-3_3-2_1-2_1-3"}),
+            (8, "tree", False, "colouring makes rounds", {"network": triangle3}),
+            (8, "later", True, "node 3 has inside, after 6 steps", exclusion | {"steps": LATER}),
+            (8, "later", False, "node 1 has idle", exclusion | {"steps": ""}),
+            (8, "later", False, "node 3 has asks", exclusion | {"steps": "3_1"}),
+            (8, "coins", True, "17 coins are noted of 20", snapshot | {"steps": COINS}),
+            (8, "coins", False, "is true here", snapshot | {"steps": COINS[:-4]}),
+        ]
         for lesson, name, done, said, asked in rows:
             found = verdict(lesson, name, **asked)
             self.same(f"{lesson} {name}: {found.said}", found.done, done)
             self.note(f"says {said}", said in found.said, found.said)
 
     def test_refused(self) -> None:
-        for lesson, step in ((0, 1), (8, 1), (1, 99), (3, 1), (3, 2)):
+        for lesson, step in ((0, 1), (9, 1), (1, 99), (3, 1), (3, 2)):
             with self.assertRaises(Fault):
-                exercise_judged(ExerciseCall(network="", lesson=lesson, step=step), Session(), tell)
+                exercise_judged(ExerciseCall(network="", lesson=lesson, step=step), SESSION, tell)
 
 
 class Cards(Page):
@@ -420,8 +489,7 @@ class Cards(Page):
             case "far":
                 self.hold_node_1()
             case _:
-                made = {"pulse": FIRST, "apart": APART, "wrong": WRONG}[name]
-                self.take(*made.split("_"))
+                self.take(*MADE[name].split("_"))
 
     def choose_channels(self, *channels: int) -> None:
         for v, channel in enumerate(channels, 1):
@@ -494,15 +562,15 @@ class Cards(Page):
         self.open()
         self.go_to("lesson=1")
         self.step_to(1, 1)
-        self.sees("all are ticked", "lesson.querySelectorAll('.all a').length === 7")
+        self.sees("all are ticked", "lesson.querySelectorAll('.all a').length === 8")
         said = self.value("Array.from(lesson.querySelectorAll('.all a'), one => one.textContent)")
-        self.same("ticks", said, [f"{n}✓" for n in range(1, 8)])
+        self.same("ticks", said, [f"{n}✓" for n in range(1, 9)])
         self.ticked("and so is its exercise")
         menu = self.value(
             "Array.from(document.querySelectorAll('#lessons option')).slice(1)"
             ".map(one => one.textContent.endsWith('✓'))"
         )
-        self.same("in the menu, too", menu, [True] * 7)
+        self.same("in the menu, too", menu, [True] * 8)
 
     def own_words(self, exercise: SaidExercise | SeenExercise | PredictedExercise) -> None:
         """The hint and the answer are those of this exercise; they are read only when they are opened."""
@@ -544,8 +612,8 @@ class Cards(Page):
         self.reads(
             "no way back from the first", "lesson.querySelector('[data-way=back]').hidden", True
         )
-        self.go_to("lesson=7&step=5")
-        self.step_to(7, 5)
+        self.go_to("lesson=8&step=7")
+        self.step_to(8, 7)
         self.reads("no way on from the last", "lesson.querySelector('[data-way=on]').hidden", True)
         self.click_on("#lesson .all a:nth-of-type(3)")
         self.step_to(3, 1)

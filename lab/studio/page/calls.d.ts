@@ -67,6 +67,7 @@ interface Hello {
   kinds: Record<string, KindOfNetwork>;
   programs: string[];
   own: Record<string, Form>;
+  samples: string[];
   passes: number;
   policies: Record<string, string>;
   rules: RulesSaid;

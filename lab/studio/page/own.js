@@ -76,7 +76,7 @@ function show() {
   const key = JSON.stringify([file.name, file.text, file.fault, lost, name, last.node]);
   if (key === drawn) return;
   drawn = key;
-  by("codesaid").replaceChildren(html("b", `${file.name}.py`), " Nothing is proved of your own file. ",
+  by("codesaid").replaceChildren(html("b", `${file.name}.py`), " Nothing is proved of this file. ",
     ...name ? coded(ranWords(name)) : []);
   by("codefault").replaceChildren(...coded(lost || file.fault));
   showText(name ? file.lines[name] : [0, 0]);

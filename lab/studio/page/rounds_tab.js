@@ -170,7 +170,7 @@ tabs.rounds = {
     by("program2").value = seen.program;
     showOptions();
     enterFile();
-    all(".noown").forEach(one => { one.hidden = Object.keys(hello().own).length > 0; });
+    all(".noown").forEach(one => { one.hidden = Object.keys(hello().own).some(name => !hello().samples.includes(name)); });
     rounds.without = rulesOf(rulesHere(), rounds.without);
     showRules();
     const mine = ++entered;

@@ -305,7 +305,7 @@ function leaveWhatIsOfOthers(rules) {
   const isWithoutRounds = reacts();
   [by("instep"), by("instepsaid"), by("handoverbox")].forEach(one => { one.hidden = isWithoutRounds; });
   by("listfor").textContent = isWithoutRounds ? `forestlab simulate --program ${seen.program}.py --events` : "forestplay events";
-  all(".noown").forEach(one => { one.hidden = Object.keys(hello().own).length > 0; });
+  all(".noown").forEach(one => { one.hidden = Object.keys(hello().own).some(name => !hello().samples.includes(name)); });
   steps.without = rulesOf(rules, steps.without);
   if (!Object.hasOwn(daresHere(), steps.dare)) steps.dare = "";
 }
