@@ -249,6 +249,7 @@ class Code(Enum):
     NO_NODE_TO_DRAW = auto()
     RUN_TOO_LONG_TO_DRAW = auto()
     TWO_RUNS = auto()
+    TWO_RUNS_WITHOUT_ROUNDS = auto()
     ONE_STANDARD_INPUT = auto()
     PLAN_NOT_PROPER = auto()
     TOO_MANY_PULSES = auto()

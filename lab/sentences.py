@@ -286,7 +286,8 @@ SENTENCES: dict[Code, str] = {
     ),
     Code.NO_ROUNDS: (
         "{file} has a function `on_{word}`, so its nodes make no rounds: only `explore`, "
-        "`simulate`, `transcript check` and `picture run` take such a file"
+        "`simulate`, `transcript check`, `picture run` and `watch`, and the studio take such a "
+        "file"
     ),
     Code.RETURNS_SOMETHING: (
         "{where} returns {returned!r}: it returns nothing, and sends with `me.send`"
@@ -363,6 +364,9 @@ SENTENCES: dict[Code, str] = {
     Code.NO_NODE_TO_DRAW: "no node, so nothing to draw",
     Code.RUN_TOO_LONG_TO_DRAW: (
         "{kind} draws a run of at most {most:,} wires, and one of {name} has more than " "{wires:,}"
+    ),
+    Code.TWO_RUNS_WITHOUT_ROUNDS: (
+        "two runs are compared pulse by pulse, and the nodes of {name} make none: give one run"
     ),
     Code.TWO_RUNS: "a page has room for two runs",
     Code.ONE_STANDARD_INPUT: "standard input has one text: name a file for each other one",

@@ -185,3 +185,34 @@ class WatchData:
     runs: Sequence[RunTable]
     same: Sequence[bool]
     sent: Sequence[Sequence[tuple[int, int, str]]]
+
+
+@dataclass(frozen=True)
+class ReactedLook:
+    """What is shown of a node that reacts to messages: how often it has acted, whether it may act now, and what it has
+    found."""
+
+    acts: int
+    able: bool
+    found: str
+
+
+@dataclass(frozen=True)
+class ReactionsTable:
+    """A run of such nodes, as a `RunTable` has one under the synchroniser."""
+
+    name: str
+    start: Sequence[ReactedLook]
+    rows: Sequence[Row]
+    wires: Sequence[WireRow]
+    looks: Sequence[ReactedLook]
+    texts: Sequence[str]
+    stamps: tuple[int, int]
+
+
+@dataclass(frozen=True)
+class ReactionsData:
+    """The data of a page that plays such a run."""
+
+    net: Net
+    run: ReactionsTable

@@ -13,6 +13,8 @@ from lab.pictures.svg import escaped
 FOLDER = os.path.join(os.path.dirname(os.path.abspath(__file__)), "page")
 # Each imports only those before it.
 MODULES = ("marks", "legend", "stage", "time", "rounds", "run")
+# Which modules more the main module of a page imports.
+MORE = {"watch_reactions": ("messages",)}
 # In pixels of a large screen; the radius of a node at most and at least (of a hundred and fewer; of more all are
 # smaller), and how many radii two are apart.
 WIDE, HIGH, MARGIN, RADIUS, LEAST, APART = 1000, 700, 70, 22, 9, 3
@@ -54,7 +56,9 @@ def joined(main: str) -> str:
     """The modules that a page needs as one script, on one line: imports and exports go, since all names are in one
     place, and comments: what is said to a reader has lines of its own, and types are in `/** .. */` on one line.
     """
-    text = "".join([hues(), *(text_of(f"{name}.js") for name in (*MODULES, main))])
+    text = "".join(
+        [hues(), *(text_of(f"{name}.js") for name in (*MODULES, *MORE.get(main, ()), main))]
+    )
     text = re.sub(r"(?m)^export |^ *//.*$|/\*\*.*?\*/ ?", "", text)
     text = re.sub(r"(?ms)^import .*?;$", "", text)
     return " ".join(line.strip() for line in text.split("\n") if line.strip())

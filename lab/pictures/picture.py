@@ -39,6 +39,7 @@ from lab.pictures import (
     player_page,
     program_picture,
     reacting_picture,
+    reacting_watch,
     results_picture,
     rounds_picture,
     run_picture,
@@ -261,7 +262,8 @@ KINDS = {
         "A page that plays a run without a clock, or two side by side: messages move (HTML).",
         "At most 20,000 entries: of a longer run the first pulses, or others with --pulses. TRANSCRIPT is a\n"
         "stored text, or - for standard input; without it the program writes one. With a second one both are\n"
-        "beside each other, pulse by pulse. Add #pulse-P to the page's address for a link to pulse P.",
+        "beside each other, pulse by pulse. Add #pulse-P to the page's address for a link to pulse P. Of a file\n"
+        "whose nodes react to messages, without rounds: one run, and what each node has found.",
         "forestlab simulate examples/chain6.col --slow 2-3 > slow.transcript\n"
         "  forestlab picture watch examples/chain6.col slow.transcript > slow.html\n"
         "  forestlab picture watch examples/chain6.col slow.transcript examples/chain6_slow.transcript > two.html",
@@ -474,18 +476,21 @@ def run_text(kind: str, network: Network, network_text: bytes, program: Program)
 
 
 def reacting_run(given: Namespace, network: Network, program: Reacting) -> str:
-    """The picture of a run of nodes that react to messages: of a stored one, or of one by a seed."""
+    """The picture of a run of nodes that react to messages, or the page: of a stored run, or of one by a seed."""
     for option in ("pulses", "only", "wrong", "stopped"):
-        if getattr(given, option):
+        if getattr(given, option, None):
             raise Fault(Code.OPTION_OF_ROUNDS, option=option, name=program.name)
-    at_most("run", network.nodes, "nodes", *(KINDS["run"].most or (0, "")))
+    if len(given.stored or ()) > 1:
+        raise Fault(Code.TWO_RUNS_WITHOUT_ROUNDS, name=program.name)
+    at_most(given.kind, network.nodes, "nodes", *(KINDS[given.kind].most or (0, "")))
     if given.stored:
         text = Text(text_name(given.stored[0]), text_at(given.stored[0], MOST_OF_TRANSCRIPT))
     else:
         made = played(network, program=program)
         text = Text(network.name, text_of_run(network.nodes, made, program))
     order, _ = ordered(text.text, text.name, network, program)
-    return reacting_picture.draw(given.title or stem(text.name), network, program, order.made)
+    draw = reacting_picture.draw if given.kind == "run" else reacting_watch.draw
+    return draw(given.title or stem(text.name), network, program, order.made)
 
 
 def progress(states: int, events: int) -> None:
@@ -512,7 +517,7 @@ def drawn(given: Namespace) -> str:
     of.network = network = network_of(data, text_name(given.network))
     network.name = given.title or ("this network" if given.network == "-" else network.name)
     program = any_program_asked("picture", given, network)
-    if isinstance(program, Reacting) and given.kind == "run":
+    if isinstance(program, Reacting) and given.kind in ("run", "watch"):
         return reacting_run(given, network, program)
     of.program = by_rounds(program)
     of.texts = [Text(text_name(path), text_at(path, MOST_OF_TRANSCRIPT)) for path in stored]

@@ -25,7 +25,7 @@ from lab.schedules.simulate import played, text_of_run
 from lab.transcripts.check import whole_run
 from tests import TOP
 from tests.cases import Case, called, example, said_by, text_in
-from tests.pictures.marks import marks, parsed, title, titles
+from tests.pictures.marks import data_of, marks, parsed, title, titles
 from tests.settings import PLAY
 from tests.tools import needs
 
@@ -914,24 +914,28 @@ class Bridge(Case):
             self.same(f"{name} with another number", (status, out, fault), (1, b"", said))
 
 
+# By hand: two enter one after the other.
+ENTRIES = [
+    "transcript 4 exclusion 2",
+    "1 1 act 1",
+    "2 1 put 2 ask 1 1",
+    "3 2 take 1 ask 1 1",
+    "4 2 put 1 yes",
+    "5 1 take 2 yes",
+    "5 2 act 1",
+    "6 1 act 2",
+    "6 2 put 1 ask 2 2",
+    "7 1 take 2 ask 2 2",
+    "8 1 put 2 yes",
+    "9 2 take 1 yes",
+    "10 2 act 2",
+]
+
+
 class Pictures(Case):
     def test_a_run(self) -> None:
-        """By hand: two enter one after the other. Each message from its put to its take, each act, and what changes."""
-        lines = [
-            "transcript 4 exclusion 2",
-            "1 1 act 1",
-            "2 1 put 2 ask 1 1",
-            "3 2 take 1 ask 1 1",
-            "4 2 put 1 yes",
-            "5 1 take 2 yes",
-            "5 2 act 1",
-            "6 1 act 2",
-            "6 2 put 1 ask 2 2",
-            "7 1 take 2 ask 2 2",
-            "8 1 put 2 yes",
-            "9 2 take 1 yes",
-            "10 2 act 2",
-        ]
+        """Each message from its put to its take, each act, and what changes."""
+        lines = ENTRIES
         path = self.file("run.transcript", "\n".join(lines) + "\n")
         words = ["picture", "run", "two", "--program", sample("exclusion")]
         status, svg, fault = said_by(*words, "--transcript", path)
@@ -952,6 +956,47 @@ class Pictures(Case):
         wrong = "\n".join(lines).replace("ask 2 2", "ask 3 2", 1)
         done = said_by(*words, "--transcript", self.file("wrong.transcript", wrong))
         self.refusal("a wrong run", done, 1, "line 9: WrongWire: node 2 puts ask 3 2 for 1")
+
+    def test_a_page(self) -> None:
+        """What is shown of each node after each entry, by hand: acts, whether it may act, and what it has found."""
+        path = self.file("run.transcript", "\n".join(ENTRIES) + "\n")
+        words = ["picture", "watch", "two"]
+        own = ["--program", sample("exclusion")]
+        status, page, fault = said_by(*words, path, *own)
+        self.same("it is made", (status, fault), (0, ""))
+        run = data_of(page)["run"]
+        idle = {"acts": 0, "able": True, "found": "idle"}
+        self.same("at first", run["start"], [idle, idle])
+        shown = [tuple(run["looks"][row[2]].values()) for row in run["rows"]]
+        asks, inside = (1, False, "asks"), (1, True, "inside")
+        done = (2, False, "done (visits 1)")
+        first = [asks, asks, (0, True, "idle"), (0, True, "idle"), inside, asks, done]
+        self.same("each node", shown, first + [asks, done, done, inside, done])
+        said = [[row[0], row[1], run["texts"][row[3]]] for row in run["rows"]]
+        self.same(
+            "entries",
+            [[one[0], one[1]] for one in said[:6]],
+            [[1, 1], [2, 1], [3, 2], [4, 2], [5, 1], [5, 2]],
+        )
+        self.same(
+            "what is said", [one[2] for one in said[:2]], ["makes act 1", "puts ask 1 1 for 2"]
+        )
+        wires = [[*one[:2], run["texts"][one[2]], *one[3:]] for one in run["wires"]]
+        wanted = [
+            [1, 2, "ask 1 1", 1, 2, 2, 3],
+            [2, 1, "yes", 3, 4, 4, 5],
+            [2, 1, "ask 2 2", 7, 6, 8, 7],
+            [1, 2, "yes", 9, 8, 10, 9],
+        ]
+        self.same("messages", wires, wanted)
+        cut = self.file("cut.transcript", "\n".join(ENTRIES[:4]) + "\n")
+        run = data_of(said_by(*words, cut, *own)[1])["run"]
+        self.same("one is taken", [one[3:] for one in run["wires"]], [[1, 2, 2, 3]])
+        cut = self.file("cut.transcript", "\n".join(ENTRIES[:3]) + "\n")
+        run = data_of(said_by(*words, cut, *own)[1])["run"]
+        self.same("one is under way", [one[3:] for one in run["wires"]], [[1, 2, None, None]])
+        done = said_by(*words, path, path, *own)
+        self.refusal("two", done, 1, "pulse by pulse, and the nodes of exclusion make none")
 
     def test_one_is_made(self) -> None:
         """Without a stored text a run is made; the options of rounds are refused."""

@@ -104,3 +104,24 @@ interface WatchData {
   same: boolean[];
   sent: [number, number, string][][];
 }
+
+interface ReactedLook {
+  acts: number;
+  able: boolean;
+  found: string;
+}
+
+interface ReactionsTable {
+  name: string;
+  start: ReactedLook[];
+  rows: Row[];
+  wires: WireRow[];
+  looks: ReactedLook[];
+  texts: string[];
+  stamps: [number, number];
+}
+
+interface ReactionsData {
+  net: Net;
+  run: ReactionsTable;
+}

@@ -8,7 +8,7 @@ const AWAITS = {ack: WIRES.ack, safe: WIRES.safe, close: WIRES.safe};
 
 // How many of a list are at its beginning of which this is true.
 /** @type {<One>(list: One[], isTrue: (one: One) => boolean) => number} */
-function firstOf(list, isTrue) {
+export function firstOf(list, isTrue) {
   let low = 0, high = list.length;
   while (low < high) { const half = (low + high) >> 1; if (isTrue(list[half])) low = half + 1; else high = half; }
   return low;
@@ -22,7 +22,7 @@ function wireWords(said, isLong) {
 }
 // A wire's mark at a place of its way, 0 at its start and 1 at its end.
 /** @type {(stage: Stage, v: number, w: number, far: number, said: string, isLong: boolean, more?: Attributes, look?: Attributes & {ink?: string}, shown?: string) => Mark} */
-function wireMark(stage, v, w, far, said, isLong, more = {}, look = {}, shown = wireWords(said, isLong)) {
+export function wireMark(stage, v, w, far, said, isLong, more = {}, look = {}, shown = wireWords(said, isLong)) {
   const kind = said.split(" ")[0], size = Math.max(9, Math.min(stage.largest - 10.5, stage.radius * 0.55));
   const [x, y] = stage.beside(v, w, far, pillWidth(shown, size), size + 6, 3);
   return mark("g", {class: "wire", ...more},

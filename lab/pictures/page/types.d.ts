@@ -117,8 +117,8 @@ interface Elements {
   legend: HTMLElement;
 }
 
-// The data of a page that stands alone: of rounds, or of one run or two.
-declare const D: PlayerData & WatchData;
+// The data of a page that stands alone: of rounds, of one run or two, or of a run without rounds.
+declare const D: PlayerData & WatchData & ReactionsData;
 
 // What browsers have, and TypeScript 4.8 doesn't know.
 interface Array<T> { with(index: number, value: T): T[]; }

@@ -3,10 +3,11 @@ import {all, announce, asks, by, count, go, hello, hooks, leftOutWords, option, 
   stage, tabs, toggleLazy, toggleSlow, wrong} from "./base.js";
 import {keep, keptNumbers} from "./kept.js";
 import {html, sentence} from "./marks.js";
+import {MESSAGES, hueOf, reactedMarks, reactedWords} from "./messages.js";
 import {neighbours, net, text} from "./model.js";
 import {enterFile, markRan, reacts} from "./own.js";
 import {Question} from "./predict.js";
-import {MESSAGES, fileSays, hueOf, keptLine, reactedMarks, reactedWords, sendsQuestion} from "./reactions.js";
+import {fileSays, keptLine, sendsQuestion} from "./reactions.js";
 import {alphaMarks, foundWords, heldEdge, lookWords, queueMarks, waitsWords} from "./run.js";
 import {nameOf} from "./stage.js";
 
