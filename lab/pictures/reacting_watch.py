@@ -17,7 +17,7 @@ from lab.transcripts.reading import words
 from lab.words import counted
 
 
-def look_of(node: ReactingNode) -> ReactedLook:
+def reacted_look(node: ReactingNode) -> ReactedLook:
     """What is shown of a node."""
     return ReactedLook(acts=node.acts, able=node.may_act(), found=node.result())
 
@@ -27,7 +27,7 @@ class Watched:
 
     def __init__(self, state: NetState[ReactingNode]) -> None:
         self.state = state
-        self.start = [look_of(node) for node in state.nodes.values()]
+        self.start = [reacted_look(node) for node in state.nodes.values()]
         self.looks: dict[ReactedLook, int] = {}
         self.texts: dict[str, int] = {}
         self.rows: list[Row] = []
@@ -38,7 +38,7 @@ class Watched:
     def add(self, entry: Entry) -> None:
         """Makes the event of an entry, and writes its row."""
         make(self.state, entry)
-        look = look_of(self.state.nodes[entry.node])
+        look = reacted_look(self.state.nodes[entry.node])
         said = words(entry).split(" ", 2)[2]
         number = self.looks.setdefault(look, len(self.looks))
         self.rows.append(Row(stamp_of(entry), entry.node, number, self.text(said)))
@@ -82,7 +82,7 @@ def draw(name: str, network: Network, program: Reacting, made: list[Entry]) -> s
         ReactionsData(net=net_of(network), run=table),
         title=f"{name}: a run of {program.name}",
         about=(
-            f"{counted(len(made), 'entry', 'entries')}, {counted(len(wires), 'message')}. An entry is a put, a take, or "
-            f"an act: a step of the node's own. {ORDER}"
+            f"{counted(len(made), 'entry', 'entries')}, {counted(len(wires), 'message')}. An entry is a put, a take, "
+            f"or an act: a step of the node's own. {ORDER}"
         ),
     )

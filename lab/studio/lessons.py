@@ -662,8 +662,8 @@ REACTIONS = LessonSteps(
         ),
         TableStep(
             "example=two&tab=adversary&program=snapshot&without=fifo&dare=always",
-            "Two nodes of a bank have 10 coins each, and each pays 3 of them when it likes. Node 1 begins a snapshot: a "
-            "node notes its coins and sends a `marker`, and then notes what comes until the marker of the other one "
+            "Two nodes of a bank have 10 coins each, and each pays 3 of them when it likes. Node 1 begins a snapshot: "
+            "a node notes its coins and sends a `marker`, and then notes what comes until the marker of the other one "
             "comes. Here links don't keep their order, so you may take a message that overtakes another one. Win the "
             "dare: some coins are missing, or are noted twice.",
             SeenExercise(

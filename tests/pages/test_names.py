@@ -10,7 +10,7 @@ from tests.cases import Case
 
 # In how many modules each of them is defined.
 SEVERAL = {
-    **dict.fromkeys("draw".split(), 16),
+    **dict.fromkeys("draw".split(), 17),
     **dict.fromkeys("main".split(), 14),
     **dict.fromkeys("command_line".split(), 11),
     **dict.fromkeys("text_of".split(), 6),

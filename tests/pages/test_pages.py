@@ -256,7 +256,7 @@ class Pages(FilesCase):
             self.note(f"{page}: the kit", "\n\nWithout the kit: " in head, head)
             self.note(f"{page}: its exercise", f"**Exercise {title[0]}.**" in text, text[-200:])
             self.note(f"{page}: answers", "(ANSWERS.md#answers)" in foot, foot)
-        self.same("lessons of the studio", [one.number for one in lessons()], [*range(1, 8)])
+        self.same("lessons of the studio", [one.number for one in lessons()], [*range(1, 9)])
 
     def test_excerpts(self):
         """Excerpts leave lines out, so their lines are looked for one after another."""

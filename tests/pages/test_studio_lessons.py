@@ -182,7 +182,7 @@ def all_ends(made: Sequence[str] = ()) -> Iterator[tuple[Sequence[str], dict[int
 def answers_of_reactions() -> dict[tuple[int, str], int]:
     """Those of lesson 8: list by list, and of some runs by chance in which all ask before any message is taken."""
     ends = list(all_ends())
-    first = set()
+    first: set[int] = set()
     for seed in range(20):
         player = by_hand("triangle", "exclusion")
         player.follow(["3", "2", "1"])
