@@ -34,7 +34,7 @@ READERS = {
         ),
         "explore": (
             "lab.schedules.explore",
-            "plays every order of events, on networks of up to four nodes",
+            "checks each state that any order of events reaches, of up to four nodes",
         ),
     },
     "To judge": {

@@ -6,12 +6,13 @@
     forestplan.check(G, {"Ulm": 1, "Hof": 2})                     # has anybody's plan judged: its greatest channel
     forestplan.sites({"Ulm": (48.4, 10)}, reach=5.5)              # the graph of sites that are near each other
 
-G is a graph of networkx; or a dict with a list or a set of the neighbours of each node, in which each neighbour comes
-once and is a key, too. Nodes are anything that can be a key; directions, weights and edges from a node to itself don't
-count. Only the text that is written here, and what is read of the answer, is not proved.
+G is a graph of networkx, or a dict that gives each node a list or a set of its neighbours. In such a dict each
+neighbour comes once and is a key, too. A node is anything that can be a key. Directions, weights and edges from a node
+to itself are ignored. The programs that make and check plans are proved, as README says. That this package writes G
+right for them, and reads their answers right, is only tested.
 
-What is no graph, no list or no whole number raises TypeError, and what is out of its bounds ValueError; what a program
-refuses raises `Refused`, a ValueError, too. If a program isn't built, FileNotFoundError is raised."""
+A wrong type raises TypeError, and a value out of its range ValueError. If a program refuses a graph or a plan, the
+call raises `Refused`, which is a ValueError, too. If a program isn't built, it raises FileNotFoundError."""
 import forestplan._python  # noqa: F401  (first, since it refuses a Python that is too old)
 
 import tempfile
@@ -59,7 +60,7 @@ def __dir__() -> list[str]:
 
 
 class Message(NamedTuple):
-    """What `sender` says to `receiver` in a pulse: a `word`, as hello, and its `value`."""
+    """A message of `sender` to `receiver` in a pulse: a `word`, such as hello, and its `value`."""
 
     sender: Node
     receiver: Node
@@ -68,7 +69,7 @@ class Message(NamedTuple):
 
 
 class Pulse(NamedTuple):
-    """A round: its number, the name of its phase, its messages, and `states`, (node, words) of what a node came to."""
+    """A round: its number, the name of its phase, its messages, and `states`, pairs (node, words)."""
 
     number: int
     phase: str
@@ -77,8 +78,8 @@ class Pulse(NamedTuple):
 
 
 class Entry(NamedTuple):
-    """An event of a run: `kind` is pulse, put or take; `wire` has the words of what was put or taken, and `other` is
-    the neighbour, or for a pulse its number."""
+    """An event of a run: `kind` is pulse, put or take; `wire` has the words of the message that was put or taken;
+    `other` is the neighbour, or, if the kind is pulse, the number of the pulse."""
 
     stamp: int
     node: Node
@@ -88,9 +89,10 @@ class Entry(NamedTuple):
 
 
 class Refused(ValueError):
-    """What a program refuses, in words: what it means and what to do. `code` is the fault's, as C4, and `nodes` are
-    those that it names. If a plan takes more channels than the licence has, `code` is licence, `nodes` are those whose
-    channel it lacks, and `plan` is the plan that was found, with channels from 1."""
+    """A program refused a graph or a plan. The text says what is wrong and what to do. `code` is the fault's code,
+    such as C4, and `nodes` are the nodes that the fault names. If a plan takes more channels than the licence has,
+    `code` is licence, `nodes` are the nodes whose channel the licence lacks, and `plan` is the plan, with channels
+    from 1."""
 
     def __init__(
         self, words: str, code: str = "", nodes: Iterable[Node] = (), plan: "Plan | None" = None
@@ -145,9 +147,9 @@ class Plan(_Answer, dict[Node, int]):
         return found
 
     def colours(self) -> dict[Node, str]:
-        """{node: "#0072B2"}: the colours of the channels, the same as in all pictures here, as for
-        `networkx.draw(G, nodelist=list(plan), node_color=list(plan.colours().values()), labels=plan)`. Channels 9 to 16
-        have those of 1 to 8, and so on: draw the channels, too."""
+        """{node: "#0072B2"}: the colours of the channels, the same as in all pictures here, as for `networkx.draw(G,
+        nodelist=list(plan), node_color=list(plan.colours().values()), labels=plan)`. Channels 9 to 16 have those of 1
+        to 8, and so on: draw the channels, too."""
         hue: Callable[[int], str] = of_lab("pictures", "palette").channel_hue
         return {node: hue(self.number(node)) for node in self}
 
@@ -174,11 +176,11 @@ def plan(
 ) -> Plan:
     """A plan, in which neighbours have different channels.
 
-    `bars` is a dict with the channels barred at a node, and `licence` has the channels that all may use, in order of
-    preference; without it channels count from 1. In each of so many `passes` the nodes choose their channels again,
-    which mostly takes fewer channels, and never more. With `workers`, 1 to 64, it is found by that many
-    threads without a clock, but by no more than this process may use processors; else on one thread, much
-    sooner. The plan is the same.
+    `bars` is a dict with the channels that are barred at a node. `licence` has the channels that all nodes may use, in
+    order of preference; without a licence channels count from 1. In each of the `passes` all nodes choose their
+    channels again, which usually takes fewer channels, and never more. With `workers`, 1 to 64, that many threads find
+    the plan without a clock, but no more threads than this process may use processors. Without `workers` one thread
+    finds the same plan, in much less time.
 
     >>> plan({"Ulm": ["Aue", "Hof"], "Aue": ["Hof"], "Hof": []}, licence=[36, 40, 44])
     {'Ulm': 40, 'Aue': 44, 'Hof': 36}
@@ -203,13 +205,14 @@ def plan(
 
 
 def check(G: Graph, plan: Mapping[Any, int], bars: Bars = None, licence: Channels = None) -> int:
-    """Has a plan judged, whoever made it: returns how many channels it takes, counted from 1 to the greatest.
+    """Has the proved program judge a plan, yours or ours, and returns its greatest channel, counted from 1.
 
     >>> check({"Ulm": ["Aue"], "Aue": []}, {"Ulm": 2, "Aue": 1})
     2
 
-    Raises `Refused` if the plan isn't proper, lacks a node, has a barred channel, or one that is greater than the most
-    neighbours and the most bars of a node together and one more."""
+    Raises `Refused` if the plan isn't proper, lacks a node, has a barred channel, or a channel above D + B + 1, where
+    D is the largest number of neighbours, and B the largest number of barred channels, of any node.
+    """
     network, order = text_of(G, bars, licence)
     if not isinstance(plan, Mapping):
         raise TypeError(
@@ -226,7 +229,8 @@ def check(G: Graph, plan: Mapping[Any, int], bars: Bars = None, licence: Channel
 
 
 def rounds(G: Graph, bars: Bars = None, licence: Channels = None) -> Rounds:
-    """The rounds of the algorithm, all nodes at once, a `Pulse` each. Of a large graph they are a long list.
+    """The rounds of the algorithm, in which all nodes step together: a list with a `Pulse` for each round. For a large
+    graph the list is long.
 
     >>> [pulse.phase for pulse in rounds({"Ulm": []})][:2]
     ['greet', 'orient']
@@ -249,9 +253,9 @@ def rounds(G: Graph, bars: Bars = None, licence: Channels = None) -> Rounds:
 def transcript(
     G: Graph, bars: Bars = None, workers: int = 2, licence: Channels = None
 ) -> Transcript:
-    """A run without a clock, by worker threads: all events, an `Entry` each, in an order in which they were possible.
-    There are as many threads as `workers` says, 1 to 64, but no more than this process may use processors. Two calls
-    differ, as runs do, unless there is one worker.
+    """A run without a clock, by worker threads: a list with an `Entry` for each event, in an order in which the events
+    were possible. There are as many threads as `workers` says, 1 to 64, but no more than this process may use
+    processors. Two calls give different lists, as two runs differ, unless there is one worker.
 
     >>> transcript({"Ulm": ["Aue"], "Aue": []}, workers=1)[0]
     Entry(stamp=1, node='Ulm', kind='put', other='Aue', wire='payload 0 hello 1')
