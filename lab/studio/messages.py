@@ -141,8 +141,9 @@ class BrokenCall(WithoutRules, OfProgram):
 
 
 @dataclass(frozen=True, kw_only=True)
-class PictureCall(OfProgram):
-    """Asks for a picture; `pulses` are the first and the last one of a run that are drawn, or none."""
+class PictureCall(AfterSteps, OfProgram):
+    """Asks for a picture; `pulses` are the first and the last one of a run that are drawn, or none. The run of nodes
+    without rounds is that of some steps."""
 
     kind: PictureKind
     vertex: int | None = None

@@ -2,20 +2,32 @@
 goes wrong without a rule, and pictures."""
 
 from lab.definitions.nodes import COLOURING, last_pulse
+from lab.definitions.reacting import Reacting
 from lab.definitions.rounds import Rounds
 from lab.fault_codes import Code
 from lab.faults import Fault
+from lab.network import Network
 from lab.networks.codes import told_of
 from lab.networks.plan_text import read_plan
-from lab.pictures import broken_picture, player_page, why_picture
+from lab.pictures import broken_picture, player_page, reacting_picture, why_picture
 from lab.pictures.page_data import RoundsFound
 from lab.pictures.pages import net_of
 from lab.pictures.picture import KINDS as KINDS_OF_PICTURES, Source, Text, drawing
 from lab.pictures.program_rounds import ProgramRounds
+from lab.pictures.transcripts import stamp_of
+from lab.schedules.reacting_stepwise import ReactingStepwise
 from lab.schedules.ruled_rounds import ruled, smallest_wrong
 from lab.schedules.rules import OF_PROGRAMS
 from lab.studio.answers import BadPlan, Broken, GoodPlan, PlanFound, WhyFound
-from lab.studio.asked import MOST_ROUNDS, network_asked, program_asked, rules_asked, vertex_asked
+from lab.studio.asked import (
+    MOST_ROUNDS,
+    MOST_RUN,
+    either_program_asked,
+    network_asked,
+    program_asked,
+    rules_asked,
+    vertex_asked,
+)
 from lab.studio.judges import plan_of, rounds_of, verdict_on
 from lab.studio.messages import (
     BrokenCall,
@@ -125,6 +137,10 @@ def broken(call: BrokenCall, session: Session, _tell: Tell) -> Broken:
 def picture(call: PictureCall, session: Session, _tell: Tell) -> str:
     """A picture, as the command `picture` draws it."""
     network = network_asked(call)
+    if call.kind == "run" and isinstance(
+        reacting := either_program_asked(call, network, session), Reacting
+    ):
+        return picture_of_steps(call, network_asked(call, MOST_RUN), reacting)
     texts: list[Text] = []
     most = KINDS_OF_PICTURES[call.kind].most
     if most and network.nodes > most[0]:
@@ -147,3 +163,11 @@ def picture(call: PictureCall, session: Session, _tell: Tell) -> str:
         vertex=call.vertex,
         pulses=call.pulses or None,
     )
+
+
+def picture_of_steps(call: PictureCall, network: Network, program: Reacting) -> str:
+    """Space and time of a run of nodes without rounds that is made by steps."""
+    player = ReactingStepwise(network, program)
+    player.follow(call.steps.split("_"))
+    made = sorted(player.made, key=lambda entry: (stamp_of(entry), entry.node))
+    return reacting_picture.draw(network.name, network, program, made)

@@ -206,6 +206,22 @@ class OwnFiles(Page):
             self.sees(f"{tab} says why", "wrong.textContent.startsWith('echo has no rounds: ')")
             self.reads("without a text", "document.getElementById('code').hidden", True)
 
+    def test_picture(self) -> None:
+        """The run that was made is drawn."""
+        self.open(ECHO)
+        self.take("2-1")
+        self.value(
+            "URL.createObjectURL = (make => blob => { blob.text().then(words => { window.svg = words; }); "
+            "return make(blob); })(URL.createObjectURL.bind(URL))"
+        )
+        self.click_on("#drawnrun")
+        self.sees(
+            "a picture",
+            "studio.seen.tab === 'pictures' && window.svg && window.svg.includes('class=\"message\"')",
+        )
+        self.reads("its messages", "window.svg.split('class=\"message\"').length - 1", 3)
+        self.reads("no pulses are asked for", "document.getElementById('ofrun').hidden", True)
+
     def test_predict(self) -> None:
         """The question is what a node sends in its next step, and then it is seen."""
         self.open(ECHO + "&predict=1&node=2")

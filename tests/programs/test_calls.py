@@ -40,6 +40,7 @@ GOOD: list[tuple[str, dict]] = [
     ("why", {"network": EDGE, "name": "two", "vertex": 2}),
     ("broken", RUN | {"program": "matching", "without": "partner"}),
     ("picture", RUN | {"kind": "results", "vertex": 1, "forest": 0, "pulses": []}),
+    ("picture", RUN | {"kind": "run", "program": "echo", "steps": "2-1"}),
     *(
         ("picture", RUN | {"program": "colouring", "kind": kind, "vertex": 1, "forest": 0})
         for kind in ("plan", "rounds", "bits", "why")

@@ -100,6 +100,10 @@ def sample(name: str) -> str:
     return os.path.join(TOP, "examples", "algorithms", f"{name}.py")
 
 
+def picture_of(session: Session, **fields: object) -> str:
+    return str(CALLS["picture"].answer(fields, session, lambda done=0, of=0, part=None: None))
+
+
 def answer(session: Session, name: str, **fields: object) -> dict:
     """What a call is answered, as the page has it."""
     found = CALLS[name].answer(fields, session, lambda done=0, of=0, part=None: None)
@@ -366,6 +370,16 @@ class OwnFiles(FilesCase):
         failed = {"network": ROW, "program": "fails", "said": "nothing", "step": "1-3"}
         found = answer(session, "sends", **failed)
         self.note("what fails", found["right"] and "`on_hi` fails: " in found["why"], found)
+
+    def test_picture(self) -> None:
+        """Space and time of a run that is made by steps: an arrow for each message that has been sent."""
+        session = session_of(sample("echo"))
+        asked = {"network": TRIANGLE, "program": "echo", "kind": "run"}
+        for steps, messages in (("", 2), ("2-1", 3), ("2-1_3-2", 4)):
+            svg = picture_of(session, **asked, steps=steps)
+            self.same(f"{steps}: arrows", svg.count('class="message"'), messages)
+        said = self.refused(session, "picture", **asked, steps="1")
+        self.note("a step that isn't possible", "isn't possible there" in said, said)
 
     def test_list(self) -> None:
         """The list of events is one that is played again, and `act` is its word."""

@@ -358,7 +358,7 @@ interface WhyCall extends OfNetwork {
 
 interface BrokenCall extends WithoutRules, OfProgram {}
 
-interface PictureCall extends OfProgram {
+interface PictureCall extends AfterSteps, OfProgram {
   kind: PictureKind;
   vertex?: number | null;
   forest?: number | null;

@@ -5,6 +5,8 @@ import {all, announce, asks, by, count, endsOf, go, hang, hello, hooks, programN
 import {blank, channelCircle, coded, html, targetOf} from "./marks.js";
 import * as model from "./model.js";
 import {change, net, neighbours, text} from "./model.js";
+import {reacts} from "./own.js";
+import {steps} from "./steps_tab.js";
 
 /** @type {{plan: PlanFound | null, fresh: boolean}} */
 export const drawn = {plan: null, fresh: false};
@@ -289,7 +291,7 @@ const KINDS = {
   plan: "The plan.", results: "What the nodes have found at the end.",
   rounds: "A row for each node; of the colouring, for each node of each forest.",
   bits: "One node above its parent, digit by digit.", why: "What decided the channel of the chosen node.",
-  run: "Space and time of the run of the tab No clock."};
+  run: "Space and time of the run of the tab No clock; of nodes without rounds, of the steps of the tab Adversary."};
 const OF_RUN = ["run"], OF_NODE = ["why", "bits"];
 // Those that draw any program.
 const OF_PROGRAM = ["results", "rounds", ...OF_RUN];
@@ -307,7 +309,7 @@ function askPicture() {
   by("kindsaid").textContent = KINDS[kind];
   announce(KINDS[kind]);
   by("ofnode").hidden = !OF_NODE.includes(kind);
-  by("ofrun").hidden = !OF_RUN.includes(kind);
+  by("ofrun").hidden = !OF_RUN.includes(kind) || reacts();
   const program = OF_PROGRAM.includes(kind) ? programNamed() : "colouring";
   by("ofprogram").hidden = !OF_PROGRAM.includes(kind);
   showOptions();
@@ -318,11 +320,12 @@ function askPicture() {
   by("vertex").value = String(seen.node || "");
   const asked = kind;
   tried("picture", "drawing", async () => {
-    const isOfRun = OF_RUN.includes(kind), transcript = isOfRun ? await tabs.run.transcript() : null;
+    const isOfSteps = reacts() && OF_RUN.includes(kind), isOfRun = OF_RUN.includes(kind) && !isOfSteps;
+    const transcript = isOfRun ? await tabs.run.transcript() : null, made = isOfSteps ? steps.made.join("_") : null;
     // Another picture has been asked for since.
     if (kind !== asked || isOfRun && !transcript) return;
     const got = await call("picture", {kind, network: text(), name: net.name, program, vertex: vertexOf(kind),
-      transcript, forest: tabs.rounds.forest(), pulses: isOfRun ? pulses : null});
+      transcript, forest: tabs.rounds.forest(), pulses: isOfRun ? pulses : null, steps: made});
     if (!got) return;
     hang(got, kind);
     by("keep").href = URL.createObjectURL(new Blob([got], {type: "image/svg+xml"}));

@@ -305,6 +305,7 @@ tabs.adversary = {
 function leaveWhatIsOfOthers(rules) {
   const isWithoutRounds = reacts();
   [by("instep"), by("instepsaid"), by("handoverbox")].forEach(one => { one.hidden = isWithoutRounds; });
+  by("drawnbox").hidden = !isWithoutRounds;
   by("listfor").textContent = isWithoutRounds ? `forestlab simulate --program ${seen.program}.py --events` : "forestplay events";
   all(".noown").forEach(one => { one.hidden = Object.keys(hello().own).some(name => !hello().samples.includes(name)); });
   steps.without = rulesOf(rules, steps.without);
@@ -330,6 +331,7 @@ by("chance20").onclick = () => goOn({by: 20, seed: seed()});
 by("instep").onclick = () => goOn({in_step: true});
 by("anew").onclick = () => from([]);
 by("handover").onclick = () => { by("made").value = "seed"; go("run", {steps: steps.made, at: 0}); };
+by("drawnrun").onclick = () => go("pictures", {kind: "run"});
 by("playlist").onclick = () => ask({list: by("list").value});
 by("program3").onchange = () => { seen.program = by("program3").value; tabs.adversary.enter({fresh: true}); };
 by("predicts2").onchange = () => { steps.predicts = by("predicts2").checked; show(); hooks.link(); };

@@ -241,6 +241,8 @@ interface Elements {
   anew: HTMLButtonElement;
   instepsaid: HTMLElement;
   predicts2box: HTMLElement;
+  drawnbox: HTMLElement;
+  drawnrun: HTMLButtonElement;
   handoverbox: HTMLElement;
   listfor: HTMLElement;
   handover: HTMLButtonElement;
