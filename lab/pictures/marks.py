@@ -1,10 +1,11 @@
 """The marks that the pictures share: vertices by their channel or colour, edges and arrows between them, legends."""
+import unicodedata
 from collections.abc import Collection
 from copy import copy
 from math import sqrt
 from typing import TypeVar
 
-from lab.network import Edge, Network
+from lab.network import Network
 from lab.pictures.palette import (
     BAR_SIZES,
     FOREST_COLOURS,
@@ -22,7 +23,7 @@ from lab.pictures.palette import (
     size_in,
     text_on,
 )
-from lab.pictures.places import OF_CIRCLES, Places, bends, label_places, middle, moved, spaced
+from lab.pictures.places import OF_CIRCLES, Bends, Places, bends, label_spots, middle, moved, spaced
 from lab.pictures.svg import Svg
 
 # Maps of more nodes than these are wider, and of more than the second have smaller circles and straight edges.
@@ -156,14 +157,15 @@ class Map:
         places, self.radius = spaced(places, width, height, margin, radius, least, apart)
         self.network, self.places = network, moved(places, left, top)
         self.labels: Places = {}
-        self.bend: dict[Edge, float] = {}
+        self.bend: Bends = {}
         if network.nodes <= LARGE:
             self.bend = bends(self.places, network.edges, self.radius + 1)
 
     def label(self, distance: float, boxes: Places) -> None:
-        self.labels = label_places(
+        spots = label_spots(
             self.places, self.network.edges, self.bend, distance, boxes, self.radius + 2
         )
+        self.labels = {v: spot.place for v, spot in spots.items()}
 
     def at(self: Drawing, left: float, top: float) -> Drawing:
         """The same map elsewhere."""
@@ -193,7 +195,7 @@ class Map:
         ex, ey = ex / length, ey / length
         tip_x, tip_y = x2 - ex * distance, y2 - ey * distance
         end_x, end_y = tip_x - ex * head * 0.8, tip_y - ey * head * 0.8
-        if self.bend.get((min(a, b), max(a, b)), 0):
+        if (min(a, b), max(a, b)) in self.bend:
             svg.path(["M", x1, y1, "Q", mx, my, end_x, end_y], colour, width, mark=mark)
         else:
             svg.line(x1, y1, end_x, end_y, colour, width, mark=mark)
@@ -215,14 +217,49 @@ def wire_arrow(svg: Svg, x1: float, y1: float, x2: float, y2: float, kind: str) 
 
 # The most letters of a vertex's name that are written beside its number, the last one an ellipsis if there are more.
 LONGEST_NAME = 12
+# Letters of no width that shape or join those beside them, as in Persian and in signs that are made of several.
+JOINERS = "\u200c\u200d"
 
 
 def short_name(network: Network, v: int) -> str:
     """The name that the network's text gives a vertex, as there is room for it; `` if it gives none."""
-    name = "".join(
-        letter if letter.isprintable() else "\ufffd" for letter in network.names.get(v, "")
+    return cut_name(network.names.get(v, ""))
+
+
+def cut_name(name: str) -> str:
+    """A name as there is room for it.
+
+    >>> cut_name("Frankfurt am Main"), cut_name("a\\x1bb")
+    ('Frankfurt a…', 'a\ufffdb')
+    """
+    letters = whole_letters(
+        "".join(one if one.isprintable() or one in JOINERS else "\ufffd" for one in name)
     )
-    return name if len(name) <= LONGEST_NAME else name[: LONGEST_NAME - 1].rstrip() + "…"
+    if len(letters) <= LONGEST_NAME:
+        return "".join(letters)
+    return "".join(letters[: LONGEST_NAME - 1]).rstrip() + "…"
+
+
+def whole_letters(text: str) -> list[str]:
+    """The letters of a text, each with the marks and the joined signs that belong to it, so that none is cut apart.
+
+    >>> whole_letters("e\\u0301a")
+    ['é', 'a']
+    """
+    letters: list[str] = []
+    for one in text:
+        is_joined = bool(letters) and letters[-1].endswith(JOINERS[1])
+        belongs = one in JOINERS or unicodedata.category(one).startswith("M") or is_skin(one)
+        if letters and (belongs or is_joined):
+            letters[-1] += one
+        else:
+            letters.append(one)
+    return letters
+
+
+def is_skin(letter: str) -> bool:
+    """Whether it changes the colour of the sign before it."""
+    return "\U0001f3fb" <= letter <= "\U0001f3ff"
 
 
 def dash_of(kind: str) -> str | None:

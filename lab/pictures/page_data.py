@@ -34,8 +34,9 @@ def as_object(value: object) -> dict[str, object]:
 
 
 @dataclass(frozen=True)
-class NetNode:
-    """A node of a network. `id` has the digits of its identifier, or nothing if it is its own number."""
+class PlainNode:
+    """A node of a network, as it is stated. `id` has the digits of its identifier, or nothing if it is its own
+    number."""
 
     x: float
     y: float
@@ -45,14 +46,24 @@ class NetNode:
 
 
 @dataclass(frozen=True)
+class NetNode(PlainNode):
+    """A node as a page draws it. `label` is what is written after its number: its name and its identifier, cut if they
+    are long. It is written on the `side` of the node, one of SIDES."""
+
+    label: str
+    side: int
+
+
+@dataclass(frozen=True)
 class Net:
-    """A network: its edges (v, w) count nodes from 1, the lower node first, and ascend. `bends` says of each edge how
-    far it is bent, as places.py does, in the measure of the nodes' places."""
+    """A network: its edges (v, w) count nodes from 1, the lower node first, and ascend. `bends` says of each edge by
+    how much its middle is moved aside, in the measure of the nodes' places; it has None for one that is straight.
+    """
 
     name: str
     nodes: Sequence[NetNode]
     edges: Collection[Edge]
-    bends: Sequence[float]
+    bends: Sequence[tuple[float, float] | None]
 
 
 @dataclass(frozen=True)

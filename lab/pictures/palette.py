@@ -39,6 +39,8 @@ CHANNEL_SIZES, SQUARE_SIZES, BAR_SIZES = (1.12, 0.92), (1.1, 1.1, 0.8), (1.2, 1.
 IN_RING = 0.85
 # How wide a ring is: in radii, and at least.
 RING_WIDTH, LEAST_RING = 0.25, 2
+# Half the width of an arrow's head, in its lengths.
+HEAD = 0.42
 # The most barred channels of a node that are drawn.
 MOST_BARS = 4
 # A number of more digits than these is written as the number of its binary digits.
@@ -130,6 +132,7 @@ def page_marks() -> dict[str, object]:
         "LEAST_RING": LEAST_RING,
         "SQUARE_SIZES": SQUARE_SIZES,
         "BAR_SIZES": BAR_SIZES,
+        "HEAD": HEAD,
         "MOST_BARS": MOST_BARS,
         "MOST_DIGITS": MOST_DIGITS,
     }

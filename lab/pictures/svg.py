@@ -5,7 +5,7 @@ from contextlib import contextmanager
 from math import sqrt
 from textwrap import wrap
 
-from lab.pictures.palette import FONT, INK, PAPER, SOFT
+from lab.pictures.palette import FONT, HEAD, INK, PAPER, SOFT
 
 
 def written(number: str | float) -> str:
@@ -253,7 +253,7 @@ class Svg:
         """An arrow's head with its tip at x, y, pointing along dx, dy."""
         length = sqrt(dx * dx + dy * dy) or 1
         dx, dy = dx / length, dy / length
-        back_x, back_y, half = x - dx * size, y - dy * size, size * 0.42
+        back_x, back_y, half = x - dx * size, y - dy * size, size * HEAD
         self.path(
             [
                 "M",

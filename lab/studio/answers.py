@@ -196,10 +196,13 @@ class FileUnsaid:
 
 
 @dataclass(frozen=True)
-class Bends:
-    """How far each edge of a network is bent, as a network has it, too."""
+class DrawingFound:
+    """How a network is drawn, as a network has it, too: how its edges are bent, and of each node the label and its
+    side."""
 
-    bends: Sequence[float]
+    bends: Sequence[tuple[float, float] | None]
+    labels: Sequence[str]
+    sides: Sequence[int]
 
 
 @dataclass(frozen=True)

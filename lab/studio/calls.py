@@ -37,7 +37,7 @@ CALLS = {
     "read": answered(messages.ReadCall, networks.file_read),
     "make": answered(messages.MakeCall, networks.make),
     "tidy": answered(messages.TidyCall, networks.tidy),
-    "bends": answered(messages.BendsCall, networks.bent),
+    "drawing": answered(messages.DrawingCall, networks.drawing_found),
     "plan": answered(messages.PlanCall, rounds.plan),
     "check": answered(messages.CheckCall, rounds.check),
     "rounds": answered(messages.RoundsCall, rounds.rounds),

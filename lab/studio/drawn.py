@@ -11,8 +11,8 @@ from lab.fault_codes import Code
 from lab.faults import Fault
 from lab.networks.fields import shown
 from lab.networks.network_text import MAX_CHANNEL
-from lab.pictures.page_data import Net, NetNode
-from lab.pictures.places import page_bends
+from lab.pictures.page_data import Net, PlainNode
+from lab.pictures.pages import net_at
 
 PLACE = re.compile(r"(-?[0-9]{1,6})\.(-?[0-9]{1,6})")
 # A node by its number, and what is said of it.
@@ -39,9 +39,8 @@ class Drawn:
     edges: list[tuple[int, int]]
 
     def for_page(self) -> Net:
-        nodes = [NetNode(one.x, one.y, one.id, one.name, one.bars) for one in self.nodes]
-        places = {v: (float(one.x), float(one.y)) for v, one in enumerate(self.nodes, 1)}
-        return Net("", nodes, self.edges, page_bends(places, self.edges))
+        nodes = [PlainNode(one.x, one.y, one.id, one.name, one.bars) for one in self.nodes]
+        return net_at("", nodes, self.edges)
 
     def text(self) -> str:
         """In the DIMACS format, without places and names."""

@@ -102,8 +102,8 @@ class TidyCall(OfNetwork):
 
 
 @dataclass(frozen=True, kw_only=True)
-class BendsCall(OfNetwork):
-    """Asks how far the edges are bent, after a change or when a node is let go."""
+class DrawingCall(OfNetwork):
+    """Asks how a network is drawn, after a change or when a node is let go."""
 
 
 @dataclass(frozen=True, kw_only=True)

@@ -17,15 +17,15 @@ from lab.networks.reading import read_any
 from lab.networks.forms import BY_MARK, COMPRESSED, Unsaid, form_of
 from lab.networks.texts import text_of
 from lab.pictures.page_data import Net
-from lab.pictures.pages import net_of
-from lab.pictures.places import page_bends, places_of
+from lab.pictures.pages import net_at, net_of, plain_nodes
+from lab.pictures.places import places_of
 from lab.programs import TOP
 from lab.schedules.policies import POLICIES
 from lab.schedules.rules import OF_LINKS, OF_PROGRAMS, OF_SCHEDULES, Rule
 from lab.studio.address import Address, Here, NAMES, pairs_of, place_opened, read_values
 from lab.studio.answers import (
-    Bends,
     Choice,
+    DrawingFound,
     FileRead,
     FileUnsaid,
     FoundAddress,
@@ -39,8 +39,8 @@ from lab.studio.dares import DARES
 from lab.studio.drawn import drawn_of
 from lab.studio.lessons import LECTURE, lessons
 from lab.studio.messages import (
-    BendsCall,
     AddressCall,
+    DrawingCall,
     ExampleCall,
     HelloCall,
     MakeCall,
@@ -222,10 +222,12 @@ def by_shape(kind: str, nodes: int, *_: int) -> dict[int, tuple[float, float]]:
     }
 
 
-def bent(call: BendsCall, session: Session, _tell: Tell) -> Bends:
-    """The bends of a network whose nodes are where the page has them."""
+def drawing_found(call: DrawingCall, session: Session, _tell: Tell) -> DrawingFound:
+    """How a network is drawn whose nodes are where the page has them."""
     network = network_asked(call)
-    return Bends(page_bends(places_of(network), network.edges))
+    net = net_at(network.name, plain_nodes(network, places_of(network)), network.edges)
+    labels = [node.label for node in net.nodes]
+    return DrawingFound(net.bends, labels, [node.side for node in net.nodes])
 
 
 def tidy(call: TidyCall, session: Session, _tell: Tell) -> Net:

@@ -336,10 +336,7 @@ class Drawn(Page):
             ("example=two&tab=adversary", "node 1: pulse 0, waits for ack of 2; safe of 2"),
             ("example=two&tab=check&plan=0_2", "node 1: no channel"),
             ("example=path&tab=rounds&program=layers&root=3&at=2", "node 1: pulse 2, layer 2 by 0"),
-            (
-                "net=0.0_90.0~1-2~n1-%E2%80%AEabc&tab=check",
-                "node 1 \u2068\u202eabc\u2069: no channel",
-            ),
+            ("net=0.0_90.0~1-2~n1-%E2%80%AEabc&tab=check", "node 1 \ufffdabc: no channel"),
         ):
             self.go_to(words)
             self.sees(words, f"{label} === {json.dumps(wanted)}")

@@ -5,7 +5,8 @@ from itertools import combinations, product
 
 from lab.networks.sources import network_bytes
 from lab.networks.network_text import network_of
-from lab.pictures.pages import net_of
+from lab.pictures.page_data import PlainNode
+from lab.pictures.pages import net_at, net_of, page_label
 from lab.pictures.places import Places, page_bends
 from lab.schedules import rules
 from tests.cases import examples
@@ -90,21 +91,72 @@ def overlaps(pairs, most):
 class Bends(PictureCase):
     def test_bends_of_pages(self):
         """By hand: circles have at most 200 / 16 = 12.5 as their radius. An edge of length 200 that passes a third node
-        nearer than that is bent by 0.75 * 12.5 + 0.045 * 200; one that passes at 60, by nothing."""
+        nearer than that is bent by 0.75 * 12.5 + 0.045 * 200 = 18.375 upwards, which is the left of one to the right.
+        Its middle is moved by twice that. One that passes at 60 isn't bent."""
         edges = [(1, 2), (1, 3), (2, 3)]
-        for y, bend in ((100, 18.4), (106, 18.4), (160, 0)):
+        for y, bent in ((100, {(1, 3): (0, -36.75)}), (106, {(1, 3): (0, -36.75)}), (160, {})):
             places: Places = {1: (100, 100), 2: (200, y), 3: (300, 100)}
-            self.same(f"node 2 at {y}", page_bends(places, edges), [0, bend, 0])
-        self.same("no node", page_bends({}, []), [])
+            self.same(f"node 2 at {y}", page_bends(places, edges), bent)
+        self.same("no node", page_bends({}, []), {})
         crowd: Places = {v: (v, 0) for v in range(1, 1003)}
         far = [(1, v) for v in range(3, 1003)]
-        self.same("too many edges to look at", page_bends(crowd, far), [0] * 1000)
-        self.same("too many nodes to look at", page_bends(crowd, [(1, 3)]), [0])
+        self.same("too many edges to look at", page_bends(crowd, far), {})
+        self.same("too many nodes to look at", page_bends(crowd, [(1, 3)]), {})
 
     def test_a_network_has_its_bends(self):
-        """The data of a page: in its box of 1,000 by 700 the row is 860 wide, so 0.75 * 860 / 16 + 0.045 * 860."""
+        """The data of a page: in its box of 1,000 by 700 the row is 860 wide, so the middle of the long edge is moved
+        by 2 * (0.75 * 860 / 16 + 0.045 * 860) = 158.025."""
         row = b"c at 1 0 0\nc at 2 1 0\nc at 3 2 0\np edge 3 3\ne 1 2\ne 1 3\ne 2 3\n"
-        self.same("a row", net_of(network_of(row)).bends, [0, 79, 0])
+        self.same("a row", net_of(network_of(row)).bends, [None, (0, -158), None])
+
+
+class Labels(PictureCase):
+    def test_sides(self):
+        """By hand: in a row from the left to the right each label is above its node. A node whose edges leave room only
+        below it and at its lower right has it at the lower right, or if it has barred channels, at neither.
+        """
+        row = [PlainNode(x, 0, "", "", []) for x in (0, 300, 600)]
+        sides = [node.side for node in net_at("", row, [(1, 2), (2, 3)]).nodes]
+        self.note("above", {*sides} <= {14, 15, 0, 1, 2}, sides)
+        around = [(-300, 0), (-212, -212), (0, -300), (212, -212), (300, 0), (-212, 212)]
+        rows: list[tuple[list[int], set[int]]] = [
+            ([], {5, 6}),
+            ([1], {0, 1, 2, 3, 4, 10, 11, 12, 13, 14, 15}),
+        ]
+        for bars, wanted in rows:
+            middle = PlainNode(0, 0, "", "", bars)
+            nodes = [middle, *(PlainNode(x, y, "", "", []) for x, y in around)]
+            side = net_at("", nodes, [(1, w) for w in range(2, 8)]).nodes[0].side
+            self.note(f"with {len(bars)} bars", side in wanted, side)
+        fan = [PlainNode(0, 0, "", "", []), *(PlainNode(x, y, "", "", []) for x, y in around[:5])]
+        lower = fan + [PlainNode(212, 212, "", "", []), PlainNode(-212, 212, "", "", [])]
+        side = net_at("", lower, [(1, w) for w in range(2, 9)]).nodes[0].side
+        self.note("not below, where it has most room", side not in (7, 8, 9), side)
+        self.same("no node", net_at("", [], []).nodes, [])
+        crowd = [PlainNode(v, v % 7, "", "", []) for v in range(1001)]
+        self.same("too many to look at", {one.side for one in net_at("", crowd, []).nodes}, {2})
+
+    def test_words(self):
+        """The name has at most 12 letters, the identifier 8 digits; what belongs to a letter isn't cut off it."""
+        rows = (
+            ("", "", ""),
+            ("Oslo", "17", "Oslo (17)"),
+            ("", "3", ""),
+            ("Frankfurt am Main", "", "Frankfurt a…"),
+            ("", "12345678", "(12345678)"),
+            ("", "123456789", "(123456…)"),
+            ("e\u0301" * 13, "", "e\u0301" * 11 + "…"),
+            ("\U0001f469\u200d\U0001f680" * 12, "", "\U0001f469\u200d\U0001f680" * 12),
+            ("\U0001f44b\U0001f3fd" * 13, "", "\U0001f44b\U0001f3fd" * 11 + "…"),
+            ("a\x1b\u202eb", "", "a\ufffd\ufffdb"),
+            ("\u0627\u0628", "4", "\u2068\u0627\u0628\u2069 (4)"),
+        )
+        for name, identifier, wanted in rows:
+            self.same(
+                ascii((name, identifier)),
+                page_label(3, PlainNode(0, 0, identifier, name, [])),
+                wanted,
+            )
 
 
 class Layout(PictureCase):

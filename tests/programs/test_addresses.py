@@ -161,8 +161,10 @@ def read_back(place):
     opened.address.refuse()
     words = json.dumps([opened.network, opened.address.values], default=as_object)
     found = json.loads(words)
-    # How its edges are bent isn't in an address.
+    # How it is drawn isn't in an address.
     found[0].pop("bends")
+    for node in found[0]["nodes"]:
+        del node["label"], node["side"]
     return found[0], {name: value for name, value in found[1].items() if name != "net"}
 
 

@@ -32,7 +32,7 @@ GOOD: list[tuple[str, dict]] = [
     ("make", {"kind": "random", "sizes": {"nodes": 5, "edges": "4"}, "seed": 1}),
     ("tidy", {"network": EDGE, "name": "two"}),
     ("plan", {"network": EDGE, "name": "two"}),
-    ("bends", {"network": EDGE, "name": "two"}),
+    ("drawing", {"network": EDGE, "name": "two"}),
     ("check", {"network": EDGE, "name": "two", "plan": [1, 2]}),
     ("rounds", RUN),
     ("rounds", RUN | {"program": "colouring"}),

@@ -1,6 +1,6 @@
 // Written by `python3 build page-types` from lab/pictures/page_data.py.
 
-interface NetNode {
+interface PlainNode {
   x: number;
   y: number;
   id: string;
@@ -8,11 +8,16 @@ interface NetNode {
   bars: number[];
 }
 
+interface NetNode extends PlainNode {
+  label: string;
+  side: number;
+}
+
 interface Net {
   name: string;
   nodes: NetNode[];
   edges: [number, number][];
-  bends: number[];
+  bends: ([number, number] | null)[];
 }
 
 interface AnyPulse {

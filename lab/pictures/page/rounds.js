@@ -2,7 +2,6 @@
 import {WIRES} from "./hues.js";
 import {FADED, HALO, blank, channelCircle, colourSquare, discOf, html, mark, pill, pillWidth, resultWords, short,
   words} from "./marks.js";
-import {nameOf} from "./stage.js";
 
 const ORIENT = 1, SEED = 2, LAST_BIT_STEP = 6, LAST_COLOUR = 12;
 // Above so many messages they are dots, this wide.
@@ -180,7 +179,7 @@ export class RoundsFilm {
       above: () => quiet ? [] : this.messages(stage, p, at - p, forest, {why, node}),
       below: Boolean(pulse.results && !this.channels || pulse.step && !plain),
       says: v => `pulse ${p}, ${this.words(v, p, shown)}`,
-      label: pulse.results && !this.channels ? v => nameOf(this.net, v).slice(String(v).length).trim()
+      label: pulse.results && !this.channels ? v => this.net.nodes[v - 1].label
         : quiet ? v => stage.radius < 9 ? "" : String(v) : null,
       ring: v => v === node ? "var(--glow)" : names.has(v) ? "var(--edge)" : null,
       around: v => pulse.results ? pulse.new.includes(v) ? LIT * stage.radius : 0

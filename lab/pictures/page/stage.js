@@ -1,11 +1,11 @@
 // A picture of a network: where things are on the screen, what is drawn, and what is under the pointer.
-import {MOST_BARS} from "./hues.js";
+import {HEAD, LITTLE, MOST_BARS, SHORT, SIDES} from "./hues.js";
 import {HALO, barMark, mark, patch, words} from "./marks.js";
 
-const RING = 7, LETTERS = new Intl.Segmenter(), TURNS = /[\u0590-\u08FF\u200F\u202A-\u202E\u2066-\u2069]/;
+const RING = 7;
 
 export class Stage {
-  // `net` has nodes {x, y, id, name, bars} from 0, and edges [v, w] from 1.
+  // `net` has nodes {x, y, id, name, bars, label, side} from 0, and edges [v, w] from 1.
   /** @param {SVGSVGElement} svg @param {Net} net */
   constructor(svg, net) {
     this.svg = svg;
@@ -28,16 +28,13 @@ export class Stage {
     this.key = "";
     /** @type {unknown[]} */
     this.still = [];
-    /** @type {Map<string, number>} */
+    /** @type {Map<string, Point | null>} */
     this.bends = new Map();
-    /** @type {Spot[]} */
-    this.spots = [];
-    this.spotsOf = "";
+    /** @type {number[][]} */
+    this.close = [];
     // How far what is around a node goes beyond its circle.
     /** @type {(v: number) => number} */
     this.around = () => 0;
-    /** @type {number[][]} */
-    this.close = [];
     patch(svg, Array.from({length: 4}, () => mark("g", {}, [])));
     const [edges, arrows, nodes, over] = svg.children;
     this.edges = edges;
@@ -134,13 +131,12 @@ export class Stage {
   // Edges that pass a third node too near are bent, as the network's data say.
   measure() {
     const {nodes, edges, bends} = this.net;
-    // While a node is dragged the edges keep their bends, and the labels their sides.
+    // While a node is dragged the edges keep their bends.
     if (this.isDragged()) { this.still = []; return; }
-    const now = JSON.stringify([nodes.map(n => [n.x, n.y]), edges, bends, this.to, this.wide, this.apart, this.largest]);
+    const now = JSON.stringify([nodes.map(n => [n.x, n.y, n.label, n.side]), edges, bends, this.to, this.wide, this.apart, this.largest]);
     if (now === this.key) return;
     this.still = [];
     this.key = now;
-    this.spotsOf = "";
     this.close = nodes.map(() => []);
     edges.forEach(([v, w]) => { this.close[v - 1].push(w); this.close[w - 1].push(v); });
     this.close.forEach(list => list.sort((a, b) => a - b));
@@ -153,19 +149,19 @@ export class Stage {
     // Numbers have room if there is any, rather than wires.
     const room = Math.max(least / this.apart, Math.min(8, least / 2.4));
     this.radius = Math.max(5, Math.min(this.largest, this.wide / 16, room));
-    this.bends = new Map(edges.map(([a, b], k) => [a + " " + b, (bends[k] || 0) * this.to.scale]));
+    this.bends = new Map(edges.map(([a, b], k) => [a + " " + b, bends[k] || null]));
   }
   isDragged() {
     return this.dragged > 0 && this.groups.length === this.net.nodes.length && this.lines.length === this.net.edges.length;
   }
+  // By how much the middle of an edge is moved aside, in the measure of the network, or null if it is straight.
   /** @param {number} a @param {number} b */
-  bend(a, b) { return this.bends.get(Math.min(a, b) + " " + Math.max(a, b)) || 0; }
+  bend(a, b) { return this.bends.get(Math.min(a, b) + " " + Math.max(a, b)) || null; }
   // The point towards which the edge from a to b is drawn.
   /** @param {number} a @param {number} b @returns {Point} */
   middle(a, b) {
-    const by = this.bend(a, b) * (a < b ? 1 : -1), dx = this.X(b) - this.X(a), dy = this.Y(b) - this.Y(a);
-    const length = Math.hypot(dx, dy) || 1;
-    return [(this.X(a) + this.X(b)) / 2 + dy / length * by * 2, (this.Y(a) + this.Y(b)) / 2 - dx / length * by * 2];
+    const [dx, dy] = this.bend(a, b) || [0, 0];
+    return [(this.X(a) + this.X(b)) / 2 + dx * this.to.scale, (this.Y(a) + this.Y(b)) / 2 + dy * this.to.scale];
   }
   /** @param {number} a @param {number} b @param {number} t @returns {Point} */
   along(a, b, t) {
@@ -192,66 +188,22 @@ export class Stage {
   /** @param {number} a @param {number} b @param {string} stroke @param {number} width @param {string} kind @returns {Mark[]} */
   arrow(a, b, stroke, width, kind = "arrow") {
     const m = this.middle(a, b), dx = this.X(b) - m[0], dy = this.Y(b) - m[1], far = Math.hypot(dx, dy) || 1;
-    const ex = dx / far, ey = dy / far, size = Math.max(6, Math.min(10, this.radius * 0.6)), half = size * 0.45;
+    const ex = dx / far, ey = dy / far, size = Math.max(6, Math.min(10, this.radius * 0.6)), half = size * HEAD;
     const end = this.radius + this.around(b) + 2, tx = this.X(b) - ex * end, ty = this.Y(b) - ey * end;
     const bx = tx - ex * size, by = ty - ey * size;
     return [this.line(a, b, {stroke, "stroke-width": width, "data-mark": kind}), mark("path", {fill: stroke,
       d: `M${tx} ${ty}L${bx - ey * half} ${by + ex * half}L${bx + ey * half} ${by - ex * half}Z`})];
   }
-  // Where the labels have room: for each node, one after another, of 16 directions one in which its label covers no
-  // other node and no label before it, and of these the one farthest from its edges.
-  /** @param {string[]} said @param {number} size @param {number[][]} taken @returns {Spot[]} */
-  labelSpots(said, size, taken) {
-    const key = JSON.stringify([said, taken]);
-    if (this.spotsOf === key) return this.spots;
-    this.spotsOf = key;
-    /** @type {Box[]} */
-    const placed = [];
-    this.spots = said.map((words_, k) => {
-      const v = k + 1, wide = words_.length * size * 0.3;
-      const spots = this.room(v, taken[k]).map(([least, turn]) =>
-        ({least, turn, ...this.labelAt(v, turn, wide, size, taken[k])}));
-      /** @type {(spot: Spot) => number} */
-      const cost = spot => this.covered(v, spot, wide, size, placed) - 0.01 * spot.least;
-      const best = spots.reduce((one, other) => cost(other) < cost(one) - 1e-9 ? other : one);
-      if (words_) placed.push([best.x, best.y, wide, size / 2]);
-      return best;
-    });
-    return this.spots;
-  }
-  // [how far it is from the node's edges, direction] of 16 directions, the usual ones first.
-  /** @param {number} v @param {number[]} taken @returns {[number, number][]} */
-  room(v, taken) {
-    const angles = this.near(v).map(w => {
-      const m = this.middle(v, w);
-      return Math.atan2(m[1] - this.Y(v), m[0] - this.X(v));
-    });
-    return [12, 4, 11, 13, 3, 5, 10, 14, 2, 6, 0, 8, 1, 7, 9, 15].map((k, order) => {
-      const turn = k * Math.PI / 8, least = Math.min(Math.PI, ...angles.concat(taken).map(other =>
-        Math.abs(Math.atan2(Math.sin(turn - other), Math.cos(turn - other)))));
-      return [least - 0.05 * order / 16, turn];
-    });
-  }
-  // The corners of a square are farther out than a circle; what has no room at the side of the stage is above or below.
-  /** @param {number} v @param {number} turn @param {number} wide @param {number} size @param {number[]} taken */
-  labelAt(v, turn, wide, size, taken) {
-    const x = this.X(v), y = this.Y(v), far = this.radius * (1 + 0.4 * Math.abs(Math.sin(2 * turn))) + 5 + size / 2;
-    const free = x + Math.cos(turn) * (far + Math.max(0, wide - 5) * Math.abs(Math.cos(turn)));
-    const at = Math.max(wide + 2, Math.min(this.wide - wide - 2, free)), isBelow = taken.includes(1.57);
-    if (Math.abs(at - free) <= 4) return {x: at, y: y + Math.sin(turn) * far};
-    return {x: at, y: y + (Math.sin(turn) > 0 && !isBelow ? far : -far)};
-  }
-  // How much of other nodes and of labels a label would cover, in pixels.
-  /** @param {number} v @param {{x: number, y: number}} spot @param {number} wide @param {number} size @param {Box[]} placed */
-  covered(v, spot, wide, size, placed) {
-    /** @type {(...box: Box) => number} */
-    const over = (x, y, halfWide, halfHigh) => {
-      const across = wide + halfWide - Math.abs(spot.x - x), up = size / 2 + halfHigh - Math.abs(spot.y - y);
-      return across > 0 && up > 0 ? Math.min(across, up) : 0;
-    };
-    const r = this.radius;
-    return placed.reduce((sum, box) => sum + over(...box), 0)
-      + this.net.nodes.reduce((sum, _, k) => k + 1 === v ? sum : sum + over(this.X(k + 1), this.Y(k + 1), r, r), 0);
+  // Where a label of this half width is, on the side of its node that the network's data say. The corners of a square are
+  // farther out than a circle; what has no room at the side of the stage is above or below.
+  /** @param {number} v @param {number} wide @param {number} size @param {boolean} isBelow @returns {Point} */
+  labelAt(v, wide, size, isBelow) {
+    const [dx, dy] = SIDES[this.net.nodes[v - 1].side], x = this.X(v), y = this.Y(v);
+    const far = this.radius * (1 + 0.8 * Math.abs(dx * dy)) + 5 + size / 2, aside = wide > SHORT + LITTLE ? wide - SHORT : 0;
+    const free = x + dx * far + aside * Math.max(-1, Math.min(1, 2 * dx));
+    const at = Math.max(wide + 2, Math.min(this.wide - wide - 2, free));
+    if (Math.abs(at - free) <= 4) return [at, y + dy * far];
+    return [at, y + (dy > 0 && !isBelow ? far : -far)];
   }
 
   // Draws all. `edge(v, w)` gives an edge's attributes, `node(v, x, y, r)` the marks of a node, `label(v)` its words;
@@ -280,36 +232,28 @@ export class Stage {
       /** @type {(v: number) => string} */
       const saidOf = v => label ? label(v) : nameOf(this.net, v);
       const look = {node, size, says, ring, bars};
-      /** @type {(node: NetNode) => number[]} */
-      const takenBy = ({bars: own}) => (below ? [1.57] : []).concat(bars && own.length ? [0.8] : []);
-      if (this.isDragged()) {
-        const v = this.dragged, said = saidOf(v), taken = takenBy(this.net.nodes[v - 1]);
-        const spot = this.labelAt(v, this.spots[v - 1].turn, said.length * size * 0.3, size, taken);
-        this.groups = this.groups.with(v - 1, this.group(v, {...look, said, spot}));
-      } else {
-        const said = this.net.nodes.map((_, k) => saidOf(k + 1));
-        const spots = this.labelSpots(said, size, this.net.nodes.map(takenBy));
-        this.groups = said.map((words_, k) => this.group(k + 1, {...look, said: words_, spot: spots[k]}));
-      }
+      this.groups = this.net.nodes.map((_, k) => isKept(k + 1) ? this.groups[k]
+        : this.group(k + 1, {...look, said: saidOf(k + 1), below}));
       patch(this.nodes, this.groups);
     }
     patch(this.over, above());
   }
   // The place of a label, farther out where something around its node would cover it.
-  /** @param {number} v @param {{x: number, y: number}} spot @param {number} wide @param {number} size @returns {Point} */
+  /** @param {number} v @param {Point} spot @param {number} wide @param {number} size @returns {Point} */
   outside(v, spot, wide, size) {
-    const dx = spot.x - this.X(v), dy = spot.y - this.Y(v), far = Math.hypot(dx, dy) || 1, around = this.around(v);
+    const dx = spot[0] - this.X(v), dy = spot[1] - this.Y(v), far = Math.hypot(dx, dy) || 1, around = this.around(v);
     // The point of its box that is nearest to the node.
     const gap = Math.hypot(Math.max(0, Math.abs(dx) - wide), Math.max(0, Math.abs(dy) - size / 2)) - this.radius - 1;
     const more = around ? Math.max(0, around - gap) : 0;
-    return [spot.x + dx / far * more, spot.y + dy / far * more];
+    return [spot[0] + dx / far * more, spot[1] + dy / far * more];
   }
   /** @param {number} v @param {LookOfNode} look @returns {Mark} */
-  group(v, {node, said, spot, size, says, ring, bars}) {
+  group(v, {node, said, below, size, says, ring, bars}) {
     const x = this.X(v), y = this.Y(v), r = this.radius, colour = ring && ring(v), own = this.net.nodes[v - 1].bars;
+    const wide = said.length * size * 0.3, spot = this.outside(v, this.labelAt(v, wide, size, below), wide, size);
     /** @type {Marks} */
     const parts = [colour && mark("circle", {cx: x, cy: y, r: r + RING - 2, fill: "none", stroke: colour, "stroke-width": 4, "data-mark": colour.replace(/var\(--(\w+)\)/, "ring_$1")}),
-      ...node(v, x, y, r), words(...this.outside(v, spot, said.length * size * 0.3, size), size, "var(--soft)", said, HALO)];
+      ...node(v, x, y, r), words(...spot, size, "var(--soft)", said, HALO)];
     if (bars) own.slice(0, MOST_BARS).forEach((bar, n) => parts.push(...barMark(x + r + 8 + n * 19, y + r + 5, 9, bar)));
     const more = `+${own.length - MOST_BARS}`;
     if (bars && own.length > MOST_BARS) parts.push(words(x + r + 90, y + r + 5, 11, "var(--wrong)", more, HALO));
@@ -319,14 +263,4 @@ export class Stage {
 }
 // A node's number, with its name and its identifier if it has them.
 /** @param {Net} net @param {number} v */
-export function nameOf(net, v) {
-  /** @type {(words: string, most: number, left: number) => string} */
-  const cut = (words, most, left) => {
-    const letters = Array.from(LETTERS.segment(words), one => one.segment);
-    return letters.length > most ? letters.slice(0, left).join("") + "…" : words;
-  };
-  const {name, id} = net.nodes[v - 1], own = cut(id, 8, 6);
-  // A name that is written from right to left, or turns the writing round, turns nothing else.
-  const shown = TURNS.test(name) ? `\u2068${cut(name, 12, 11)}\u2069` : cut(name, 12, 11);
-  return v + (name ? " " + shown : "") + (own && own !== String(v) ? ` (${own})` : "");
-}
+export function nameOf(net, v) { return `${v} ${net.nodes[v - 1].label}`.trim(); }

@@ -14,8 +14,6 @@ type Marks = (Mark | null | undefined | boolean | 0 | "")[];
 type Inside = string | null | Marks;
 // An element that was made of a mark; it knows the mark, and what it shows.
 interface Shown extends SVGElement { mark?: Mark; shown?: Attributes; words?: string | null; }
-// Half the width and half the height of a label, after its place.
-type Box = [number, number, number, number];
 // A node's circle on the stage: its number, its place and its radius.
 type OfNode<Result> = (v: number, x: number, y: number, r: number) => Result;
 
@@ -38,14 +36,12 @@ interface Drawing {
 interface LookOfNode {
   node: OfNode<Marks>;
   said: string;
-  spot: {x: number, y: number};
+  below: boolean;
   size: number;
   says: (v: number) => string;
   ring?: (v: number) => string | null;
   bars: boolean;
 }
-// Where a label is, in which direction, and how far it is from the node's edges.
-interface Spot { x: number; y: number; turn: number; least: number; }
 
 // `quiet` leaves out the messages, and `plain` the pairs by which turns are taken.
 interface RoundsOptions {

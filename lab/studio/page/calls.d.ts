@@ -136,8 +136,10 @@ interface FileUnsaid {
   titles: string[];
 }
 
-interface Bends {
-  bends: number[];
+interface DrawingFound {
+  bends: ([number, number] | null)[];
+  labels: string[];
+  sides: number[];
 }
 
 interface PlanFound {
@@ -340,7 +342,7 @@ interface MakeCall {
 
 interface TidyCall extends OfNetwork {}
 
-interface BendsCall extends OfNetwork {}
+interface DrawingCall extends OfNetwork {}
 
 interface PlanCall extends OfNetwork {}
 
@@ -431,7 +433,7 @@ interface Asks {
   read: ReadCall;
   make: MakeCall;
   tidy: TidyCall;
-  bends: BendsCall;
+  drawing: DrawingCall;
   plan: PlanCall;
   check: CheckCall;
   rounds: RoundsCall;
@@ -459,7 +461,7 @@ interface Answers {
   read: FileRead | FileUnsaid;
   make: Net;
   tidy: Net;
-  bends: Bends;
+  drawing: DrawingFound;
   plan: PlanFound;
   check: GoodPlan | BadPlan;
   rounds: RoundsFound;

@@ -60,18 +60,19 @@ export function askPlan() {
   }), 40);
 }
 
-// Asks how the edges are bent, a moment after the last change: while a node is dragged they keep their bends.
-let bending = 0;
+// Asks how the network is drawn, a moment after the last change: while a node is dragged, bends and labels stay.
+let drawing = 0;
 model.onChange(what => {
-  clearTimeout(bending);
-  cancel("bends");
-  if (what !== "load" && net.edges.length) bending = setTimeout(askBends, 40);
+  clearTimeout(drawing);
+  cancel("drawing");
+  if (what !== "load" && net.nodes.length) drawing = setTimeout(askDrawing, 40);
 });
-async function askBends() {
+async function askDrawing() {
   // Of a network that is refused the plan says why.
-  const got = await call("bends", {network: text()}).catch(() => null);
+  const got = await call("drawing", {network: text()}).catch(() => null);
   if (!got) return;
   net.bends = got.bends;
+  net.nodes.forEach((node, k) => Object.assign(node, {label: got.labels[k], side: got.sides[k]}));
   show();
 }
 
@@ -142,13 +143,13 @@ function click(v, edge, event) {
   if (v) return choose(v === seen.node ? null : v);
   if (edge) return choose(null, isEdge(...edge) ? null : edge);
   if (seen.node || seen.edge) return choose(null);
-  if (event instanceof MouseEvent) change(n => n.nodes.push({...stage.placeOf(event), id: "", name: "", bars: []}));
+  if (event instanceof MouseEvent) change(n => n.nodes.push({...stage.placeOf(event), id: "", name: "", bars: [], label: "", side: 2}));
 }
 // A node where there is room: to the right of the last one, or in the middle.
 function addByKey() {
   const last = net.nodes[net.nodes.length - 1], up = net.nodes.length % 2 ? 30 : -30;
   const place = last ? {x: last.x + 70, y: last.y + up} : {x: stage.wide / 2, y: stage.high / 2};
-  change(n => n.nodes.push({...place, id: "", name: "", bars: []}));
+  change(n => n.nodes.push({...place, id: "", name: "", bars: [], label: "", side: 2}));
   if (stage.isOutside()) { stage.fit(); show(); }
 }
 // `on` is the node that has the focus.

@@ -1,4 +1,4 @@
-// The network that is drawn: nodes {x, y, id, name, bars} from 0, edges [v, w] from 1, the lower node first. An id is
+// The network that is drawn: nodes {x, y, id, name, bars, label, side} from 0, edges [v, w] from 1, the lower node first. An id is
 // the digits of an identifier, or "" for the node's own number.
 /** @type {Drawn} */
 export const net = {name: "", nodes: [], edges: [], bends: [], example: ""};
@@ -30,12 +30,12 @@ export function change(does, key = null, what = "edit", removed = null) {
   if (key === null || key !== lastKey) { past.push({text: kept(), removed}); future.length = 0; }
   if (past.length > 200) past.shift();
   lastKey = key;
-  // Until the server has said how the edges are bent now, each keeps its bend.
+  // Until the server has said how the network is drawn now, each edge keeps its bend, and each node its label.
   const bends = new Map(net.edges.map((edge, k) => [edge.join(), net.bends[k]]));
   does(net);
   net.example = "";
   net.edges.sort((a, b) => a[0] - b[0] || a[1] - b[1]);
-  net.bends = net.edges.map(edge => removed === null && bends.get(edge.join()) || 0);
+  net.bends = net.edges.map(edge => removed === null && bends.get(edge.join()) || null);
   tell(what, {removed});
 }
 /** @param {Before[]} from @param {Before[]} to */
