@@ -73,7 +73,7 @@ class OwnFiles(Page):
         self.sees("a wave", f"({MARKED}) === 'def on_wave(me, port):'")
         said = self.page.text("codesaid")
         self.note("it is said", "on_wave of node 2 ran last: lines 15 to 19" in said, said)
-        self.note("nothing is proved", "Nothing is proved of your own file" in said, said)
+        self.note("nothing is proved", "Nothing is proved of this file" in said, said)
         first = self.value("document.querySelectorAll('#possible > div')[1].textContent")
         self.note("what node 2 keeps", "me.parent = 0; me.waits = 1; me.count = 1" in first, first)
         self.page.key("1")

@@ -279,8 +279,8 @@ class Addresses(Case):
             (f"{TWO}&seed=", ""),
             (f"{TWO}&other=newest.1.5", ""),
             (f"{TWO}&other=oldests.1", "there are random"),
-            (f"{TWO}&lesson=8", "1 to 7"),
-            (f"{TWO}&lesson=8&tab=draw", "1 to 7"),
+            (f"{TWO}&lesson=9", "1 to 8"),
+            (f"{TWO}&lesson=9&tab=draw", "1 to 8"),
             ("x=" * 2_000_000, "at most 2,097,152 letters"),
             ("&".join(f"x{n}=1" for n in range(99)), "and 94 more"),
         ):
