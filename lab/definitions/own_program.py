@@ -47,6 +47,8 @@ from lab.words import bytes_at
 NEEDED = (("greet",), ("step", "next"), ("result",))
 MAY_BE = ("last_pulse", "right", "always", "drawn")
 COLOURS = 8
+# What a loaded file is called as a module.
+PROGRAM = "program"
 # After so many seconds a call of one function is ended.
 LONGEST = 20
 LONGEST_INBOX = 200
@@ -121,7 +123,7 @@ def marks_in_a_row(text: str) -> int:
 
 def loaded(path: str, code: CodeType) -> dict[str, object]:
     """What a file defines, each time with variables of its own."""
-    found: dict[str, object] = {"__name__": "program", "__file__": path}
+    found: dict[str, object] = {"__name__": PROGRAM, "__file__": path}
     call(path, "", exec, code, found)  # pylint: disable=exec-used
     return found
 
@@ -174,16 +176,33 @@ def call(path: str, where: str, function: Callable[..., Returned], *values: obje
         raise Fault(Code.RAISED, place, why=said, function=where) from None
 
 
-def variables_of(functions: dict[str, object]) -> dict[str, Hashable]:
-    """The variables of a loaded file, by name, as keys that are equal for equal values; what can't be compared isn't
-    among them."""
+def variables_of(values: dict[str, object]) -> dict[str, Hashable]:
+    """What a loaded file keeps outside `me`, by name, as keys that are equal for equal values; what can't be compared
+    isn't among it."""
     found = {}
-    for name, value in functions.items():
-        if isinstance(value, (ModuleType, FunctionType, type)) or name.startswith("__"):
-            continue
+    for name, value in kept_outside(values):
         with contextlib.suppress(Exception):
             found[name] = frozen(value)
     return found
+
+
+def kept_outside(values: dict[str, object]) -> Iterator[tuple[str, object]]:
+    """The variables of a loaded file, by name; those of its classes; and the defaults of its functions, which Python
+    makes once."""
+    for name, value in values.items():
+        if isinstance(value, ModuleType) or name.startswith("__"):
+            continue
+        if isinstance(value, FunctionType):
+            defaults = value.__defaults__ or ()
+            parameters = value.__code__.co_varnames[: value.__code__.co_argcount]
+            for parameter, default in zip(parameters[::-1], defaults[::-1]):
+                yield f"{parameter} of {name}", default
+        elif isinstance(value, type):
+            if value.__module__ == PROGRAM:
+                own = vars(value).items()
+                yield from ((f"{name}.{at}", one) for at, one in own if not at.startswith("_"))
+        else:
+            yield name, value
 
 
 class Me(SimpleNamespace):

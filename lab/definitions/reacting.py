@@ -62,6 +62,8 @@ class ReactingFile(LoadedFile):
         self.acting = self.function("act")
         self.reactions = {word: self.needed(ON + word) for word in words_taken(file)}
         self.takes: dict[tuple[str, int], bool] = {}
+        # Whether a function has changed a variable, which was said then.
+        self.is_changed = False
 
     def no_message(self, message: Sequence[object]) -> str:
         """Why something is no message of the file; nothing if it is one."""
@@ -154,8 +156,7 @@ class ReactingNode(Node):
             raise Fault(Code.RETURNS_SOMETHING, InText(file.path), where=where, returned=returned)
         for port, message in sent:
             self.ports[port].out.append(message)
-        if changed := file.changed_variable():
-            raise Fault(Code.VARIABLE_CHANGED, InText(file.path), where=where, name=changed)
+        self.check_variables(name)
         self.kept = self.key_of_kept()
         self.is_able = self.says_able()
 
@@ -171,9 +172,18 @@ class ReactingNode(Node):
         return may
 
     def check_unchanged(self, name: str) -> None:
-        """Refuses a question of the file that changes the node."""
+        """Refuses a question of the file that changes the node, or something outside it."""
         if self.key_of_kept() != self.kept:
             raise Fault(Code.CHANGES_ME, InText(self.of_file.path), function=self.where(name))
+        if not self.of_file.is_changed:
+            self.check_variables(name)
+
+    def check_variables(self, name: str) -> None:
+        """Refuses a function that has changed a variable of the file, of which all copies of the node have one."""
+        file, where = self.of_file, self.where(name)
+        if changed := file.changed_variable():
+            file.is_changed = True
+            raise Fault(Code.VARIABLE_CHANGED, InText(file.path), where=where, name=changed)
 
     def on_wire(self, at: int, wire: Message) -> None:
         self.play(ON + wire.word, self.of_file.reactions[wire.word], at, *wire.fields)
@@ -309,29 +319,31 @@ def check_reactions(net: Network, program: Reacting) -> None:
     made = {v: program.node(net, v) for v in net.vertices[::-1]}
     two = NetState(net, lambda _, v: made[v])
     for v in net.vertices:
-        check_same(program, one.nodes[v], two.nodes[v])
+        check_same(program, one.nodes[v].id, seen_of(one.nodes[v]), seen_of(two.nodes[v]))
     for _ in range(MOST_REPEATED):
         event = next(one.possible(), None)
         if event is None:
             return
+        nodes = one.nodes[event.node], two.nodes[event.node]
         try:
             one.step(event)
             two.step(event)
+            seen = [seen_of(node) for node in nodes]
         except Fault:
             return  # who plays this order says so, with the events before it
-        check_same(program, one.nodes[event.node], two.nodes[event.node])
+        check_same(program, nodes[0].id, *seen)
 
 
-def check_same(program: Reacting, one: ReactingNode, two: ReactingNode) -> None:
-    """Refuses two nodes that differ, and have made the same events."""
-    if seen_of(one) != seen_of(two):
-        raise Fault(Code.NODE_NOT_REPEATED, InText(program.file.path), identifier=one.id)
+def check_same(program: Reacting, identifier: int, one: Hashable, two: Hashable) -> None:
+    """Refuses what is seen of a node, if it differs although the same events were made."""
+    if one != two:
+        raise Fault(Code.NODE_NOT_REPEATED, InText(program.file.path), identifier=identifier)
 
 
 def seen_of(node: ReactingNode) -> Hashable:
-    """What a node keeps and sends, by values that two loads of a file have in common."""
-    sent = tuple(tuple(port.out) for port in node.ports)
+    """What a node keeps, sends and has found, by values that two loads of a file have in common."""
+    shown = tuple(tuple(port.out) for port in node.ports), node.result()
     try:
-        return frozen(node.what_it_keeps(), by_name), sent
+        return frozen(node.what_it_keeps(), by_name), shown
     except Exception:
-        return None, sent
+        return None, shown

@@ -550,6 +550,30 @@ WRONG: list[tuple[str, ...]] = [
         ": `on_wave` of the node of identifier 2 changes the variable `total` outside `me`: keep everything in `me`",
     ),
     (
+        echo(
+            "    return f",
+            "    seen.append(1)\n    return f",
+            "def result",
+            "seen = []\n\n\ndef result",
+        ),
+        ": `result` of the node of identifier 1 changes the variable `seen` outside `me`",
+    ),
+    (
+        echo("def heard(me, count):", "def heard(me, count, seen=[]):\n    seen.append(count)"),
+        ": `on_wave` of the node of identifier 2 changes the variable `seen of heard` outside `me`",
+    ),
+    (
+        echo(
+            "def heard(me, count):",
+            "class Seen:\n    n = 0\n\n\ndef heard(me, count):\n    Seen.n += 1",
+        ),
+        ": `on_wave` of the node of identifier 2 changes the variable `Seen.n` outside `me`",
+    ),
+    (
+        echo("    return f", "    return str(__import__('random').random())\n    return f"),
+        ": the node of identifier 1 does something else the second time",
+    ),
+    (
         echo("me.parent, me", "me.kept = (n for n in [1])\n    me.parent, me"),
         ": what `me` keeps can't be copied and compared",
     ),
