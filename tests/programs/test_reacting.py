@@ -5,9 +5,11 @@ plays every list of events on the machine of lab/definitions/machine.py one by o
 import copy
 import json
 import os
+import re
 import unittest.mock
 from collections.abc import Iterator
 
+from lab.definitions import own_program
 from lab.definitions.events import PUT, TAKE, Event
 from lab.definitions.leader import LEADER
 from lab.definitions.machine import NetState
@@ -184,6 +186,8 @@ class Samples(Case):
         """What `explore` says of a sample that is right."""
         status, text, fault = said_by("explore", network, "--program", sample(name))
         self.same(f"{name} on {network}", (status, fault), (0, ""))
+        self.same("names its network", text.startswith(f"every schedule of {network}: "), True)
+        self.note("says no more than is so", not re.search("verified|proved|proof", text), text)
         return tuple(text.splitlines())
 
     def test_the_page(self) -> None:
@@ -637,6 +641,13 @@ class Refused(Case):
         self.refusal(
             "a run", done, 1, "a run under the policy random hasn't ended after 100,000 events"
         )
+
+    def test_a_call_without_end(self) -> None:
+        path = self.file("loops.py", echo("    me.waits -= 1\n", "    while True:\n        pass\n"))
+        with unittest.mock.patch.object(own_program, "LONGEST", 0.2):
+            space = ReactingSpace(network_at("two"), program(path)).search()
+        said = "it hasn't ended after 0.2 seconds, in `on_wave` of the node of identifier 2"
+        self.note("said", said in space.faults[space.first_fault()], space.faults)
 
     def test_growing(self) -> None:
         """What a node keeps, and what a link holds, may not grow for ever."""
