@@ -177,32 +177,23 @@ def call(path: str, where: str, function: Callable[..., Returned], *values: obje
 
 
 def variables_of(values: dict[str, object]) -> dict[str, Hashable]:
-    """What a loaded file keeps outside `me`, by name, as keys that are equal for equal values; what can't be compared
-    isn't among it."""
+    """The variables of a loaded file, by name, as keys that are equal for equal values; what can't be compared isn't
+    among them."""
+    kept = {
+        name: value
+        for name, value in values.items()
+        if not isinstance(value, (ModuleType, FunctionType, type)) and not name.startswith("__")
+    }
+    return keys_of(kept)
+
+
+def keys_of(values: dict[str, object]) -> dict[str, Hashable]:
+    """Keys that are equal for equal values, by name, of those that can be compared."""
     found = {}
-    for name, value in kept_outside(values):
+    for name, value in values.items():
         with contextlib.suppress(Exception):
             found[name] = frozen(value)
     return found
-
-
-def kept_outside(values: dict[str, object]) -> Iterator[tuple[str, object]]:
-    """The variables of a loaded file, by name; those of its classes; and the defaults of its functions, which Python
-    makes once."""
-    for name, value in values.items():
-        if isinstance(value, ModuleType) or name.startswith("__"):
-            continue
-        if isinstance(value, FunctionType):
-            defaults = value.__defaults__ or ()
-            parameters = value.__code__.co_varnames[: value.__code__.co_argcount]
-            for parameter, default in zip(parameters[::-1], defaults[::-1]):
-                yield f"{parameter} of {name}", default
-        elif isinstance(value, type):
-            if value.__module__ == PROGRAM:
-                own = vars(value).items()
-                yield from ((f"{name}.{at}", one) for at, one in own if not at.startswith("_"))
-        else:
-            yield name, value
 
 
 class Me(SimpleNamespace):
@@ -224,7 +215,7 @@ class LoadedFile:
     def __init__(self, file: ProgramFile) -> None:
         self.path = file.path
         self.values = loaded(file.path, file.code)
-        self.variables = variables_of(self.values)
+        self.variables = self.kept_outside()
         self.finding = self.needed("result")
         self.drawing = self.function("drawn")
 
@@ -239,9 +230,13 @@ class LoadedFile:
             raise Fault(Code.FUNCTION_GONE, file=self.path, names=" or ".join(names))
         return function
 
+    def kept_outside(self) -> dict[str, Hashable]:
+        """What the file keeps outside `me`, by name, as keys that are equal for equal values."""
+        return variables_of(self.values)
+
     def changed_variable(self) -> str | None:
         """A variable of the file that isn't what it was before the first call, if there is one."""
-        now = variables_of(self.values)
+        now = self.kept_outside()
         return next((name for name in now if now[name] != self.variables.get(name)), None)
 
     def __deepcopy__(self, memo: object) -> "LoadedFile":

@@ -16,11 +16,13 @@ import copy
 from collections.abc import Callable, Hashable, Sequence
 from dataclasses import dataclass
 from inspect import signature
+from types import FunctionType
 
 from lab.definitions.events import ACT, Kind, Message
 from lab.definitions.machine import NetState, Node, Outgoing
 from lab.definitions.nodes import alpha_start
 from lab.definitions.own_program import (
+    PROGRAM,
     LoadedFile,
     Me,
     Misuse,
@@ -30,6 +32,7 @@ from lab.definitions.own_program import (
     found_by,
     is_number,
     is_word,
+    keys_of,
     known,
     program_name,
     placed_among,
@@ -64,6 +67,20 @@ class ReactingFile(LoadedFile):
         self.takes: dict[tuple[str, int], bool] = {}
         # Whether a function has changed a variable, which was said then.
         self.is_changed = False
+
+    def kept_outside(self) -> dict[str, Hashable]:
+        """The variables of the file, those of its classes, and the defaults of its functions, which Python makes
+        once."""
+        more: dict[str, object] = {}
+        for name, value in self.values.items():
+            if isinstance(value, FunctionType) and value.__defaults__:
+                parameters = value.__code__.co_varnames[: value.__code__.co_argcount]
+                for parameter, default in zip(parameters[::-1], value.__defaults__[::-1]):
+                    more[f"{parameter} of {name}"] = default
+            elif isinstance(value, type) and value.__module__ == PROGRAM:
+                own = vars(value).items()
+                more |= {f"{name}.{at}": one for at, one in own if not at.startswith("_")}
+        return super().kept_outside() | keys_of(more)
 
     def no_message(self, message: Sequence[object]) -> str:
         """Why something is no message of the file; nothing if it is one."""
