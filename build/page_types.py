@@ -1,6 +1,6 @@
 """Writes the types of what the pages ask and get, for the checker of their JavaScript: of the classes of
-lab/pictures/page_data.py into lab/pictures/page/data.d.ts, and of lab/studio/messages.py and answers.py, with the table
-of calls, into lab/studio/page/calls.d.ts."""
+lab/pictures/page_data.py into lab/pictures/page/data.d.ts, and of lab/studio/messages.py, answers.py and recorded.py,
+with the table of calls, into lab/studio/page/calls.d.ts."""
 import argparse
 import os
 from collections.abc import Collection, Iterator, Mapping, Sequence
@@ -10,7 +10,7 @@ from typing import Annotated, Literal, Union, get_args, get_origin, get_type_hin
 
 from build.crate_lists import TOP
 from lab.pictures import page_data
-from lab.studio import answers, messages
+from lab.studio import answers, messages, recorded
 from lab.studio.calls import CALLS
 from lab.studio.fields import word, words_by_name
 
@@ -29,6 +29,7 @@ SIMPLE: dict[object, str] = {
     float: "number",
     bool: "boolean",
     NoneType: "null",
+    object: "unknown",
     word: "number | string",
     words_by_name: "Record<string, number | string>",
 }
@@ -52,7 +53,7 @@ def is_own(value: object) -> bool:
     return is_dataclass(value) or hasattr(value, "_fields")
 
 
-MODULES = (page_data, answers, messages)
+MODULES = (page_data, answers, messages, recorded)
 NAMES = {kind: name for module in MODULES for kind, name in names_of(module).items()}
 
 
@@ -66,9 +67,9 @@ def type_of(hint: object) -> str:
         return NAMES.get(hint) or SIMPLE[hint]
     if kind in (Literal, Union, UnionType):
         return one_of(hint)
-    if kind is Mapping:
+    if kind in (Mapping, dict):
         return f"Record<{type_of(within[0])}, {type_of(within[1])}>"
-    if kind in (Sequence, Collection) or kind is tuple and within[-1] is Ellipsis:
+    if kind in (Sequence, Collection, list) or kind is tuple and within[-1] is Ellipsis:
         return list_of(within[0])
     if kind is tuple:
         return f"[{', '.join(map(type_of, within))}]"
@@ -146,7 +147,12 @@ def call_types() -> str:
 
 def page_types() -> dict[str, str]:
     """The files of types by their paths."""
-    studio = [module_types(answers), module_types(messages, is_asked=True), call_types()]
+    studio = [
+        module_types(answers),
+        module_types(messages, is_asked=True),
+        call_types(),
+        module_types(recorded),
+    ]
     return {
         os.path.join("lab", "pictures", "page", "data.d.ts"): WRITTEN_BY.format(
             "lab/pictures/page_data.py"
@@ -154,7 +160,7 @@ def page_types() -> dict[str, str]:
         + "\n"
         + module_types(page_data),
         os.path.join("lab", "studio", "page", "calls.d.ts"): WRITTEN_BY.format(
-            "lab/studio/answers.py, messages.py and calls.py"
+            "lab/studio/answers.py, messages.py, calls.py and recorded.py"
         )
         + "\n"
         + "\n".join(studio),

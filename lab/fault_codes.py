@@ -378,6 +378,8 @@ class Code(Enum):
     RUN_TOO_LONG_UNBUILT = auto()
     OWN_FILE = auto()
     PORT_REFUSED = auto()
+    FOLDER_NOT_EMPTY = auto()
+    NOT_PUBLISHED = auto()
     NO_PORT = auto()
     NO_LESSON = auto()
     NO_STEP_OF_LESSON = auto()

@@ -555,6 +555,8 @@ SENTENCES: dict[Code, str] = {
     ),
     Code.OWN_FILE: "a file of your own, as NAME.py, of another name than the others",
     Code.PORT_REFUSED: "port {port}: {why}",
+    Code.FOLDER_NOT_EMPTY: "it isn't an empty folder: name a new folder, or an empty one",
+    Code.NOT_PUBLISHED: "it can't be written: {why}",
     Code.NO_PORT: "there is no port {port}",
     Code.NO_LESSON: "the field lesson: there are the lessons 1 to {lessons}",
     Code.NO_STEP_OF_LESSON: "the field step: lesson {lesson} has the steps 1 to {steps}",

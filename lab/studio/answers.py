@@ -96,6 +96,15 @@ class LecturePlace:
 
 
 @dataclass(frozen=True)
+class Published:
+    """Of a published page: the commit from which its answers were recorded, and the sizes of the networks that it can
+    make."""
+
+    commit: str
+    sizes: Sequence[int]
+
+
+@dataclass(frozen=True)
 class Hello:
     """What there is to choose from. `own` are the programs of one's own and the samples, each with its form, and
     `own_dares` the dares of those whose nodes react to messages."""
@@ -116,6 +125,7 @@ class Hello:
     dares: Mapping[str, str]
     own_dares: Mapping[str, str]
     address: Mapping[str, Written]
+    published: Published | None = None
 
 
 @dataclass(frozen=True)

@@ -29,6 +29,11 @@ PROVED = {
     "results": "all nodes halt with the results of the rounds (Theorem 4)",
 }
 
+# How the dare of the results stands.
+NOT_HALTED = DareJudged(False, "not all nodes have halted")
+SAME_RESULTS = DareJudged(False, "they halted with the same results")
+OTHER_RESULTS = DareJudged(True, "they halted with other results")
+
 
 def impossible(program: Program, without: tuple[str, ...], dare: str) -> str:
     """Why a dare can't be won, if it is proved that it can't; or nothing."""
@@ -52,11 +57,18 @@ def judged(
         most = max([most, *(abs(made[v] - made[w]) for v, w in pairs)])
     count = counted(len(player.chosen), "step")
     if pairs:
-        return DareJudged(most >= least, f"{most} of {least} pulses apart, in {count}")
+        return DareJudged(most >= least, apart_words(most, least, count))
     if dare == "wrong":
-        said = player.fault or "nothing is wrong"
-        return DareJudged(bool(player.fault), f"{said}, in {count}")
+        return DareJudged(bool(player.fault), wrong_words(player.fault, count))
     return results_judged(player, network, program)
+
+
+def apart_words(most: object, least: int, steps: str) -> str:
+    return f"{most} of {least} pulses apart, in {steps}"
+
+
+def wrong_words(fault: str | None, steps: str) -> str:
+    return f"{fault or 'nothing is wrong'}, in {steps}"
 
 
 def goal(network: Network, dare: str) -> tuple[Collection[Edge], int]:
@@ -84,7 +96,6 @@ def results_of(network: Network, program: Program) -> list[str | int]:
 def results_judged(player: Stepwise, network: Network, program: Program) -> DareJudged:
     looks = [look_of(player.state, v) for v in network.vertices]
     if player.is_over or not all(look.done for look in looks):
-        return DareJudged(False, "not all nodes have halted")
-    if [look.found for look in looks] == results_of(network, program):
-        return DareJudged(False, "they halted with the same results")
-    return DareJudged(True, "they halted with other results")
+        return NOT_HALTED
+    is_same = [look.found for look in looks] == results_of(network, program)
+    return SAME_RESULTS if is_same else OTHER_RESULTS

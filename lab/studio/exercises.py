@@ -1,6 +1,7 @@
 """The exercises of the lessons, judged: an answer that a student has said, or what the page shows. Each verdict comes
 from the definitions, and says in one sentence how far the student is."""
 from collections.abc import Callable, Mapping
+from dataclasses import dataclass
 
 from lab.definitions.colours import colours
 from lab.definitions.nodes import last_pulse
@@ -55,12 +56,17 @@ def proper(call: ExerciseCall, session: Session, tell: Tell) -> ExerciseJudged:
     """A plan that is typed in the tab Check."""
     verdict = check(CheckCall(network=call.network, plan=call.plan), session, tell)
     if verdict.ok:
-        used = counted(len(set(call.plan)), "channel")
-        return ExerciseJudged(True, f"the plan is proper, with {used}")
+        return ExerciseJudged(True, proper_words(len(set(call.plan))))
     left = network_asked(call).nodes - sum(map(bool, call.plan))
-    if left:
-        return ExerciseJudged(False, f"{counted(left, 'transmitter')} without a channel")
-    return ExerciseJudged(False, verdict.words)
+    return ExerciseJudged(False, blank_words(left) if left else verdict.words)
+
+
+def proper_words(used: int) -> str:
+    return f"the plan is proper, with {counted(used, 'channel')}"
+
+
+def blank_words(left: int) -> str:
+    return f"{counted(left, 'transmitter')} without a channel"
 
 
 def ends_of(network: Network) -> list[int]:
@@ -138,8 +144,11 @@ def bar(call: ExerciseCall, session: Session, _tell: Tell) -> ExerciseJudged:
 def first_pulse(call: ExerciseCall, session: Session, _tell: Tell) -> ExerciseJudged:
     player = steps_played(call, session)
     made = max(node.pulse_number for node in player.state.nodes.values())
-    steps = counted(len(player.chosen), "step")
-    if made:
+    return first_pulse_after(made > 0, counted(len(player.chosen), "step"))
+
+
+def first_pulse_after(is_made: bool, steps: str) -> ExerciseJudged:
+    if is_made:
         return ExerciseJudged(True, f"a node has made pulse 1, after {steps}")
     return ExerciseJudged(False, f"no node has made pulse 1 yet, after {steps}")
 
@@ -153,19 +162,26 @@ def steps_played(call: ExerciseCall, session: Session) -> Stepwise:
     return player
 
 
-def dared(dare: str, most: int | None = None) -> Goal:
-    """A dare that has to be won, in at most so many steps."""
+@dataclass(frozen=True)
+class Dared:
+    """The goal of a dare that has to be won, in at most so many steps."""
 
-    def judge(call: ExerciseCall, session: Session, _tell: Tell) -> ExerciseJudged:
+    dare: str
+    most: int | None = None
+
+    def __call__(self, call: ExerciseCall, session: Session, _tell: Tell) -> ExerciseJudged:
         network = network_asked(call)
         program = program_asked(call, network, session)
         steps = list(filter(None, call.steps.split("_")))
-        is_ = dares.judged(network, program, rules_asked(call, OF_SCHEDULES), steps, dare)
-        if is_.won and most is not None and len(steps) > most:
-            return ExerciseJudged(False, f"{is_.said}, and {most} are enough")
+        rules = rules_asked(call, OF_SCHEDULES)
+        is_ = dares.judged(network, program, rules, steps, self.dare)
+        if is_.won and self.most is not None and len(steps) > self.most:
+            return ExerciseJudged(False, is_.said + self.enough())
         return ExerciseJudged(is_.won, is_.said)
 
-    return judge
+    def enough(self) -> str:
+        """What is said of a dare that is won in more steps."""
+        return f", and {self.most} are enough"
 
 
 def reactions_played(call: ExerciseCall, session: Session) -> ReactingStepwise:
@@ -214,10 +230,10 @@ GOALS: dict[tuple[int, str], Goal] = {
     (1, "long"): long_row,
     (2, "centre"): lowest_centre,
     (4, "bar"): bar,
-    (5, "far"): dared("ends"),
+    (5, "far"): Dared("ends"),
     (6, "pulse"): first_pulse,
-    (6, "apart"): dared("apart"),
-    (6, "wrong"): dared("wrong", FEWEST),
+    (6, "apart"): Dared("apart"),
+    (6, "wrong"): Dared("wrong", FEWEST),
     (8, "tree"): has_results({1: "counts 3", 2: "counts 2"}, is_end=True),
     (8, "later"): has_results({1: "asks", 3: "inside"}),
     (8, "coins"): refused_state,

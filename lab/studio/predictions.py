@@ -1,7 +1,10 @@
 """Predict, then look: what a node has after a pulse, or what it waits for, as a student says it, beside what the
 definitions find and why."""
+from collections.abc import Collection
+
 from lab.definitions.events import PUT, Entry, Message
-from lab.definitions.nodes import COLOURING
+from lab.definitions.machine import NetState
+from lab.definitions.nodes import COLOURING, AlphaNode
 from lab.definitions.reacting import Reacting
 from lab.definitions.rounds import Rounds, SEED
 from lab.fault_codes import Code
@@ -42,11 +45,18 @@ def predict(call: PredictCall, session: Session, _tell: Tell) -> Predicted:
     v, pulse, last = vertex_asked(call, network), call.pulse, program.last_pulse(network)
     if not 1 <= pulse <= last:
         raise Fault(Code.NO_PULSE, pulse=pulse, last=last)
-    if program == COLOURING:
-        found, why = of_colouring(Rounds(network), v, pulse, call.forest)
-    else:
-        found, why = of_program(ProgramRounds(network, program), v, pulse)
+    rounds: Rounds | ProgramRounds = Rounds(network)
+    if program != COLOURING:
+        rounds = ProgramRounds(network, program)
+    found, why = found_after(rounds, v, pulse, call.forest)
     return Predicted(words(call.said) == words(found), found, why)
+
+
+def found_after(rounds: Rounds | ProgramRounds, v: int, pulse: int, forest: int) -> tuple[str, str]:
+    """What a node has after a pulse, and why; of the colouring in a forest, or in its merge."""
+    if isinstance(rounds, Rounds):
+        return of_colouring(rounds, v, pulse, forest)
+    return of_program(rounds, v, pulse)
 
 
 def words(said: str) -> str:
@@ -104,7 +114,7 @@ def waits(call: WaitsCall, session: Session, _tell: Tell) -> Predicted:
     program = program_asked(call, network, session)
     player = Stepwise(network, program, rules_asked(call, OF_SCHEDULES))
     player.follow(call.steps.split("_"))
-    found, why = waited(player, v)
+    found, why = waited(player.state, v, player.without, player.is_over)
     return Predicted(is_list(call.said, found), ", ".join(found) or "nothing", why)
 
 
@@ -142,12 +152,14 @@ def word_and_end(put: Entry) -> str:
     return f"{word} {put.neighbour}"
 
 
-def waited(player: Stepwise, v: int) -> tuple[list[str], str]:
+def waited(
+    state: NetState[AlphaNode], v: int, left_out: Collection[str], is_over: bool
+) -> tuple[list[str], str]:
     """What a node waits for, as it runs: without the rules that are left out; and why."""
-    node, left_out = player.state.nodes[v], player.without
-    if player.is_over:
+    node = state.nodes[v]
+    if is_over:
         return [], "The run has ended here, so nothing more can come."
-    found = sorted(f"{what} {w}" for what, w in waits_of(player.state, v))
+    found = sorted(f"{what} {w}" for what, w in waits_of(state, v))
     if node.pulse_number == node.last:
         return found, "It has made its last pulse" + (
             ", and halts when its neighbours have closed their links." if found else "."

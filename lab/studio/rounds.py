@@ -9,6 +9,7 @@ from lab.faults import Fault
 from lab.network import Network
 from lab.networks.codes import told_of
 from lab.networks.plan_text import read_plan
+from lab.networks.verdicts import Verdict
 from lab.pictures import broken_picture, player_page, reacting_picture, why_picture
 from lab.pictures.page_data import RoundsFound
 from lab.pictures.pages import net_of
@@ -63,7 +64,11 @@ def check(call: CheckCall, session: Session, _tell: Tell) -> GoodPlan | BadPlan:
     if len(call.plan) > network.nodes or min(call.plan, default=0) < 0:
         raise Fault(Code.PLAN_OF_FIELD, nodes=network.nodes)
     channels = {v: channel for v, channel in zip(network.vertices, call.plan) if channel}
-    verdict = verdict_on(network, call.network, channels, session)
+    return of_verdict(verdict_on(network, call.network, channels, session))
+
+
+def of_verdict(verdict: Verdict) -> GoodPlan | BadPlan:
+    """A verdict on a plan, and what its code means."""
     if not verdict.code:
         return GoodPlan(verdict.short, [], verdict.numbers[0])
     place = f"{verdict.of} {' and '.join(map(str, verdict.numbers))}" if verdict.of else ""

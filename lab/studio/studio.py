@@ -20,6 +20,7 @@ from lab.studio.asked import form_of_program
 from lab.studio.building import are_built
 from lab.studio.links import judge
 from lab.studio.networks import shown
+from lab.studio.publishing import publish
 from lab.studio.serving import Server
 from lab.studio.session import SAMPLES, Form, Session
 from lab.words import Parser, one_line, parser_of, text_at, text_name
@@ -52,11 +53,18 @@ With --links it opens nothing: it judges links that a class hands in, a line eac
 tab Adversary with a dare in it, and says which are won. A link that can't be read has a
 line with the reason. Each link may take 120 seconds and 2 GB, as a call of the page.
 
-Status: 0 ended by Ctrl-C, or all links could be judged, 1 the network or a link can't be
-read, a link takes too much, or the port is taken, 2 the command line is refused.
+With --publish it opens nothing: it writes the page as files into DIR, which has to be new
+or empty, and ends after about a minute. The page has the lessons, their exercises and the
+lecture, with answers that are recorded. It needs no server, no network and no installation:
+put the folder on a web server for phones, or open its index.html from a memory stick.
 
-Example:
+Status: 0 ended by Ctrl-C, all links could be judged, or the page is written, 1 the network
+or a link can't be read, a link takes too much, the port is taken, or the page can't be
+written, 2 the command line is refused.
+
+Examples:
   forestlab studio petersen
+  forestlab studio --publish lessons
 """
 
 
@@ -73,6 +81,9 @@ def command_line() -> Parser:
         "--links",
         metavar="FILE",
         help="judge the links of a class, one dare on each line, and end; - for standard input",
+    )
+    words.add_argument(
+        "--publish", metavar="DIR", help="write the lessons as a page that needs no server, and end"
     )
     words.add_argument("--no-browser", action="store_true", help="only print the address")
     words.add_argument(
@@ -146,6 +157,8 @@ def main(words: list[str]) -> int:
     given = command_line().parse_args(words)
     if given.links is not None:
         return judge_links(given)
+    if given.publish is not None:
+        return publish_page(given)
     with tempfile.TemporaryDirectory(prefix="forestplan-studio-") as folder:
         try:
             network = None if given.network is None else shown(opened(given.network))
@@ -175,6 +188,26 @@ def judge_links(given: Namespace) -> int:
         print(f"studio: {why}", file=sys.stderr)
         return 1
     return 0 if are_judged else 1
+
+
+def publish_page(given: Namespace) -> int:
+    """Writes the page that needs no server."""
+    if given.network is not None or given.own:
+        print(
+            "studio: --publish takes no network and no --own: it has the lessons", file=sys.stderr
+        )
+        return 2
+    try:
+        own, forms = own_programs([])
+        size = publish(given.publish, Session(own=own, forms=forms, is_proved=are_built()))
+    except Fault as why:
+        print(f"studio: {why}", file=sys.stderr)
+        return 1
+    page = os.path.join(given.publish, "index.html")
+    print(
+        f"studio: {page} is written, with all that it needs: {size / 1e6:.1f} MB", file=sys.stderr
+    )
+    return 0
 
 
 def serve(server: Server, folder: str | None) -> int:

@@ -1,4 +1,4 @@
-// Written by `python3 build page-types` from lab/studio/answers.py, messages.py and calls.py.
+// Written by `python3 build page-types` from lab/studio/answers.py, messages.py, calls.py and recorded.py.
 
 type Form = "rounds" | "reactions";
 
@@ -59,6 +59,11 @@ interface LecturePlace {
   say: string;
 }
 
+interface Published {
+  commit: string;
+  sizes: number[];
+}
+
 interface Hello {
   proved: boolean;
   most: number;
@@ -76,6 +81,7 @@ interface Hello {
   dares: Record<string, string>;
   own_dares: Record<string, string>;
   address: Record<string, Written>;
+  published?: Published;
 }
 
 interface Order {
@@ -481,4 +487,94 @@ interface Answers {
   exercise: ExerciseJudged;
   build: Build;
   built: Build;
+}
+
+interface Found {
+  found: string;
+  why: string;
+}
+
+interface LocalRow {
+  to?: number;
+  puts?: [number, string][];
+  fault?: string;
+}
+
+interface OneState {
+  look: number;
+  waits: number;
+  pulse: LocalRow | null;
+  takes: Record<number, LocalRow>;
+  same: number[];
+}
+
+interface OneNode {
+  near: number[];
+  puts: [number, string][];
+  wires: [number, string][];
+  states: OneState[];
+}
+
+interface DareGoal {
+  pairs: [number, number][];
+  least: number;
+  said: string;
+  impossible: string;
+}
+
+interface AllRuns {
+  last: number;
+  overtakes: boolean;
+  nodes: OneNode[];
+  looks: Look[];
+  waits: Found[];
+  over: Found;
+  dares: Record<string, DareGoal>;
+  results: (number | string)[];
+  ends: [DareJudged, DareJudged, DareJudged];
+}
+
+interface AllVerdicts {
+  of: Record<number, BadPlan>[];
+  above: BadPlan[];
+  most: number;
+  blank: BadPlan[];
+  alike: [number, number, BadPlan][];
+  good: GoodPlan[];
+}
+
+interface SaidJudged {
+  right: string;
+  done: ExerciseJudged;
+  other: ExerciseJudged;
+  none: ExerciseJudged;
+}
+
+interface StepsJudged {
+  dare: string;
+  enough: number | null;
+  more: string;
+  before: ExerciseJudged | null;
+  after: ExerciseJudged | null;
+}
+
+interface PlanJudged {
+  proper: string[];
+  blank: string[];
+}
+
+interface Kept {
+  answer?: unknown;
+  wrong?: string;
+}
+
+interface Piece {
+  answers: Record<string, number>;
+  values: Kept[];
+  runs: Record<string, AllRuns>;
+  verdicts: Record<string, AllVerdicts>;
+  questions: Record<string, Found>;
+  said: Record<string, SaidJudged>;
+  steps: Record<string, StepsJudged>;
+  plans: Record<string, PlanJudged>;
 }

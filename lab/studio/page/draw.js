@@ -242,10 +242,18 @@ export function save(what) {
     if (page) download(page, "-run.html");
   });
 }
-// Making networks.
+// Making networks. A published page has some sizes to choose from.
+/** @param {number[]} sizes */
+function sizesOf(sizes) {
+  const list = html("select");
+  sizes.forEach(size => list.append(html("option", String(size))));
+  return list;
+}
+/** @type {"input"} */
+const SIZED = /** @type {any} */ ("input, select");
 export function makeForm() {
   const form = by("make"), kind = html("select", null, {"aria-label": "kind"}), sizes = html("span");
-  const {kinds} = hello();
+  const {kinds, published} = hello();
   /** @type {Record<string, number>} */
   const usual = {nodes: 8, rows: 3, columns: 4, edges: 12, seed: 1};
   Object.keys(kinds).forEach(one => kind.append(html("option", one)));
@@ -254,19 +262,20 @@ export function makeForm() {
     sizes.replaceChildren(...is.sizes.concat(is.chance ? ["seed"] : []).map(name => {
       const label = html("label", name), isNodes = ["nodes", "rows", "columns"].includes(name);
       const most = isNodes ? {max: hello().most} : {max: 999999999};
-      const input = html("input", null, {type: "number", name, min: 0, required: "", ...most});
+      const input = published ? sizesOf(published.sizes) : html("input", null, {type: "number", min: 0, required: "", ...most});
+      input.name = name;
       input.value = String(usual[name]);
       label.append(input);
       return label;
     }));
   };
   kind.onchange = fields;
-  kind.value = "random";
+  if (!published) kind.value = "random";
   fields();
   form.append(kind, sizes, html("button", "make"));
   form.onsubmit = event => {
     event.preventDefault();
-    const asked = Object.fromEntries(Array.from(sizes.querySelectorAll("input"), one => [one.name, one.value]));
+    const asked = Object.fromEntries(Array.from(sizes.querySelectorAll(SIZED), one => [one.name, one.value]));
     asks("make", {kind: kind.value, sizes: asked, seed: asked.seed}, "making it", found => model.load(found));
   };
 }

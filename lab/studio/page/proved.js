@@ -10,7 +10,7 @@ let timer = 0;
 export function watchBuild(done) {
   ready = done;
   show({proved: hello().proved, lines: [], ended: false});
-  if (!hello().proved) look();
+  if (!hello().proved && !hello().published) look();
 }
 /** @param {Build} is */
 function show(is) {

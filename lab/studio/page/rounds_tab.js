@@ -103,14 +103,14 @@ async function askWhy() {
 /** @param {number} v */
 function bitsOf(v) {
   const bits = html("details"), kept = html("figure");
-  bits.append(html("summary", "bit by bit"), html("p", "A click on the picture makes it large.", {class: "soft"}),
+  bits.append(html("summary", "bit by bit"), html("p", "A click on the picture makes it large.", {class: "soft", "data-live": ""}),
     kept);
   bits.ontoggle = () => {
     if (!bits.open || kept.childNodes.length) return;
     asks("picture", {network: text(), kind: "bits", vertex: v, forest: rounds.forest}, "drawing", svg => {
       kept.append(picture(svg, `bit steps of node ${v}`));
       setTimeout(() => bits.scrollIntoView({block: "nearest"}), 100);
-      kept.onclick = () => go("pictures", {kind: "bits"});
+      kept.onclick = () => { if (!hello().published) go("pictures", {kind: "bits"}); };
     }, "bits");
   };
   return bits;

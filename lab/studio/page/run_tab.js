@@ -198,7 +198,7 @@ function verdicts(found, film, which) {
 }
 function judgeSoon() {
   clearTimeout(judgeTimer);
-  if (time.timer || run.film2) return;
+  if (time.timer || run.film2 || hello().published) return;
   /** @param {unknown} fault */
   const fails = fault => wrong(messageOf(fault), "replay");
   judgeTimer = setTimeout(() => judgeHere().then(() => wrong("", "replay"), fails), 150);

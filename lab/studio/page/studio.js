@@ -335,7 +335,7 @@ hooks.copy = async (button, more = {}) => {
   const words = button.textContent || "", place = "#" + written({...stateSeen(), ...more}, hello().address);
   /** @param {string} said */
   const say_ = said => { button.textContent = said; };
-  try { await navigator.clipboard.writeText(location.origin + location.pathname + place); say_("copied"); } catch {
+  try { await navigator.clipboard.writeText(location.href.split(/[?#]/)[0] + place); say_("copied"); } catch {
     // The address has what isn't copied.
     location.assign(place);
     say_("see the address");
@@ -457,6 +457,20 @@ function close(said) {
   by("closedsaid").replaceChildren(...coded(said));
   by("closedhow").hidden = false;
 }
+// What a published page is, and what isn't in it.
+function sayRecorded() {
+  const {published, proved} = hello();
+  if (!published) return;
+  document.body.classList.add("published");
+  all("option[data-live]").forEach(one => one.remove());
+  const by_ = proved ? "The proved program wrote its plans, and the proved machine accepted its runs"
+    : "Python’s definitions wrote its plans and runs: they are tested, not proved";
+  all(".recorded").forEach(one => {
+    one.hidden = false;
+    one.replaceChildren(...coded(`This page was recorded from forestplan at commit ${published.commit}. ${by_}. It has the lessons and the lecture; `
+      + "for networks of your own, other seeds and pictures start the studio: `forestlab studio`."));
+  });
+}
 async function begin() {
   if (!token) return close("This page has no token, by which the studio knows you.");
   if (!await tried("hello", "beginning", greet)) return close(by("wrong").textContent || "");
@@ -475,6 +489,7 @@ async function begin() {
   [by("policy"), by("policy2")].forEach(list => {
     Object.entries(policies).forEach(([name, says]) => option(list, name, name, says));
   });
+  sayRecorded();
   makeForm();
   watchOptions(() => { tabs[seen.tab].enter({fresh: true}); hooks.link(); });
   watchFile(() => {

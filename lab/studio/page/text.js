@@ -15,7 +15,7 @@ function shown([whole, code, bold, italic, said, picture, words, to]) {
   if (code) return html("code", code);
   if (bold) return html("b", bold);
   if (italic) return html("i", italic);
-  if (picture) return html("img", null, {alt: said, src: picture.replace(/^\.\.\//, "/")});
+  if (picture) return html("img", null, {alt: said, src: picture.replace(/^\.\.\//, "")});
   return words ? link(words, to) : whole;
 }
 /** @param {"p" | "td" | "th"} name @param {string} said */

@@ -287,7 +287,9 @@ interface Drag {
 // What browsers have, and TypeScript 4.8 doesn't know.
 interface HTMLSelectElement { showPicker?(): void; }
 // For whoever tries the page out: its parts.
-interface Window { studio: object; }
+interface Window { studio: object; recorded(name: string, piece: Piece): void; }
+// What a published page is given: what there is to choose from, what is usual in each call, and the names of its pieces.
+declare const RECORDED: {hello: Hello, usual: Record<string, Record<string, unknown>>, pieces: string[]};
 
 // What the tabs hold. `of` is what a film is of: the program and the network.
 interface Rounds {

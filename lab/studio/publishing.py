@@ -1,0 +1,113 @@
+"""The studio as static files: `forestlab studio --publish DIR`. The page and its scripts are the studio's own. In place
+of the server they have the answers of recording.py, in pieces that are scripts, too. So any web server gives the page
+away, below any path, and a browser opens it from a folder."""
+import json
+import os
+import re
+import shutil
+from collections.abc import Sequence
+from dataclasses import MISSING, fields, replace
+
+from lab import version
+from lab.fault_codes import Code
+from lab.faults import Fault, InText
+from lab.pictures import pages
+from lab.pictures.page_data import as_object
+from lab.programs import TOP
+from lab.studio.answers import Hello, Published
+from lab.studio.bundle import OWN, joined
+from lab.studio.calls import CALLS
+from lab.studio.messages import HelloCall
+from lab.studio.networks import hello
+from lab.studio.recording import MADE, SIZES, Recording, Spot, tell
+from lab.studio.session import Session
+
+# The page runs its own scripts alone, and asks nobody for anything.
+POLICY = (
+    "default-src 'none'; script-src 'self' file:; style-src 'unsafe-inline'; img-src 'self' file: data: blob:; "
+    "form-action 'none'; base-uri 'none'"
+)
+PICTURE = re.compile(r"\]\(\.\./pictures/([\w.-]+)\)")
+
+
+def published(session: Session, places: Sequence[Spot] | None = None) -> dict[str, bytes]:
+    """The files of the page, by their names: of all places, or of some."""
+    recording = Recording(session, places).record()
+    is_ = hello_of(session, recording)
+    files = {"index.html": page(), "studio.js": script(is_, list(recording.pieces))}
+    for name, piece in recording.pieces.items():
+        files[f"answers/{name}.js"] = f'recorded("{name}", {as_text(piece)});\n'
+    found = {name: text.encode() for name, text in files.items()}
+    for name in sorted({name for one in is_.lessons for name in PICTURE.findall(one.text)}):
+        with open(os.path.join(TOP, "docs", "pictures", name), "rb") as file:
+            found[f"pictures/{name}"] = file.read()
+    return found
+
+
+def as_text(value: object) -> str:
+    """JSON that is a script, too, whatever its encoding is taken for."""
+    return json.dumps(value, separators=(",", ":"), default=as_object)
+
+
+def hello_of(session: Session, recording: Recording) -> Hello:
+    """What there is to choose from on the page: what was recorded."""
+    whole = hello(HelloCall(), session, tell)
+    commit = version.text().splitlines()[1].removeprefix("commit ")
+    return replace(
+        whole,
+        examples=sorted(recording.examples),
+        kinds={name: whole.kinds[name] for name in MADE},
+        published=Published(commit, SIZES),
+    )
+
+
+def script(is_: Hello, pieces: list[str]) -> str:
+    usual = {
+        name: {one.name: one.default for one in fields(call.asked) if one.default is not MISSING}
+        for name, call in CALLS.items()
+    }
+    given = {"hello": is_, "usual": usual, "pieces": pieces}
+    return f"const RECORDED = {as_text(given)};\n{joined('studio', {'api': 'recorded'})}"
+
+
+def page() -> str:
+    """The studio's page with its style in it, and one script."""
+    with open(os.path.join(OWN, "page.html"), encoding="utf-8") as file:
+        text = file.read()
+    style = re.sub(r"/\*.*?\*/|\n", "", pages.text_of("page.css"))
+    text = re.sub(r'<link rel="modulepreload"[^>]*>\n?', "", text)
+    text = text.replace('<link rel="stylesheet" href="page.css">', f"<style>{style}</style>")
+    text = text.replace('<script type="module" src="studio.js">', '<script defer src="studio.js">')
+    policy = f'<meta http-equiv="Content-Security-Policy" content="{POLICY}">'
+    return text.replace('<meta charset="utf-8">', f'<meta charset="utf-8">{policy}')
+
+
+def check_folder(folder: str) -> None:
+    """Refuses what isn't a new folder or an empty one."""
+    try:
+        is_free = not os.path.lexists(folder) or os.path.isdir(folder) and not os.listdir(folder)
+    except OSError as why:
+        raise Fault(Code.NOT_PUBLISHED, InText(folder), why=why.strerror) from None
+    if not is_free:
+        raise Fault(Code.FOLDER_NOT_EMPTY, InText(folder))
+
+
+def publish(folder: str, session: Session) -> int:
+    """Writes the page into a folder, which is there whole or as it was, and returns its bytes."""
+    check_folder(folder)
+    files = published(session)
+    at = os.path.realpath(folder)
+    new = f"{at}.{os.getpid()}.new"
+    try:
+        for name, data in files.items():
+            path = os.path.join(new, name)
+            os.makedirs(os.path.dirname(path), exist_ok=True)
+            with open(path, "xb") as file:
+                file.write(data)
+        check_folder(folder)
+        os.rename(new, at)
+    except OSError as why:
+        raise Fault(Code.NOT_PUBLISHED, InText(folder), why=why.strerror) from None
+    finally:
+        shutil.rmtree(new, ignore_errors=True)
+    return sum(map(len, files.values()))

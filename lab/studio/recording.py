@@ -1,0 +1,555 @@
+"""What the published studio answers (publishing.py): each call that its page can make at the places of the lessons, of
+the lecture, and of the links in docs/learn is asked here, and its answer is kept.
+
+The places are walked over in their tables, so that a lesson which is added there is recorded, too. Four kinds of
+answers aren't kept one by one, since there is no end of them: the runs that are made step by step are kept by the
+states of single nodes (local_states.py), the verdicts on typed plans by what each verdict is about, an answer to a
+question with what is right, and an exercise on either of the first two with what it asks for."""
+import json
+import os
+import re
+from collections.abc import Callable, Collection, Iterator, Mapping, Sequence
+from dataclasses import MISSING, dataclass, fields, is_dataclass, replace
+from itertools import combinations
+
+from lab.definitions.nodes import COLOURING
+from lab.definitions.programs import PROGRAMS
+from lab.definitions.rounds import Rounds
+from lab.faults import Fault
+from lab.network import Network
+from lab.networks.verdicts import Verdict
+from lab.pictures.page_data import Look, Net, NetNode, as_object
+from lab.pictures.program_rounds import ProgramRounds
+from lab.programs import TOP
+from lab.schedules.rules import OF_PROGRAMS, OF_SCHEDULES
+from lab.studio import dares
+from lab.studio.address import pairs_of, program_named
+from lab.studio.answers import BadPlan, Broken, ExerciseJudged, GoodPlan, Values
+from lab.studio.asked import network_asked, program_asked
+from lab.studio.calls import CALLS
+from lab.studio.exercises import (
+    GOALS,
+    Dared,
+    blank_words,
+    exercise_judged,
+    first_pulse,
+    first_pulse_after,
+    proper,
+    proper_words,
+)
+from lab.studio.lessons import LECTURE, LESSONS, SaidExercise, SeenExercise, step_place, steps_in
+from lab.studio.local_states import OWN_STEP, LocalStates, Row, TooMany
+from lab.studio.messages import (
+    BrokenCall,
+    ExampleCall,
+    ExerciseCall,
+    FileCall,
+    MakeCall,
+    OfProgram,
+    PictureCall,
+    PlanCall,
+    RoundsCall,
+    RunCall,
+    WhyCall,
+)
+from lab.studio.networks import opened_by
+from lab.studio.predictions import found_after, waited
+from lab.studio.recorded import (
+    MOST,
+    SAID,
+    STEPS,
+    AllRuns,
+    AllVerdicts,
+    DareGoal,
+    Found,
+    Kept,
+    LocalRow,
+    OneNode,
+    OneState,
+    Piece,
+    PlanJudged,
+    SaidJudged,
+    StepsJudged,
+)
+from lab.studio.rounds import of_verdict
+from lab.studio.session import Session
+
+# What the first screen plays (page/studio.js).
+FIRST = "example=petersen&tab=rounds"
+LINK = re.compile(r"http://127\.0\.0\.1:8321/#([^)\s`\"]+)")
+# The networks that can be made on the page, and their sizes. A lesson asks for a row of 400 nodes.
+MADE = ("path", "ring")
+SIZES = (3, 4, 5, 6, 8, 12, 16, 30, 100, 400)
+# A network of so few nodes is recorded with all edges that it can have; of one with up to so many each is that comes of
+# it by two edges more or less, or one node with another identifier or bar.
+FEW, MORE = 5, 10
+# Nodes of a network whose runs are recorded by the states of its nodes, and neighbours of each: more have too many. With
+# one link they are recorded without any rules, and with so many links without one rule.
+MOST_IN_RUNS, MOST_NEIGHBOURS, MOST_LINKS = 6, 2, 2
+
+
+@dataclass(frozen=True)
+class Spot:
+    """A place that is recorded: the piece in which what is new goes, and if it is a lesson's the lesson and step."""
+
+    piece: str
+    place: str
+    lesson: int = 0
+    step: int = 0
+
+
+def spots() -> Iterator[Spot]:
+    """All places, in the order in which a class comes to them."""
+    yield Spot("first", FIRST)
+    for number in range(1, len(LESSONS) + 1):
+        for k in range(1, len(steps_in(number)) + 1):
+            yield Spot(f"lesson{number}", step_place(number, k), number, k)
+    for one in LECTURE:
+        yield Spot("lecture", one.place)
+    for place in linked_places():
+        yield Spot("links", place)
+
+
+def linked_places() -> Iterator[str]:
+    """The places to which the pages of docs/learn link, but for lessons and the lecture, which have their tables."""
+    folder = os.path.join(TOP, "docs", "learn")
+    for name in sorted(os.listdir(folder)) if os.path.isdir(folder) else ():
+        with open(os.path.join(folder, name), encoding="utf-8") as file:
+            for place in LINK.findall(file.read()):
+                if not {"lesson", "lecture"} & set(pairs_of(place)[0]):
+                    yield place
+
+
+def tell(done: int = 0, of: int = 0, part: object = None) -> None:
+    """Nobody is told how far a call is."""
+
+
+def page_text(net: Net) -> str:
+    """A network in the DIMACS format, as the page sends it (`text` of page/model.js)."""
+    numbered = list(enumerate(net.nodes, 1))
+    lines = [f"c at {v} {round(one.x, 1):.12g} {round(one.y, 1):.12g}" for v, one in numbered]
+    lines += [f"c name {v} {' '.join(one.name.split())}" for v, one in numbered if one.name]
+    lines += [f"p edge {len(net.nodes)} {len(net.edges)}"]
+    lines += [f"i {v} {one.id}" for v, one in numbered if one.id]
+    lines += [f"b {v} {bar}" for v, one in numbered for bar in one.bars]
+    lines += [f"e {v} {w}" for v, w in net.edges]
+    return "".join(f"{line}\n" for line in lines)
+
+
+def bare(text: str) -> str:
+    """A network without places and names, on which no answer but a picture depends."""
+    return re.sub("(?m)^c .*\n", "", text)
+
+
+def asked_of(call: object) -> dict[str, object]:
+    """What a call asks, but for what is usual."""
+    if not is_dataclass(call) or isinstance(call, type):
+        raise TypeError(f"{call!r} is no call")
+    values = {one.name: getattr(call, one.name) for one in fields(call)}
+    for name in ("slow", "lazy"):
+        if name in values:
+            values[name] = tuple(sorted(values[name]))
+    usual = {one.name: one.default for one in fields(call) if one.default is not MISSING}
+    return {name: one for name, one in values.items() if name not in usual or one != usual[name]}
+
+
+def key_of(call: object) -> str:
+    """By what an answer is found: the call, its network without places, and what else is asked, but for what is usual.
+    `keyOf` of page/recorded.js is the page's."""
+    asked = asked_of(call)
+    network = bare(str(asked.pop("network", "")))
+    if network:
+        asked.pop("name", None)
+    rest = json.dumps(asked, sort_keys=True, separators=(",", ":"), ensure_ascii=False)
+    return f"{name_of(call)} {network}{rest}"
+
+
+def name_of(call: object) -> str:
+    return next(name for name, one in CALLS.items() if one.asked is type(call))
+
+
+@dataclass(frozen=True)
+class OnPage:
+    """A network as the page has it: its text, and the words for its program."""
+
+    net: Net
+    text: str
+    program: str = COLOURING.name
+
+    def network(self) -> Network:
+        return network_asked(OfProgram(network=self.text))
+
+
+class Recording:
+    """The answers, by their pieces. `missing` are the exercises that the page can't judge."""
+
+    def __init__(self, session: Session, places: Sequence[Spot] | None = None) -> None:
+        self.session = session
+        self.places = list(spots()) if places is None else places
+        self.pieces: dict[str, Piece] = {}
+        self.known: set[str] = set()
+        self.examples: set[str] = set()
+        self.missing: list[str] = []
+        self.now = Piece()
+        self.numbers: dict[str, dict[str, int]] = {}
+        self.name = ""
+
+    def record(self) -> "Recording":
+        for spot in self.places:
+            self.begin(spot.piece)
+            self.at(spot)
+        return self
+
+    def begin(self, name: str) -> None:
+        self.name = name
+        self.now = self.pieces.setdefault(name, Piece())
+        self.numbers.setdefault(name, {})
+
+    def is_new(self, key: str) -> bool:
+        is_new = key not in self.known
+        self.known.add(key)
+        return is_new
+
+    def ask(self, call: object) -> object | None:
+        """Keeps the answer of a call, or its refusal, if it isn't kept already."""
+        key = key_of(call)
+        if not self.is_new(key):
+            return None
+        found = None
+        try:
+            found = CALLS[name_of(call)].function(call, self.session, tell)
+            kept = Kept(answer=found)
+        except Fault as why:
+            kept = Kept(wrong=str(why))
+        text = json.dumps(kept, default=as_object)
+        numbers = self.numbers[self.name]
+        if text not in numbers:
+            numbers[text] = len(self.now.values)
+            self.now.values.append(kept)
+        self.now.answers[key] = numbers[text]
+        return found
+
+    def at(self, spot: Spot) -> None:
+        """All that the page can ask at a place."""
+        opened = opened_by(spot.place, self.session)
+        values, net = opened.address.values, opened.network or Net("", [], [], [])
+        if values.example:
+            self.examples.add(values.example)
+            self.ask(ExampleCall(name=values.example))
+        on = OnPage(net, page_text(net), program_named(values))
+        if net.nodes:
+            self.every_tab(on)
+        if on.program in self.session.own:
+            self.ask(FileCall(own=on.program))
+        else:
+            OF_TABS[values.tab or "draw"](self, on, values)
+        if spot.lesson:
+            self.exercise(spot, on)
+
+    def every_tab(self, on: OnPage) -> None:
+        """What any tab shows of a network before anything is chosen there."""
+        if not self.is_new(f"network {bare(on.text)}"):
+            return
+        self.ask(PlanCall(network=on.text))
+        self.rounds(replace(on, program=COLOURING.name), Values())
+        for program in PROGRAMS:
+            self.film(replace(on, program=program))
+        self.run(replace(on, program=COLOURING.name), Values())
+        self.all_runs(replace(on, program=COLOURING.name), "")
+        self.verdicts(on)
+
+    def film(self, on: OnPage) -> None:
+        """The rounds of a program, and what goes wrong without one of its rules."""
+        self.ask(RoundsCall(network=on.text, program=on.program))
+        name = on.program.partition(" ")[0]
+        for rule in OF_PROGRAMS.get(name, {}):
+            self.broken(on, rule)
+
+    def broken(self, on: OnPage, rules: str) -> None:
+        call = BrokenCall(network=on.text, name=on.net.name, program=on.program, without=rules)
+        found = self.ask(call)
+        if isinstance(found, Broken) and found.found:
+            self.ask(PlanCall(network=page_text(found.found)))
+
+    def rounds(self, on: OnPage, values: Values) -> None:
+        """The rounds, why each node has its channel, and each question on what comes next."""
+        self.film(on)
+        if values.broken:
+            self.broken(on, values.broken)
+        network = on.network()
+        if on.program != COLOURING.name:
+            program = program_asked(
+                OfProgram(network=on.text, program=on.program), network, self.session
+            )
+            return self.questions(on, ProgramRounds(network, program), 1)
+        rounds = Rounds(network)
+        for v in network.vertices:
+            self.ask(WhyCall(network=on.text, vertex=v))
+            for forest in range(max(1, rounds.forests)):
+                self.ask(PictureCall(network=on.text, kind="bits", vertex=v, forest=forest))
+        self.questions(on, rounds, max(1, rounds.forests))
+
+    def questions(self, on: OnPage, rounds: Rounds | ProgramRounds, forests: int) -> None:
+        for pulse in range(1, len(rounds.pulses)):
+            for v in rounds.network.vertices:
+                for forest in range(forests):
+                    key = f"predict {bare(on.text)}{on.program} {v} {pulse} {forest}"
+                    try:
+                        found = Found(*found_after(rounds, v, pulse, forest))
+                    except Fault:
+                        continue
+                    if self.is_new(key):
+                        self.now.questions[key] = found
+
+    def run(self, on: OnPage, values: Values) -> None:
+        """The run of a place, without and with each link and each node that may wait."""
+        asked = RunCall(
+            network=on.text,
+            program=on.program,
+            policy=values.policy or "random",
+            seed=values.seed or "1",
+            slow=tuple(values.slow or ()),
+            lazy=tuple(values.lazy or ()),
+        )
+        self.ask(asked)
+        if values.other:
+            self.ask(
+                RunCall(
+                    network=on.text,
+                    program=on.program,
+                    policy=values.other.policy,
+                    seed=values.other.seed,
+                )
+            )
+        if values.tab != "run":
+            return
+        self.ask(RunCall(network=on.text, program=on.program, policy="newest", seed="2"))
+        for edge in on.net.edges:
+            self.ask(replace(asked, slow=(edge,), lazy=()))
+            self.ask(replace(asked, slow=tuple({*asked.slow} ^ {edge}), lazy=()))
+        for v in range(1, len(on.net.nodes) + 1):
+            self.ask(replace(asked, lazy=(v,)))
+        self.ask(replace(asked, slow=(), lazy=()))
+
+    def adversary(self, on: OnPage, values: Values) -> None:
+        links = len(on.net.edges)
+        most = len(OF_SCHEDULES) if links <= 1 else 1 if links <= MOST_LINKS else 0
+        for count in range(most + 1):
+            for rules in combinations(OF_SCHEDULES, count):
+                self.all_runs(on, ",".join(rules))
+        if values.without:
+            self.all_runs(on, values.without)
+
+    def all_runs(self, on: OnPage, without: str) -> None:
+        network = on.network()
+        key = f"steps {bare(on.text)}{on.program} {','.join(sorted(without.split(',')))}"
+        is_small = network.nodes <= MOST_IN_RUNS and network.greatest_degree <= MOST_NEIGHBOURS
+        if not is_small or not self.is_new(key):
+            return
+        program = program_asked(
+            OfProgram(network=on.text, program=on.program), network, self.session
+        )
+        rules = tuple(filter(None, without.split(",")))
+        try:
+            found = LocalStates(network, program, rules).find()
+        except TooMany:
+            return
+        goals = {dare: goal_of(network, rules, dare, found) for dare in dares.DARES}
+        self.now.runs[key] = all_runs_of(found, goals, dares.results_of(network, program))
+
+    def check(self, on: OnPage, _values: Values) -> None:
+        self.verdicts(on)
+
+    def verdicts(self, on: OnPage) -> None:
+        """The verdicts on all plans."""
+        key = f"check {bare(on.text)}"
+        if self.is_new(key):
+            self.now.verdicts[key] = verdicts_of(on.network())
+
+    def draw(self, on: OnPage, _values: Values) -> None:
+        for net in drawn_from(on.net):
+            self.ask(PlanCall(network=page_text(net)))
+        for call in made_calls():
+            made = self.ask(call)
+            if isinstance(made, Net):
+                self.ask(PlanCall(network=page_text(made)))
+
+    def exercise(self, spot: Spot, on: OnPage) -> None:
+        """How the exercise of a step is judged."""
+        exercise = steps_in(spot.lesson)[spot.step - 1].exercise
+        call = ExerciseCall(network="", lesson=spot.lesson, step=spot.step)
+        key = f"exercise {spot.lesson} {spot.step}"
+
+        def judged(said: str) -> ExerciseJudged:
+            return exercise_judged(replace(call, said=said), self.session, tell)
+
+        if isinstance(exercise, SaidExercise):
+            self.now.said[key] = SaidJudged(
+                exercise.right, judged(exercise.right), judged(SAID), judged("")
+            )
+        elif isinstance(exercise, SeenExercise):
+            goal = GOALS.get((spot.lesson, exercise.name))
+            if goal is proper:
+                counts = range(1, len(on.net.nodes) + 1)
+                self.now.plans[key] = PlanJudged(
+                    list(map(proper_words, counts)), list(map(blank_words, counts))
+                )
+            elif goal is first_pulse:
+                said = first_pulse_after(False, STEPS), first_pulse_after(True, STEPS)
+                self.now.steps[key] = StepsJudged("", None, "", *said)
+            elif isinstance(goal, Dared):
+                self.now.steps[key] = StepsJudged(goal.dare, goal.most, goal.enough(), None, None)
+            elif on.program in self.session.own:
+                self.missing.append(key)
+            else:
+                self.drawn_exercise(call, on)
+
+    def drawn_exercise(self, call: ExerciseCall, on: OnPage) -> None:
+        """An exercise on the network that is drawn: for each that can be drawn or made on the page."""
+        nets = [on.net, *drawn_from(on.net)]
+        for asked in made_calls():
+            made = CALLS["make"].function(asked, self.session, tell)
+            if isinstance(made, Net):
+                nets.append(made)
+        for net in nets:
+            if net.nodes:
+                self.ask(replace(call, network=page_text(net)))
+
+
+# What is recorded of a place of a tab.
+OF_TABS: dict[str, Callable[[Recording, OnPage, Values], None]] = {
+    "draw": Recording.draw,
+    "rounds": Recording.rounds,
+    "run": Recording.run,
+    "adversary": Recording.adversary,
+    "check": Recording.check,
+    "pictures": lambda *_: None,
+}
+
+
+def made_calls() -> Iterator[MakeCall]:
+    """The networks that can be made on the page."""
+    for kind in MADE:
+        for size in SIZES:
+            yield MakeCall(kind=kind, sizes={"nodes": str(size)})
+
+
+def of_edges(nodes: int, edges: Collection[tuple[int, int]]) -> Net:
+    """A network without places: no answer that is recorded of it depends on them."""
+    return Net("", [NetNode(0, 0, "", "", (), "", 0)] * nodes, sorted(edges), [])
+
+
+def drawn_from(net: Net) -> Iterator[Net]:
+    """The networks that come of one by a few changes on the page."""
+    for nodes in range(1, FEW + 1):
+        every = list(combinations(range(1, nodes + 1), 2))
+        for count in range(len(every) + 1):
+            for edges in combinations(every, count):
+                yield of_edges(nodes, edges)
+    if not 0 < len(net.nodes) <= MORE:
+        return
+    there, numbers = set(net.edges), range(1, len(net.nodes) + 1)
+    changes = list(combinations(numbers, 2))
+    for count in (1, 2):
+        for some in combinations(changes, count):
+            yield replace(net, edges=sorted(there ^ set(some)))
+    for v in numbers:
+        others = list(net.nodes)
+        for identifier in range(3 * len(others)):
+            others[v - 1] = replace(net.nodes[v - 1], id=str(identifier))
+            yield replace(net, nodes=list(others))
+        degree = max(sum(v in edge for edge in net.edges) for v in numbers)
+        channels = range(1, degree + 3)
+        for bars in [(channel,) for channel in channels] + list(combinations(channels, 2)):
+            others[v - 1] = replace(net.nodes[v - 1], bars=bars)
+            yield replace(net, nodes=list(others))
+
+
+def goal_of(network: Network, rules: tuple[str, ...], dare: str, found: LocalStates) -> DareGoal:
+    pairs, least = dares.goal(network, dare)
+    said = ""
+    if pairs:
+        said = dares.apart_words(MOST, least, STEPS)
+    elif dare == "wrong":
+        said = dares.wrong_words(MOST, STEPS)
+    return DareGoal(list(pairs), least, said, dares.impossible(found.program, rules, dare))
+
+
+def all_runs_of(
+    found: LocalStates, goals: Mapping[str, DareGoal], results: list[str | int]
+) -> AllRuns:
+    """The table of the states of the nodes."""
+    looks: dict[Look, int] = {}
+    waits: dict[Found, int] = {}
+
+    def waits_in(v: int, number: int, is_over: bool) -> Found:
+        found.state.nodes[v] = found.nodes[v][number]
+        what, why = waited(found.state, v, found.without, is_over)
+        return Found(", ".join(what), why)
+
+    nodes = []
+    for v, states in found.found.items():
+        numbers = {
+            key: k
+            for k, key in enumerate(
+                dict.fromkeys(key for one in states for key in one.rows if key != OWN_STEP)
+            )
+        }
+        rows = []
+        for k, one in enumerate(states):
+            takes = {numbers[key]: row for key, row in one.rows.items() if key != OWN_STEP}
+            same = [number for number, row in takes.items() if row.to == k and not row.puts]
+            own = one.rows.get(OWN_STEP)
+            rows.append(
+                OneState(
+                    looks.setdefault(one.look, len(looks)),
+                    waits.setdefault(waits_in(v, k, False), len(waits)),
+                    row_of(own) if own else None,
+                    {number: row_of(row) for number, row in takes.items() if number not in same},
+                    same,
+                )
+            )
+        nodes.append(OneNode(found.network.neighbours[v], found.starts[v], list(numbers), rows))
+    return AllRuns(
+        last=found.last,
+        overtakes="fifo" in found.without,
+        nodes=nodes,
+        looks=list(looks),
+        waits=list(waits),
+        over=waits_in(1, 0, True),
+        dares=goals,
+        results=results,
+        ends=(dares.NOT_HALTED, dares.SAME_RESULTS, dares.OTHER_RESULTS),
+    )
+
+
+def row_of(row: Row) -> LocalRow:
+    return LocalRow(row.to, row.puts or None, row.fault)
+
+
+def verdicts_of(network: Network) -> AllVerdicts:
+    """The verdict on each plan, by what it is about."""
+
+    def bad(code: str, *numbers: int) -> BadPlan:
+        verdict = of_verdict(Verdict(code, "vertex" if len(numbers) == 1 else "vertices", numbers))
+        if not isinstance(verdict, BadPlan):
+            raise TypeError(f"{code} is no fault of a plan")
+        return verdict
+
+    def good(greatest: int) -> GoodPlan:
+        verdict = of_verdict(Verdict(of="channels", numbers=(greatest,)))
+        if not isinstance(verdict, GoodPlan):
+            raise TypeError("no code is a fault of a plan")
+        return verdict
+
+    return AllVerdicts(
+        of=[
+            {bar: bad("C8", v) for bar in network.bars.get(v, ()) if bar <= network.channels}
+            for v in network.vertices
+        ],
+        above=[bad("C5", v) for v in network.vertices],
+        most=network.channels,
+        blank=[bad("C1", v) for v in network.vertices],
+        alike=[(v, w, bad("C4", v, w)) for v, w in sorted(network.edges)],
+        good=[good(greatest) for greatest in range(1, network.channels + 1)],
+    )
