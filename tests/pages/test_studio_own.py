@@ -12,6 +12,9 @@ ALGORITHMS = os.path.join(TOP, "examples", "algorithms")
 EVIL = "# <img src=x onerror=document.title='bad'></pre><script>document.title='bad'</script>\n"
 SHOWN = "['before', 'ran', 'after'].map(one => document.getElementById(one).textContent).join('')"
 MARKED = "document.getElementById('ran').hidden ? '' : document.getElementById('ran').textContent.split('\\n')[0]"
+# Whether the function that ran last is seen, with its first line at least.
+SEEN = """(() => { const [ran, box] = ['ran', 'codebox'].map(one => document.getElementById(one).getBoundingClientRect());
+  return ran.top >= box.top - 1 && ran.top + 20 <= box.bottom; })()"""
 ECHO = "example=triangle&program=echo&tab=adversary"
 
 
@@ -140,6 +143,11 @@ class OwnFiles(Page):
             "it is loaded", "document.getElementById('before').textContent.includes('onerror')", 20
         )
         self.reads("as a text", SHOWN, self.text("echo"))
+        self.reads(
+            "it is said",
+            "document.getElementById('codefault').textContent",
+            "It has been saved, and is loaded again.",
+        )
         self.note("nothing of it runs", self.value("document.title") != "bad")
         self.sees(
             "and played",
@@ -156,7 +164,11 @@ class OwnFiles(Page):
         self.reads("what was there stays", SHOWN, text)
         self.reads("and the run", "studio.steps.made.length", 1)
         self.save("echo", text.replace('me.send_all("wave")', 'me.send(0, "wave")'))
-        self.sees("mended", "!document.getElementById('codefault').textContent", 20)
+        self.sees(
+            "mended",
+            "document.getElementById('codefault').textContent.includes('loaded again')",
+            20,
+        )
         self.sees("other steps", "studio.steps.found && studio.steps.made.length === 1")
         self.save("echo", text.replace('me.send_all("wave")', "pass"))
         self.sees(
@@ -270,8 +282,12 @@ class OwnFiles(Page):
             self.note(f"{wide}: no wider", shown <= wide, shown)
             high_ = self.value("document.getElementById('codebox').clientHeight")
             self.note(f"{wide}: lines of text", high_ >= 100, high_)
+            self.take("2-1")
+            self.reads(f"{wide}: what ran is seen", SEEN, True)
             stage = self.value("document.getElementById('stage').clientHeight")
             self.note(f"{wide}: a stage", stage >= 200, stage)
+        self.page.size(360, 740, True)
+        self.sees("and after a turn", SEEN)
 
     def test_zz_no_script_complained(self) -> None:
         self.same("no script complained", self.page.faults, [])

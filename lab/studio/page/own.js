@@ -14,6 +14,9 @@ export const file = {name: "", version: "", text: null, lines: {}, fault: ""};
 let last = {functions: [], node: 0};
 // The program whose file is asked for now; why it can't be; and what is drawn.
 let asking = "", lost = "", drawn = "";
+// What is said for a while after the file has been loaded again.
+const AGAIN = "It has been saved, and is loaded again.", LONG = 6000;
+let said = "", saying = 0;
 /** @type {() => unknown} */
 let changed = () => 0;
 
@@ -29,6 +32,8 @@ export function wordsOfFile() {
 export function watchFile(does) {
   changed = does;
   setInterval(() => { if (!document.hidden) look(); }, EVERY);
+  // Another size of the box may hide the function that ran last.
+  new ResizeObserver(() => { if (!by("ran").hidden) intoSight(by("codebox"), by("ran")); }).observe(by("codebox"));
 }
 function look() {
   const {program} = seen;
@@ -53,7 +58,11 @@ function take(name, {version, text, lines, fault}) {
   file.version = version;
   if (text === undefined) { file.fault = fault || ""; return; }
   Object.assign(file, {text, lines: lines || {}, fault: ""});
-  if (had) changed();
+  if (!had) return;
+  said = AGAIN;
+  clearTimeout(saying);
+  saying = setTimeout(() => { said = ""; show(); }, LONG);
+  changed();
 }
 // What is seen of the file when a tab is entered.
 export function enterFile() {
@@ -73,13 +82,18 @@ function show() {
   document.body.classList.toggle("coded", isSeen);
   if (!isSeen) return;
   const name = last.functions.find(one => Object.hasOwn(file.lines, one)) || "";
-  const key = JSON.stringify([file.name, file.text, file.fault, lost, name, last.node]);
+  const key = JSON.stringify([file.name, file.text, file.fault, lost, said, name, last.node]);
   if (key === drawn) return;
   drawn = key;
   by("codesaid").replaceChildren(html("b", `${file.name}.py`), " Nothing is proved of this file. ",
     ...name ? coded(ranWords(name)) : []);
-  by("codefault").replaceChildren(...coded(lost || file.fault));
+  sayFault(lost || file.fault);
   showText(name ? file.lines[name] : [0, 0]);
+}
+/** @param {string} wrong */
+function sayFault(wrong) {
+  by("codefault").className = wrong ? "bad" : "soft";
+  by("codefault").replaceChildren(...coded(wrong || said));
 }
 /** @param {string} name */
 function ranWords(name) {
