@@ -156,6 +156,43 @@ class Index(FilesCase):
             ],
         )
 
+    def test_minutes_of_teaching(self):
+        """TEACHING says how many parts of its table are taught in a shorter class: as many as its minutes hold."""
+        page = one_line(text_in("docs", "learn", "TEACHING.md"))
+        parts = [(int(begin), int(end)) for begin, end in re.findall(r"\| (\d+) to (\d+) \|", page)]
+        self.same(
+            "parts without a gap",
+            [begin for begin, _ in parts],
+            [0, *(end for _, end in parts[:-1])],
+        )
+        minutes, number = found_in(
+            r"If you have (\d+) minutes, teach the first (\w+) parts", page
+        ).groups()
+        count = {"two": 2, "three": 3, "four": 4}[number]
+        self.same(
+            f"parts in {minutes} minutes", count, sum(end <= int(minutes) for _, end in parts)
+        )
+
+    def test_wrong_bodies_of_gallery(self):
+        """GALLERY names each wrong body with its crate. The edit is there, and those of the programs that go on are
+        tried by hand."""
+        page = text_in("docs", "learn", "GALLERY.md")
+        before, _, after = page.partition("## Rules of the programs that go on")
+        self.note("by hand", "are tried by hand" in one_line(after), after[:500])
+        for text, folders in ((before, ("must-fail", "wrong-bodies")), (after, ("wrong-bodies",))):
+            named = re.findall(
+                r"rong body (?:of|is) `(\w+)`(?:, which the prover refuses)?: `?(\w+)",
+                one_line(text),
+            )
+            self.note("wrong bodies", len(named) > 5, named)
+            for crate, name in named:
+                there = [
+                    folder
+                    for folder in ("must-fail", "wrong-bodies")
+                    if os.path.exists(os.path.join(TOP, "crates", crate, folder, f"{name}.edit"))
+                ]
+                self.note(f"{name} of {crate}", there and {*there} <= {*folders}, there)
+
     def test_command_table(self):
         """README has the table that `python3 build command-table` writes."""
         page = text_in("README.md")
