@@ -105,6 +105,14 @@ class Published:
 
 
 @dataclass(frozen=True)
+class DareSaid:
+    """A dare: its title in the menu, and its goal in words that go on a sentence which begins with "I dare you to"."""
+
+    title: str
+    goal: str
+
+
+@dataclass(frozen=True)
 class Hello:
     """What there is to choose from. `own` are the programs of one's own and the samples, each with its form, and
     `own_dares` the dares of those whose nodes react to messages."""
@@ -122,8 +130,8 @@ class Hello:
     rules: RulesSaid
     lessons: Sequence[Lesson]
     lecture: Sequence[LecturePlace]
-    dares: Mapping[str, str]
-    own_dares: Mapping[str, str]
+    dares: Mapping[str, DareSaid]
+    own_dares: Mapping[str, DareSaid]
     address: Mapping[str, Written]
     published: Published | None = None
 

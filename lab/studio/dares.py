@@ -10,15 +10,21 @@ from lab.pictures.layout import distances
 from lab.pictures.program_rounds import is_own, rounds_of
 from lab.pictures.watch_page import look_of
 from lab.schedules.stepwise import Stepwise
-from lab.studio.answers import DareJudged
+from lab.studio.answers import DareJudged, DareSaid
 from lab.words import counted
 
-# In words that go on a sentence which begins with "I dare you to".
 DARES = {
-    "apart": "bring two neighbours two pulses apart",
-    "ends": "bring the two nodes that are farthest from each other as many pulses apart as they are links apart",
-    "wrong": "have a node make a pulse with another inbox than that of its round",
-    "results": "have all nodes halt with other results than those of the rounds",
+    "apart": DareSaid("neighbours two pulses apart", "bring two neighbours two pulses apart"),
+    "ends": DareSaid(
+        "the two ends far apart",
+        "bring the two nodes that are farthest from each other as many pulses apart as they are links apart",
+    ),
+    "wrong": DareSaid(
+        "a wrong inbox", "have a node make a pulse with another inbox than that of its round"
+    ),
+    "results": DareSaid(
+        "other results", "have all nodes halt with other results than those of the rounds"
+    ),
 }
 
 # Why nobody wins a dare with all rules: it is proved, and where (docs/claim/THEOREMS.md). Nothing is proved of a

@@ -226,8 +226,8 @@ COLOURS = LessonSteps(
         ),
         TableStep(
             "example=petersen&tab=rounds&at=2&forest=0&node=8&predict=1",
-            "Now you. Node 8 has the colour 8, and its parent, node 10, has the colour 10. The panel asks which colour "
-            "node 8 has after pulse 3.",
+            "Now you. Node 8 has the colour 8, and its parent, node 10, has the colour 10. Make the bit step of "
+            "node 8.",
             PredictedExercise(
                 name="bit",
                 hint="8 is 1000, and 10 is 1010. In which digit do they differ, counted from the right, from 0?",
@@ -312,7 +312,7 @@ MERGE = LessonSteps(
         TableStep(
             "example=triangle&tab=rounds&at=25&node=2&predict=1",
             "In this merge node 3 has taken channel 1, and node 1 has taken channel 2. In pulse 26 it is node 2's "
-            "turn. The panel asks which channel it chooses.",
+            "turn.",
             PredictedExercise(
                 name="turn",
                 hint="Both other nodes are neighbours of node 2, and have told it what they have taken.",
@@ -384,7 +384,7 @@ NO_CLOCK = LessonSteps(
             "message. An *ack* says: I have your payload. A *safe* says: all my payloads of this pulse are "
             "acknowledged. (A *close* ends a link.) A node makes its next pulse when its own payloads are acknowledged "
             "and all its neighbours are safe. Here node 2 has acknowledged node 1's payload, and nothing else has "
-            "come. The panel asks what node 1 waits for: tick it.",
+            "come.",
             PredictedExercise(
                 name="waits",
                 hint="Node 1 has sent a payload to each of its neighbours, 2 and 3. One ack has come.",
@@ -541,9 +541,8 @@ MORE = LessonSteps(
         ),
         TableStep(
             "example=path&tab=rounds&program=matching&at=18&node=2&predict=1",
-            "In this row of three, the panel asks what node 2 has found after pulse 19. Node 1 and node 2 are free, "
-            "and the messages say who tells whom. Answer as the words below a node: *partner none*, or *partner* and "
-            "the port.",
+            "In this row of three, node 1 and node 2 are free, and the messages say who tells whom. Node 3 has the "
+            "next turn. Answer with the words that are below a node: *partner none*, or *partner* and the port.",
             PredictedExercise(
                 name="partner",
                 hint="Node 3 takes its free child, node 2. Which port of node 2 leads to node 3? Its neighbours are 1 "

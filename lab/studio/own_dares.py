@@ -10,14 +10,16 @@ from lab.network import Network
 from lab.schedules.policies import Policy
 from lab.schedules.reacting_stepwise import ReactingStepwise
 from lab.schedules.simulate import Player
-from lab.studio.answers import DareJudged
+from lab.studio.answers import DareJudged, DareSaid
 from lab.words import counted
 
-# In words that go on a sentence which begins with "I dare you to".
 OWN_DARES = {
-    "always": "reach a state that the file’s always refuses",
-    "right": "reach an end that the file’s right refuses",
-    "other": "reach an end with other results than if what has been possible for longest always comes first",
+    "always": DareSaid("what always refuses", "reach a state that the file’s always refuses"),
+    "right": DareSaid("an end that right refuses", "reach an end that the file’s right refuses"),
+    "other": DareSaid(
+        "other results",
+        "reach an end with other results than if what has been possible for longest always comes first",
+    ),
 }
 # The end of that order is looked for among so many entries.
 MOST_ENTRIES = 20_000

@@ -65,14 +65,20 @@ class Predictions(Page):
         said = self.page.text("dared")
         self.note(
             "its goal, the rules and the steps",
-            all(one in said for one in ("another inbox", "Left out: safes", "in 5 steps")),
+            all(one in said for one in ("another inbox", "Left out: safes", "Won in 5 steps")),
             said,
         )
         self.reads(
             "what else is said isn't a fault",
-            "document.querySelectorAll('#stepsaid p.bad').length",
-            1,
+            "document.querySelectorAll('#stepsaid .bad').length",
+            0,
         )
+        choices = "Array.from(dare.options).slice(1)"
+        ticked = f"{choices}.filter(one => one.textContent.endsWith('✓')).map(one => one.value)"
+        self.reads("ticked in the menu", ticked, ["wrong"])
+        # What is chosen is read whole: the menu is no wider than the panel.
+        wide = "Math.max(...Array.from(dare.options, one => one.textContent.length))"
+        self.note("short titles", self.value(wide) < 34, self.value(wide))
         self.click_on("#dared button")
         self.sees(
             "the link to hand in", "window.copied && copied.includes('steps=1-2_2-1_2-1_2_2')"

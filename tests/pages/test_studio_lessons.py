@@ -517,7 +517,8 @@ class Cards(Page):
         """Holds node 1, and lets chance go on until the exercise is done."""
         self.press("Enter", "[data-key='hold 1']")
         for _ in range(12):
-            if self.value(TICKED):
+            # All that can happen is held at last, which is judged a moment later.
+            if self.value(f"{TICKED} || chance20.disabled"):
                 return
             before = self.value("studio.steps.made.length")
             self.press("Enter", "#chance20")

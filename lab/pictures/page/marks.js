@@ -127,7 +127,7 @@ export function colourSquare(x, y, half, colour, isColour) {
   // What is as wide as its square is set closer.
   const close = said.length > 3 ? {textLength: 1.7 * half, lengthAdjust: "spacingAndGlyphs"} : {};
   return [mark("rect", {x: x - half, y: y - half, width: 2 * half, height: 2 * half, rx: half * 0.25, fill,
-    stroke: "var(--rim)", "data-mark": isColour ? "colour" : "name"}), words(x, y, size, ink, said, {...BOLD, ...close})];
+    stroke: "var(--rim)", "data-mark": isColour ? "colour" : said === String(colour) ? "name" : "long_name"}), words(x, y, size, ink, said, {...BOLD, ...close})];
 }
 /** @param {number} x @param {number} y @param {number} r @param {string | number} [said] @returns {Marks} */
 export function blank(x, y, r, said) {

@@ -64,6 +64,11 @@ interface Published {
   sizes: number[];
 }
 
+interface DareSaid {
+  title: string;
+  goal: string;
+}
+
 interface Hello {
   proved: boolean;
   most: number;
@@ -78,8 +83,8 @@ interface Hello {
   rules: RulesSaid;
   lessons: Lesson[];
   lecture: LecturePlace[];
-  dares: Record<string, string>;
-  own_dares: Record<string, string>;
+  dares: Record<string, DareSaid>;
+  own_dares: Record<string, DareSaid>;
   address: Record<string, Written>;
   published?: Published;
 }

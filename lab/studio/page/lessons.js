@@ -32,10 +32,20 @@ export function showCard() {
   box.hidden = !parts.length;
   box.setAttribute("aria-label", lecture ? "lecture" : "lesson");
   box.classList.toggle("away", isAway);
+  Object.values(HOMES).forEach(bring => bring());
   box.replaceChildren(...parts);
+  const slot = box.querySelector(".asked");
+  if (slot && !isAway) slot.append(by(seen.tab === "adversary" ? "question2" : "question"));
   if (parts.length) by("side").scrollTop = 0;
   look();
 }
+// The tabs' own questions: that of a step's exercise is in its card, and brought back to its panel when the step is left.
+/** @param {"question" | "question2"} id */
+function homeOf(id) {
+  const {parentNode, nextSibling} = by(id);
+  return () => { if (parentNode) parentNode.insertBefore(by(id), nextSibling); };
+}
+const HOMES = {question: homeOf("question"), question2: homeOf("question2")};
 // Whether another tab is seen than that of the step.
 function isElsewhere() {
   const step = stepSeen();
@@ -63,15 +73,15 @@ function partsOfStep() {
 /** @param {Lesson} lesson */
 function arrowsOfStep({number, steps: list}) {
   const at = seen.step || 1, {lessons} = hello(), before = lessons[number - 2], next = lessons[number];
-  return arrows(`step ${at} of ${list.length}`,
+  return arrows(`step ${at} of ${list.length}`, ["↺", "this step from its beginning", () => go(number, at, true)],
     at > 1 ? ["◂", "the step before", () => go(number, at - 1)]
       : before && ["◂", `the last step of lesson ${number - 1}`, () => go(number - 1, before.steps.length)],
     at < list.length ? ["next ▸", "the next step", () => go(number, at + 1)]
       : next && [`lesson ${number + 1} ▸`, `the first step of lesson ${number + 1}`, () => go(number + 1, 1)]);
 }
 /** @typedef {[string, string, () => void] | undefined} Way */
-/** @param {string} where @param {Way} back @param {Way} on */
-function arrows(where, back, on) {
+/** @param {string} where @param {Way} again @param {Way} back @param {Way} on */
+function arrows(where, again, back, on) {
   const box = html("nav", null, {class: "arrows", "aria-label": "back and on"});
   /** @type {(way: Way, more: Attributes) => HTMLElement} */
   const button = (way, more) => {
@@ -80,7 +90,8 @@ function arrows(where, back, on) {
     one.hidden = !way;
     return one;
   };
-  box.append(button(back, {"data-way": "back"}), html("span", where), button(on, {"data-way": "on", class: "primary"}));
+  box.append(button(back, {"data-way": "back"}), html("span", where), button(again, {class: "quiet"}),
+    button(on, {"data-way": "on", class: "primary"}));
   return box;
 }
 // Goes to a step. One without a place of its own goes on where the step before it has led to, unless its place is
@@ -112,8 +123,9 @@ function footer({number}) {
 function exerciseBox(lesson, is) {
   const box = html("div", null, {class: "exercise"}), said = html("p", null, {role: "status", class: "judged"});
   if (is.kind === "said") box.append(form(lesson, is));
+  if (is.kind === "predicted") box.append(html("div", null, {class: "asked"}));
   box.append(said, folded("a hint", is.hint), folded("the answer", is.answer));
-  queueMicrotask(() => say(lesson, is, isDone(lesson, is) ? "Done." : is.kind === "predicted" ? "Answer the question in the panel below." : ""));
+  queueMicrotask(() => say(lesson, is, isDone(lesson, is) ? "Done." : ""));
   return box;
 }
 // The question of an exercise, with a field or with answers to pick.
@@ -228,7 +240,7 @@ function partsOfPlace(at) {
   words.append(...textOf(place.say), html("p", "In the large mode (the key F) these words aren’t seen. A second window with the lecture"
     + " goes along with this one, and keeps them.", {class: "soft"}));
   return [head(capital(place.title), "the lecture"), words,
-    arrows(`${at} of ${lecture.length}, minutes ${place.minutes}`, at > 1 ? ["◂", "the place before", () => goTo(at - 1)] : undefined,
+    arrows(`${at} of ${lecture.length}, minutes ${place.minutes}`, ["↺", "this place from its beginning", () => goTo(at)], at > 1 ? ["◂", "the place before", () => goTo(at - 1)] : undefined,
       at < lecture.length ? ["next ▸", "the next place", () => goTo(at + 1)] : undefined)];
 }
 // Windows of one browser with the lecture go along with each other.

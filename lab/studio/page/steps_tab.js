@@ -1,6 +1,6 @@
 // The tab Adversary: whoever looks is the network, and chooses which message is taken next and which node pulses.
-import {all, announce, asks, by, count, go, hello, hooks, leftOutWords, option, programNamed, ruleBoxes, rulesOf, seen, show, showOptions,
-  stage, tabs, toggleLazy, toggleSlow, wrong} from "./base.js";
+import {all, announce, asks, by, capital, count, go, hello, hooks, leftOutWords, option, programNamed, ruleBoxes, rulesOf, seen,
+  show, showOptions, stage, tabs, toggleLazy, toggleSlow, wrong} from "./base.js";
 import {keep, keptNumbers} from "./kept.js";
 import {html, sentence} from "./marks.js";
 import {MESSAGES, hueOf, reactedMarks, reactedWords} from "./messages.js";
@@ -135,14 +135,26 @@ function showDare(is) {
   const card = by("dared"), {dare} = is;
   card.hidden = !dare;
   if (!dare) return;
-  const goal = `${dare.won ? "☑" : "☐"} I dare you to ${daresHere()[steps.dare]}.`;
+  const goal = `I dare you to ${daresHere()[steps.dare].goal}.`;
   const rules = steps.without ? `Left out: ${steps.without.split(",").join(", ")}.` : "All rules are kept.";
-  const far = `${dare.won ? "Won" : "Not yet"}: ${dare.said}.${dare.impossible ? ` ${dare.impossible}.` : ""}`;
-  const best = bestOf(dare), ever = html("p", best === undefined ? "Best so far: not won yet." : `Best so far: won in ${count(best, "step")}.`, {class: "soft"});
+  const best = bestOf(dare), ever = best === undefined ? "not won yet" : `won in ${count(best, "step")}`;
   const copy = html("button", dare.won ? "copy the link to hand in" : "copy this as a task", {class: dare.won ? "primary" : "quiet"});
   copy.onclick = () => hooks.copy(copy, dare.won ? {} : {steps: []});
+  const head = dare.won ? [html("b", `☑ Won in ${count(steps.made.length, "step")}`, {class: "banner"}), html("p", goal)] : [html("b", `☐ ${goal}`)];
+  const far = dare.won ? `${capital(dare.said)}.` : `Not yet: ${dare.said}.`;
+  const foot = html("p", `${rules} Best so far: ${ever}. `, {class: "soft"});
+  foot.append(copy);
   card.className = dare.won ? "card won" : "card";
-  card.replaceChildren(html("b", goal), html("p", rules, {class: "soft"}), sentence(far), ever, copy);
+  card.replaceChildren(...head, sentence([far, dare.impossible && `${dare.impossible}.`].filter(Boolean).join(" ")), foot);
+  showDares();
+}
+// The menu of the dares, in which those that this browser has won with a rule left out or with all of them are ticked.
+function showDares() {
+  const won = new Set(Array.from(keptNumbers(BEST).keys(), task => task.slice(2, task.indexOf('"', 2))));
+  Array.from(by("dare").options).filter(one => one.value).forEach(one => {
+    const said = daresHere()[one.value];
+    if (said) one.textContent = said.title + (won.has(one.value) ? " ✓" : "");
+  });
 }
 // The dares of the program; those of a file make sense only if it has their function.
 function daresHere() { return reacts() ? hello().own_dares : hello().dares; }
@@ -153,9 +165,10 @@ function offerDares(names) {
     list.dataset.of = key;
     list.replaceChildren();
     option(list, "", "none");
-    names.forEach(name => option(list, name, daresHere()[name]));
+    names.forEach(name => option(list, name, daresHere()[name].title, daresHere()[name].goal));
   }
   list.value = steps.dare;
+  showDares();
 }
 // Why nothing goes on, or that all is done; what is under way then is taken by nodes that have halted.
 /** @param {StepsFound} is @returns {[string, string] | null} */
@@ -174,10 +187,10 @@ function endWords(is) {
 /** @param {StepsFound | ReactionsFound} is */
 function sayWhere(is) {
   const box = by("stepsaid"), n = steps.made.length, end = is.nodes ? null : endWords(is);
-  const lines = [html("b", n ? `${n}: ${is.said}.` : "Nothing has happened yet: choose what comes first.")];
-  if (is.fault) lines.push(sentence(`✗ ${is.fault}.`, {class: "bad"}));
+  const lines = [html("b", n ? `${n}: ${is.said}.` : "Choose what comes first.")], isWon = Boolean(is.dare && is.dare.won);
   // What a dare asks for may be what a program refuses.
-  if (end) lines.push(html("p", end[0], {class: is.dare && is.dare.won ? "soft" : end[1]}));
+  if (is.fault) lines.push(sentence(`${isWon ? "" : "✗ "}${capital(is.fault)}.`, {class: isWon ? "soft" : "bad"}));
+  if (end) lines.push(html("p", end[0], {class: isWon ? "soft" : end[1]}));
   if (is.nodes) lines.push(...fileSays(is, !is.steps.some(isFree)));
   else if (is.judge) lines.push(judgement(is.judge, is));
   box.replaceChildren(...lines);
@@ -234,7 +247,8 @@ function listSteps(is) {
 function rowWords(is, v) {
   if (is.nodes) return reactedWords(is.nodes[v - 1], true);
   const look = is.looks[v - 1];
-  return `pulse ${look.pulse}${steps.predicts || is.over ? "" : ": " + waitsWords(look, is.last)}`;
+  const waits = look.done ? "done" : "waits for " + waitsWords(look, is.last);
+  return `pulse ${look.pulse}${steps.predicts || is.over ? "" : ", " + waits}`;
 }
 /** @param {AnySteps} is @param {string} step */
 function wireOf(is, step) {

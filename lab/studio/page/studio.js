@@ -367,7 +367,7 @@ function turnLarge(isLarge = !document.documentElement.classList.contains("large
   show();
 }
 document.onfullscreenchange = () => { if (!document.fullscreenElement) turnLarge(false); };
-by("large").onclick = () => turnLarge();
+by("large").onclick = by("normal").onclick = () => turnLarge();
 by("replay").onclick = () => { time.stop(); time.set(0); time.toggle(); };
 by("skip").onclick = () => all("#net [data-node]").slice(0, 1).forEach(one => one.focus());
 all("header nav button").forEach(one => { one.onclick = () => hooks.go(tabNamed(one.dataset.tab)); });
@@ -480,7 +480,7 @@ async function begin() {
   all("header nav, .tools").forEach(one => { one.hidden = false; });
   examples.forEach(name => option(by("examples"), name));
   fillMenu();
-  Object.entries(dares).forEach(([name, says]) => option(by("dare"), name, says));
+  Object.entries(dares).forEach(([name, {title, goal}]) => option(by("dare"), name, title, goal));
   lecture.forEach((one, k) => option(by("lecture"), k + 1, `${one.minutes}: ${one.title}`));
   inputs(".passes").forEach(one => { one.max = String(passes); });
   [by("program"), by("program2"), by("program3"), by("program4")].forEach(list => {

@@ -250,6 +250,7 @@ interface Elements {
   predicts2: HTMLInputElement;
   dare: HTMLSelectElement;
   dared: HTMLElement;
+  normal: HTMLButtonElement;
   question2: HTMLElement;
   stepsaid: HTMLElement;
   possible: HTMLElement;
