@@ -1,9 +1,9 @@
 """Drives a page by commands of a shell, with a picture after each: for somebody who tries the studio as a fresh reader.
 
   python3 -m tests.by_hand.drive ME begin            a studio of its own, in a window of 1280 x 800
-  python3 -m tests.by_hand.drive ME begin --phone    in one of 360 x 740, with a finger; --dark, --size 768x1024
+  python3 -m tests.by_hand.drive ME begin --phone    in one of 360 x 740; --dark, --size 768x1024
   python3 -m tests.by_hand.drive ME begin FILE       a page in a file, or at an address, instead of a studio
-  python3 -m tests.by_hand.drive ME click 640 700    a click, or a tap, at a place of the last picture
+  python3 -m tests.by_hand.drive ME click 640 700    a click at a place of the last picture
   python3 -m tests.by_hand.drive ME click next       on the button, link or field with these words
   python3 -m tests.by_hand.drive ME drag 100 100 300 200
   python3 -m tests.by_hand.drive ME choose examples star    a choice of a menu, whose choices no picture shows
@@ -51,6 +51,8 @@ KEYS = {
     "ArrowRight": 39,
     "ArrowDown": 40,
 }
+# A page that answers nothing for so long never will.
+MOST_SECONDS = 120
 MODIFIERS = {"Alt": 1, "Ctrl": 2, "Shift": 8}
 # The first element that is seen with these words: as its text, its label or its title; whole, then as a part.
 FIND = """((words, kinds) => {
@@ -60,6 +62,13 @@ FIND = """((words, kinds) => {
   const all = Array.from(document.querySelectorAll(kinds)).filter(one => one.getClientRects().length);
   const has = name => name.includes(wanted);
   return all.find(one => names(one).includes(wanted)) || all.find(one => names(one).some(has));
+})"""
+# Scrolls what can be scrolled at a place, as a wheel or a finger there does.
+SCROLL = """((x, y, by) => {
+  let one = document.elementFromPoint(x, y);
+  const goes = is => is.scrollHeight > is.clientHeight + 1 && /auto|scroll/.test(getComputedStyle(is).overflowY);
+  while (one && !goes(one)) one = one.parentElement;
+  (one || document.scrollingElement).scrollBy(0, by);
 })"""
 USED = "button, a, summary, label, input, select, textarea, [role=tab], [data-node]"
 
@@ -77,7 +86,6 @@ class Driven:
             raise SystemExit("drive: no browser is installed")
         self.folder = folder_of(name)
         self.factor = 2 if given.phone else 1
-        self.is_phone = given.phone
         self.pictures = 0
         self.seconds = 0.0
         self.studio: subprocess.Popen[str] | None = None
@@ -137,11 +145,9 @@ class Driven:
         return f"picture: {path}"
 
     def press(self, x: float, y: float) -> None:
-        if self.is_phone:
-            self.page.tap(x, y)
-        else:
-            self.page.mouse("mouseMoved", x, y)
-            self.page.click(x, y)
+        # Of a page that has stood still Chromium takes the mouse's events, and no touches.
+        self.page.mouse("mouseMoved", x, y)
+        self.page.click(x, y)
 
     def do_see(self) -> None:
         """Nothing but a picture."""
@@ -198,14 +204,8 @@ class Driven:
         self.page.key(name, code=key, windowsVirtualKeyCode=number, **more)
 
     def do_scroll(self, x: str, y: str, by: str) -> None:
-        self.page.ask(
-            "Input.dispatchMouseEvent",
-            type="mouseWheel",
-            x=float(x) / self.factor,
-            y=float(y) / self.factor,
-            deltaX=0,
-            deltaY=float(by) / self.factor,
-        )
+        places = [float(place) / self.factor for place in (x, y, by)]
+        self.page.value(f"{SCROLL}(...{json.dumps(places)})")
 
     def do_back(self) -> None:
         self.page.value("history.back()")
@@ -232,6 +232,7 @@ def served(name: str, given: Namespace) -> None:
 
 def asked_of(name: str, words: list[str]) -> str:
     with socket.socket(socket.AF_UNIX) as place:
+        place.settimeout(MOST_SECONDS)
         place.connect(os.path.join(folder_of(name), "socket"))
         with place.makefile("rw", encoding="utf-8") as file:
             file.write(json.dumps(words) + "\n")
@@ -281,7 +282,10 @@ def main() -> None:
         given.size = given.size or ((360, 740) if given.phone else (1280, 800))
         served(name, given)
     else:
-        print(asked_of(name, [command, *words]))
+        try:
+            print(asked_of(name, [command, *words]))
+        except OSError as why:
+            raise SystemExit(f"drive: no answer of {name}: {why}") from None
 
 
 if __name__ == "__main__":
