@@ -22,22 +22,22 @@ def module_text(name: str) -> str:
         return file.read()
 
 
-def joined(main: str, instead: dict[str, str]) -> str:
+def as_one_script(main: str, instead: dict[str, str]) -> str:
     """The module `main` with all that it imports, as one script; `instead` names modules that take the place of
     others."""
     done: dict[str, str] = {}
-    for name in in_order(main, instead, []):
+    for name in imports_first(main, instead, []):
         if name not in done:
             done[name] = as_function(name, instead)
     return '"use strict";\n' + "".join(done.values())
 
 
-def in_order(name: str, instead: dict[str, str], above: list[str]) -> Iterator[str]:
+def imports_first(name: str, instead: dict[str, str], above: list[str]) -> Iterator[str]:
     """A module after those that it imports."""
     if name in above:
         raise ValueError(f"{name}.js imports itself, by way of {', '.join(above)}")
     for _, _, other in IMPORT.findall(module_text(name)):
-        yield from in_order(instead.get(other, other), instead, [*above, name])
+        yield from imports_first(instead.get(other, other), instead, [*above, name])
     yield name
 
 

@@ -23,7 +23,7 @@ OWN_STEP = 0, ""
 
 
 @dataclass
-class Row:
+class LocalStep:
     """What a step leads to: the number of the node's state, or None if its program refuses the pulse; the wires that it
     puts, each with the neighbour; and what is wrong with it, if something is."""
 
@@ -37,7 +37,7 @@ class LocalState:
     """A state of a node: what is shown of it, and its rows by (neighbour, wire); `OWN_STEP` is its next pulse."""
 
     look: Look
-    rows: dict[tuple[int, str], Row] = field(default_factory=dict)
+    rows: dict[tuple[int, str], LocalStep] = field(default_factory=dict)
 
 
 class TooMany(Exception):
@@ -111,11 +111,11 @@ class LocalStates:
         fault, is_over = node.fault_of_pulse(v, self.rounds)
         rows = self.found[v][number].rows
         if is_over:
-            rows[OWN_STEP] = Row(None, (), fault)
+            rows[OWN_STEP] = LocalStep(None, (), fault)
         elif self.without or not fault:
             node.act()
             puts = self.put(v, node)
-            rows[OWN_STEP] = Row(self.number(v, node), puts, fault)
+            rows[OWN_STEP] = LocalStep(self.number(v, node), puts, fault)
 
     def take(self, v: int, number: int, w: int, wire: Message) -> None:
         rows = self.found[v][number].rows
@@ -128,7 +128,7 @@ class LocalStates:
             return
         if self.without or self.can_be(v, node, port, wire):
             # It is there before what it puts comes back to it.
-            rows[w, str(wire)] = row = Row(None, ())
+            rows[w, str(wire)] = row = LocalStep(None, ())
             row.puts = self.put(v, node)
             row.to = self.number(v, node)
 

@@ -15,7 +15,7 @@ from lab.pictures import pages
 from lab.pictures.page_data import as_object
 from lab.programs import TOP
 from lab.studio.answers import Hello, Published
-from lab.studio.bundle import OWN, joined
+from lab.studio.bundle import OWN, as_one_script
 from lab.studio.calls import CALLS
 from lab.studio.messages import HelloCall
 from lab.studio.networks import hello
@@ -34,9 +34,9 @@ def published(session: Session, places: Sequence[Spot] | None = None) -> dict[st
     """The files of the page, by their names: of all places, or of some."""
     recording = Recording(session, places).record()
     is_ = hello_of(session, recording)
-    files = {"index.html": page(), "studio.js": script(is_, list(recording.pieces))}
+    files = {"index.html": index_page(), "studio.js": script(is_, list(recording.pieces))}
     for name, piece in recording.pieces.items():
-        files[f"answers/{name}.js"] = f'recorded("{name}", {as_text(piece)});\n'
+        files[f"answers/{name}.js"] = f'recorded("{name}", {json_of(piece)});\n'
     found = {name: text.encode() for name, text in files.items()}
     for name in sorted({name for one in is_.lessons for name in PICTURE.findall(one.text)}):
         with open(os.path.join(TOP, "docs", "pictures", name), "rb") as file:
@@ -44,7 +44,7 @@ def published(session: Session, places: Sequence[Spot] | None = None) -> dict[st
     return found
 
 
-def as_text(value: object) -> str:
+def json_of(value: object) -> str:
     """JSON that is a script, too, whatever its encoding is taken for."""
     return json.dumps(value, separators=(",", ":"), default=as_object)
 
@@ -67,10 +67,10 @@ def script(is_: Hello, pieces: list[str]) -> str:
         for name, call in CALLS.items()
     }
     given = {"hello": is_, "usual": usual, "pieces": pieces}
-    return f"const RECORDED = {as_text(given)};\n{joined('studio', {'api': 'recorded'})}"
+    return f"const RECORDED = {json_of(given)};\n{as_one_script('studio', {'api': 'recorded'})}"
 
 
-def page() -> str:
+def index_page() -> str:
     """The studio's page with its style in it, and one script."""
     with open(os.path.join(OWN, "page.html"), encoding="utf-8") as file:
         text = file.read()
@@ -82,7 +82,7 @@ def page() -> str:
     return text.replace('<meta charset="utf-8">', f'<meta charset="utf-8">{policy}')
 
 
-def check_folder(folder: str) -> None:
+def check_is_new(folder: str) -> None:
     """Refuses what isn't a new folder or an empty one."""
     try:
         is_free = not os.path.lexists(folder) or os.path.isdir(folder) and not os.listdir(folder)
@@ -94,7 +94,7 @@ def check_folder(folder: str) -> None:
 
 def publish(folder: str, session: Session) -> int:
     """Writes the page into a folder, which is there whole or as it was, and returns its bytes."""
-    check_folder(folder)
+    check_is_new(folder)
     files = published(session)
     at = os.path.realpath(folder)
     new = f"{at}.{os.getpid()}.new"
@@ -104,7 +104,7 @@ def publish(folder: str, session: Session) -> int:
             os.makedirs(os.path.dirname(path), exist_ok=True)
             with open(path, "xb") as file:
                 file.write(data)
-        check_folder(folder)
+        check_is_new(folder)
         os.rename(new, at)
     except OSError as why:
         raise Fault(Code.NOT_PUBLISHED, InText(folder), why=why.strerror) from None

@@ -14,7 +14,7 @@ STEPS, MOST, SAID = "\ue000", "\ue001", "\ue002"
 
 
 @dataclass(frozen=True)
-class Found:
+class Explained:
     """What a node has, or waits for, and why: an answer to a question is right if it says the same."""
 
     found: str
@@ -75,8 +75,8 @@ class AllRuns:
     overtakes: bool
     nodes: Sequence[OneNode]
     looks: Sequence[Look]
-    waits: Sequence[Found]
-    over: Found
+    waits: Sequence[Explained]
+    over: Explained
     dares: Mapping[str, DareGoal]
     results: Sequence[int | str]
     ends: tuple[DareJudged, DareJudged, DareJudged]
@@ -145,7 +145,7 @@ class Piece:
     values: list[Kept] = field(default_factory=list)
     runs: dict[str, AllRuns] = field(default_factory=dict)
     verdicts: dict[str, AllVerdicts] = field(default_factory=dict)
-    questions: dict[str, Found] = field(default_factory=dict)
+    questions: dict[str, Explained] = field(default_factory=dict)
     said: dict[str, SaidJudged] = field(default_factory=dict)
     steps: dict[str, StepsJudged] = field(default_factory=dict)
     plans: dict[str, PlanJudged] = field(default_factory=dict)

@@ -38,7 +38,7 @@ from lab.studio.exercises import (
     proper_words,
 )
 from lab.studio.lessons import LECTURE, LESSONS, SaidExercise, SeenExercise, step_place, steps_in
-from lab.studio.local_states import OWN_STEP, LocalStates, Row, TooMany
+from lab.studio.local_states import OWN_STEP, LocalStates, LocalStep, TooMany
 from lab.studio.messages import (
     BrokenCall,
     ExampleCall,
@@ -61,7 +61,7 @@ from lab.studio.recorded import (
     AllRuns,
     AllVerdicts,
     DareGoal,
-    Found,
+    Explained,
     Kept,
     LocalRow,
     OneNode,
@@ -80,11 +80,11 @@ LINK = re.compile(r"http://127\.0\.0\.1:8321/#([^)\s`\"]+)")
 # The networks that can be made on the page, and their sizes. A lesson asks for a row of 400 nodes.
 MADE = ("path", "ring")
 SIZES = (3, 4, 5, 6, 8, 12, 16, 30, 100, 400)
-# A network of so few nodes is recorded with all edges that it can have; of one with up to so many each is that comes of
-# it by two edges more or less, or one node with another identifier or bar.
+# A network of so few nodes is recorded with all edges that it can have; of one with up to so many each that comes of
+# it is, by two edges more or less, or one node with another identifier or bar.
 FEW, MORE = 5, 10
-# Nodes of a network whose runs are recorded by the states of its nodes, and neighbours of each: more have too many. With
-# one link they are recorded without any rules, and with so many links without one rule.
+# Nodes of a network whose runs are recorded by the states of its nodes, and neighbours of each: more have too many.
+# With one link they are recorded without any rules, and with so many links without one rule.
 MOST_IN_RUNS, MOST_NEIGHBOURS, MOST_LINKS = 6, 2, 2
 
 
@@ -124,7 +124,7 @@ def tell(done: int = 0, of: int = 0, part: object = None) -> None:
     """Nobody is told how far a call is."""
 
 
-def page_text(net: Net) -> str:
+def text_of_page(net: Net) -> str:
     """A network in the DIMACS format, as the page sends it (`text` of page/model.js)."""
     numbered = list(enumerate(net.nodes, 1))
     lines = [f"c at {v} {round(one.x, 1):.12g} {round(one.y, 1):.12g}" for v, one in numbered]
@@ -161,10 +161,10 @@ def key_of(call: object) -> str:
     if network:
         asked.pop("name", None)
     rest = json.dumps(asked, sort_keys=True, separators=(",", ":"), ensure_ascii=False)
-    return f"{name_of(call)} {network}{rest}"
+    return f"{call_name(call)} {network}{rest}"
 
 
-def name_of(call: object) -> str:
+def call_name(call: object) -> str:
     return next(name for name, one in CALLS.items() if one.asked is type(call))
 
 
@@ -217,7 +217,7 @@ class Recording:
             return None
         found = None
         try:
-            found = CALLS[name_of(call)].function(call, self.session, tell)
+            found = CALLS[call_name(call)].function(call, self.session, tell)
             kept = Kept(answer=found)
         except Fault as why:
             kept = Kept(wrong=str(why))
@@ -236,7 +236,7 @@ class Recording:
         if values.example:
             self.examples.add(values.example)
             self.ask(ExampleCall(name=values.example))
-        on = OnPage(net, page_text(net), program_named(values))
+        on = OnPage(net, text_of_page(net), program_named(values))
         if net.nodes:
             self.every_tab(on)
         if on.program in self.session.own:
@@ -269,7 +269,7 @@ class Recording:
         call = BrokenCall(network=on.text, name=on.net.name, program=on.program, without=rules)
         found = self.ask(call)
         if isinstance(found, Broken) and found.found:
-            self.ask(PlanCall(network=page_text(found.found)))
+            self.ask(PlanCall(network=text_of_page(found.found)))
 
     def rounds(self, on: OnPage, values: Values) -> None:
         """The rounds, why each node has its channel, and each question on what comes next."""
@@ -295,7 +295,7 @@ class Recording:
                 for forest in range(forests):
                     key = f"predict {bare(on.text)}{on.program} {v} {pulse} {forest}"
                     try:
-                        found = Found(*found_after(rounds, v, pulse, forest))
+                        found = Explained(*found_after(rounds, v, pulse, forest))
                     except Fault:
                         continue
                     if self.is_new(key):
@@ -368,11 +368,11 @@ class Recording:
 
     def draw(self, on: OnPage, _values: Values) -> None:
         for net in drawn_from(on.net):
-            self.ask(PlanCall(network=page_text(net)))
+            self.ask(PlanCall(network=text_of_page(net)))
         for call in made_calls():
             made = self.ask(call)
             if isinstance(made, Net):
-                self.ask(PlanCall(network=page_text(made)))
+                self.ask(PlanCall(network=text_of_page(made)))
 
     def exercise(self, spot: Spot, on: OnPage) -> None:
         """How the exercise of a step is judged."""
@@ -413,7 +413,7 @@ class Recording:
                 nets.append(made)
         for net in nets:
             if net.nodes:
-                self.ask(replace(call, network=page_text(net)))
+                self.ask(replace(call, network=text_of_page(net)))
 
 
 # What is recorded of a place of a tab.
@@ -480,12 +480,12 @@ def all_runs_of(
 ) -> AllRuns:
     """The table of the states of the nodes."""
     looks: dict[Look, int] = {}
-    waits: dict[Found, int] = {}
+    waits: dict[Explained, int] = {}
 
-    def waits_in(v: int, number: int, is_over: bool) -> Found:
+    def waits_in(v: int, number: int, is_over: bool) -> Explained:
         found.state.nodes[v] = found.nodes[v][number]
         what, why = waited(found.state, v, found.without, is_over)
-        return Found(", ".join(what), why)
+        return Explained(", ".join(what), why)
 
     nodes = []
     for v, states in found.found.items():
@@ -523,7 +523,7 @@ def all_runs_of(
     )
 
 
-def row_of(row: Row) -> LocalRow:
+def row_of(row: LocalStep) -> LocalRow:
     return LocalRow(row.to, row.puts or None, row.fault)
 
 

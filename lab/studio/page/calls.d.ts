@@ -494,7 +494,7 @@ interface Answers {
   built: Build;
 }
 
-interface Found {
+interface Explained {
   found: string;
   why: string;
 }
@@ -532,8 +532,8 @@ interface AllRuns {
   overtakes: boolean;
   nodes: OneNode[];
   looks: Look[];
-  waits: Found[];
-  over: Found;
+  waits: Explained[];
+  over: Explained;
   dares: Record<string, DareGoal>;
   results: (number | string)[];
   ends: [DareJudged, DareJudged, DareJudged];
@@ -578,7 +578,7 @@ interface Piece {
   values: Kept[];
   runs: Record<string, AllRuns>;
   verdicts: Record<string, AllVerdicts>;
-  questions: Record<string, Found>;
+  questions: Record<string, Explained>;
   said: Record<string, SaidJudged>;
   steps: Record<string, StepsJudged>;
   plans: Record<string, PlanJudged>;

@@ -135,7 +135,7 @@ export function dareOf(is, run, dare) {
   const end = run.over || !looks.every(look => look.done) ? 0 : looks.every((look, k) => look.found === is.results[k]) ? 1 : 2;
   return {...is.ends[end], impossible};
 }
-/** @param {AllRuns} is @param {Played} run @param {number} v @returns {Found} */
+/** @param {AllRuns} is @param {Played} run @param {number} v @returns {Explained} */
 export function waitedFor(is, run, v) { return run.over ? is.over : is.waits[stateOf(is, run, v).waits]; }
 // What the tab Adversary shows of a run, after the steps that are left to chance.
 /** @param {AllRuns} is @param {Played} run @param {StepsCall} asked @returns {StepsFound} */

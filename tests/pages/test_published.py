@@ -1,0 +1,403 @@
+"""The studio as static files, `forestlab studio --publish DIR`: the page from a folder in a browser without network, on
+which the lessons are gone through as in the studio; each answer that is recorded asked again; and the folder."""
+import gzip
+import json
+import os
+import random
+import re
+import shutil
+import subprocess
+import sys
+import tempfile
+from collections.abc import Iterator, Mapping
+from typing import Any
+from unittest import mock
+
+from lab.faults import Fault
+from lab.networks.network_text import read_network
+from lab.pictures.page_data import as_object
+from lab.schedules.stepwise import Stepwise
+from lab.studio import publishing
+from lab.studio.calls import CALLS
+from lab.studio.lessons import LESSONS, SeenExercise
+from lab.studio.recording import spots, tell, text_of_page
+from lab.studio.networks import opened_by
+from lab.studio.session import Session
+from lab.studio.studio import own_programs
+from tests import TOP, browser
+from tests.cases import Case, said_by, text_in
+from tests.pages.test_studio_lessons import APART, Cards, TICKED, WRONG, steps
+from tests.tools import need
+
+# Bytes of the page, compressed.
+MOST = 3 << 20
+# The lessons that are gone through whole on the published page: of lesson 8 it has no runs.
+WHOLE = range(1, 8)
+# Plays lessons 4 and 7 alone, and says a digest of each file.
+DIGESTS = """
+import hashlib, sys
+from lab.studio.publishing import published
+from lab.studio.recording import spots
+from lab.studio.session import Session
+places = [spot for spot in spots() if spot.lesson in (4, 7)]
+for name, data in published(Session(), places).items():
+    print(name, hashlib.sha256(data).hexdigest())
+"""
+# The calls that the page has made by itself are answered; what is asked here goes the same way.
+CALL = "$$recorded.call({}, {}).catch(why => ({{wrong: why.message}}))"
+
+
+def session() -> Session:
+    own, forms = own_programs([])
+    return Session(own=own, forms=forms)
+
+
+def as_json(value: object) -> object:
+    return json.loads(json.dumps(value, default=as_object))
+
+
+def answer(name: str, asked: Mapping[str, object]) -> object:
+    """What the studio's own call answers, or why it refuses."""
+    try:
+        return as_json(CALLS[name].answer(asked, session(), tell))
+    except Fault as why:
+        return {"wrong": str(why)}
+
+
+class Folder(Case):
+    """Where the page is written, and what is said if it isn't."""
+
+    def setUp(self) -> None:
+        self.folder = tempfile.mkdtemp()
+        self.addCleanup(shutil.rmtree, self.folder, True)
+
+    def refused(self, folder: str, files: dict[str, bytes]) -> str:
+        with mock.patch.object(publishing, "published", lambda *_: files):
+            try:
+                publishing.publish(folder, Session())
+            except Fault as why:
+                return str(why)
+        return ""
+
+    def test_new_and_empty(self) -> None:
+        for name in ("new", "empty"):
+            at = os.path.join(self.folder, name)
+            if name == "empty":
+                os.mkdir(at)
+            self.same(name, self.refused(at, {"index.html": b"x", "answers/a.js": b"y"}), "")
+            self.same(f"{name}: files", sorted(os.listdir(at)), ["answers", "index.html"])
+        self.same("nothing else", sorted(os.listdir(self.folder)), ["empty", "new"])
+
+    def test_taken(self) -> None:
+        """A folder with a file in it, and a file, are refused, and stay as they were."""
+        with open(os.path.join(self.folder, "mine"), "w", encoding="utf-8") as file:
+            file.write("mine")
+        for at in (self.folder, os.path.join(self.folder, "mine")):
+            said = self.refused(at, {"index.html": b"x"})
+            self.note("refused", "name a new folder, or an empty one" in said, said)
+        self.same("as it was", os.listdir(self.folder), ["mine"])
+        self.same("the file", text_in(self.folder, "mine"), "mine")
+
+    def test_full_disk(self) -> None:
+        """A disk that is full: one line, and the folder is as it was."""
+        at = os.path.join(self.folder, "empty")
+        os.mkdir(at)
+        with mock.patch("builtins.open", side_effect=OSError(28, os.strerror(28))):
+            said = self.refused(at, {"index.html": b"x"})
+        self.same("one line", said, f"{at}: it can't be written: {os.strerror(28)}")
+        self.same("as it was", os.listdir(at), [])
+        self.same("nothing beside it", os.listdir(self.folder), ["empty"])
+
+    def test_nowhere(self) -> None:
+        at = os.path.join(self.folder, "not", "there", "mine")
+        os.chmod(self.folder, 0o755)
+        self.same("made", self.refused(at, {"index.html": b"x"}), "")
+        below = os.path.join(at, "index.html", "page")
+        said = self.refused(below, {"index.html": b"x"})
+        self.note("below a file", said.startswith(below) and "\n" not in said, said)
+
+    def test_command_line(self) -> None:
+        done = said_by("studio", "--publish", self.folder, "petersen", limit=60)
+        self.note("no network with it", done.returncode == 2 and "takes no network" in done.stderr)
+
+
+class Bytes(Case):
+    def test_same_bytes(self) -> None:
+        """The same sources give the same bytes, in whatever order sets and dictionaries are."""
+        runs = [
+            subprocess.Popen(
+                [sys.executable, "-c", DIGESTS],
+                cwd=TOP,
+                env=os.environ | {"PYTHONHASHSEED": seed, "PYTHONPATH": TOP},
+                stdout=subprocess.PIPE,
+                text=True,
+            )
+            for seed in ("1", "2")
+        ]
+        one, other = [run.communicate()[0].splitlines() for run in runs]
+        self.note("files", len(one) > 3, one)
+        self.same("the same", one, other)
+
+
+class Published(Cards):
+    """The cards of the lessons, on the published page: from a folder, in a browser that is offline."""
+
+    folder: str
+
+    @classmethod
+    def setUpClass(cls) -> None:
+        program = browser.command()
+        if program is None:
+            return
+        cls.folder = tempfile.mkdtemp()
+        cls.addClassCleanup(shutil.rmtree, cls.folder, True)
+        at = os.path.join(cls.folder, "a folder", "page")
+        os.mkdir(os.path.dirname(at))
+        publishing.publish(at, session())
+        cls.address = f"file://{at.replace(' ', '%20')}/index.html"
+        cls.page = browser.Browser(program)
+        cls.addClassCleanup(cls.page.end)
+        cls.page.ask("Network.enable")
+        cls.page.ask(
+            "Network.emulateNetworkConditions",
+            offline=True,
+            latency=0,
+            downloadThroughput=0,
+            uploadThroughput=0,
+        )
+        cls.page.size(1280, 800)
+        cls.page.go(cls.address)
+        cls.page.until("window.studio && studio.seen.hello && studio.rounds.film", 60)
+
+    def files(self) -> Iterator[tuple[str, bytes]]:
+        for folder, _, names in sorted(os.walk(os.path.join(self.folder, "a folder", "page"))):
+            for name in sorted(names):
+                with open(os.path.join(folder, name), "rb") as file:
+                    yield name, file.read()
+
+    def pieces(self) -> Iterator[tuple[str, dict[str, Any]]]:
+        for name, data in self.files():
+            found = re.fullmatch(r'recorded\("(\w+)", (.*)\);\n', data.decode(errors="replace"))
+            if found:
+                yield found[1], json.loads(found[2])
+
+    def asked(self, name: str, **what: object) -> object:
+        """What the published page answers."""
+        return self.value(CALL.format(json.dumps(name), json.dumps(what)))
+
+    def make_path(self, nodes: str) -> None:
+        """The sizes are a menu."""
+        self.value("make.querySelector('select').focus()")
+        self.value(f"make.querySelector('[name=nodes]').value = '{nodes}'")
+        self.press("Enter", "#make button")
+
+    def test_all_lessons(self) -> None:
+        """Each lesson is gone through by N alone, and each exercise done by keys; the ticks stay."""
+        self.value("localStorage.removeItem('studio-ticks')")
+        self.open()
+        self.go_to("lesson=1")
+        for number, k, step in steps():
+            if number not in WHOLE:
+                break
+            self.step_to(number, k)
+            self.reads("no fault", "wrong.textContent", "")
+            if step.exercise:
+                self.reads("not done yet", f"Boolean({TICKED})", False)
+                self.do(number, step.exercise)
+                self.ticked(f"{number} {step.exercise.name}")
+            self.press("n")
+        self.open()
+        self.go_to("lesson=1")
+        self.step_to(1, 1)
+        ticks = self.value("Array.from(lesson.querySelectorAll('.all a'), one => one.textContent)")
+        self.same("ticks", ticks[:7], [f"{n}✓" for n in WHOLE])
+
+    def test_where_nothing_is_kept(self) -> None:
+        """What the page does then is the studio's matter (test_studio_lessons.py)."""
+
+    def test_without_the_studio(self) -> None:
+        """The lesson whose runs aren't recorded says that it needs the studio, and how to start it."""
+        self.go_to("lesson=8")
+        self.step_to(8, 1)
+        self.sees("said", "wrong.textContent.includes('forestlab studio')")
+        exercises = [step.exercise for step in LESSONS[7].steps]
+        self.note("it has others", any(isinstance(one, SeenExercise) for one in exercises))
+
+    def test_size(self) -> None:
+        files = dict(self.files())
+        size = sum(len(gzip.compress(data)) for data in files.values())
+        self.note("below the limit", size < MOST, size)
+        self.note("whole", {"index.html", "studio.js"} <= set(files), sorted(files))
+
+    def test_nothing_from_elsewhere(self) -> None:
+        """No file names a folder of this machine; the page's policy lets it ask for nothing."""
+        for name, data in self.files():
+            self.note(name, TOP.encode() not in data and self.folder.encode() not in data)
+        html = dict(self.files())["index.html"].decode()
+        policy = re.search(r'Content-Security-Policy" content="([^"]*)"', html)
+        self.note("a policy", policy is not None and "default-src 'none'" in policy[1])
+        self.note("that lets nothing out", policy is not None and "connect-src" not in policy[1])
+        self.same("no module", re.findall(r'type="module"|modulepreload', html), [])
+        outside = self.value(
+            "performance.getEntriesByType('resource').map(one => one.name)"
+            ".filter(one => !one.startsWith('file:') && !one.startsWith('blob:') && !one.startsWith('data:'))"
+        )
+        self.same("nothing is asked for elsewhere", outside, [])
+
+    def test_says_what_it_is(self) -> None:
+        """The commit, and by whom its plans are: none was written by a proved program here."""
+        said = self.value("document.querySelector('#side .recorded').textContent")
+        commit = json.loads(self.value("JSON.stringify(RECORDED.hello.published.commit)"))
+        self.note("the commit", commit and commit in said, said)
+        self.note("not proved", "not proved" in said and "proved program wrote" not in said, said)
+        self.note("the studio", "forestlab studio" in said, said)
+
+    def test_each_answer_again(self) -> None:
+        """Each recorded answer of a call is what the call answers now."""
+        count = 0
+        for piece, found in self.pieces():
+            for key, number in found["answers"].items():
+                name, _, rest = key.partition(" ")
+                words = rest.split("\n")[-1]
+                asked = json.loads(words)
+                if rest != words:
+                    asked["network"] = rest.removesuffix(words)
+                kept = found["values"][number]
+                again = answer(name, asked)
+                is_same = kept == (again if "wrong" in kept else {"answer": again})
+                self.note(f"{piece}: {key[:60]}", is_same, [kept, again] if not is_same else "")
+                count += 1
+        self.note("there are many", count > 1000, count)
+
+    def test_runs(self) -> None:
+        """A run that is made step by step: after steps by chance the page says what the studio says, under all rules
+        that are recorded, and of what each node waits for; and a list that wins a dare wins it."""
+        source = random.Random("published")
+        for name, rules in (
+            ("two", ""),
+            ("two", "safes"),
+            ("two", "acks,fifo"),
+            ("two", "early"),
+            ("path", "safes"),
+            ("chain6", ""),
+        ):
+            place = opened_by(f"example={name}", Session())
+            assert place.network
+            text = text_of_page(place.network)
+            network = read_network(text, name)
+            without = tuple(filter(None, rules.split(",")))
+            lists = (
+                [APART.split("_"), WRONG.split("_")] if (name, rules) == ("two", "safes") else []
+            )
+            for seed in range(6):
+                player = Stepwise(network, without=without)
+                for _ in range(source.randrange(5, 90)):
+                    steps = player.possible()
+                    if steps:
+                        player.follow([source.choice(steps)])
+                lists.append(player.chosen)
+            for made in lists:
+                self.run_as_in_the_studio(text, rules, made, len(network.neighbours))
+
+    def run_as_in_the_studio(self, text: str, without: str, made: list[str], nodes: int) -> None:
+        asked = {"network": text, "without": without, "steps": "_".join(made)}
+        for dare in ("apart", "ends", "wrong", "results"):
+            got, wanted = self.asked("steps", **asked, dare=dare), answer(
+                "steps", asked | {"dare": dare}
+            )
+            for found in (got, wanted):
+                assert isinstance(found, dict)
+                found["steps"] = sorted(found["steps"])
+                # The judge of the studio isn't asked on the published page.
+                found.pop("judge", None)
+            self.same(f"{without} {dare} after {len(made)} steps", got, wanted)
+        for v in range(1, nodes + 1):
+            for said in ("nothing", f"ack {v % nodes + 1}"):
+                more = {"vertex": v, "said": said}
+                self.same(
+                    f"waits {v}",
+                    self.asked("waits", **asked, **more),
+                    answer("waits", asked | more),
+                )
+        for lesson, step in ((5, 4), (6, 1), (6, 3), (6, 4)):
+            more = {"lesson": lesson, "step": step}
+            got, wanted = self.asked("exercise", **asked, **more), answer("exercise", asked | more)
+            self.same(f"exercise {lesson} {step}", got, wanted)
+
+    def test_plans(self) -> None:
+        """The verdict on a typed plan, and on the exercise, is that of the studio."""
+        source = random.Random("plans")
+        place = opened_by("example=petersen", Session())
+        assert place.network
+        text = text_of_page(place.network)
+        good = [2, 3, 1, 2, 1, 3, 2, 2, 1, 3]
+        plans = [good, [1] * 10, [0] * 10, [99] * 10] + [
+            [source.choice((0, 1, 2, 3, 4, 5)) if source.random() < 0.3 else one for one in good]
+            for _ in range(30)
+        ]
+        for plan in plans:
+            for name in ("check", "exercise"):
+                asked: dict[str, object] = {"network": text, "plan": plan}
+                if name == "exercise":
+                    asked |= {"lesson": 1, "step": 3}
+                self.same(f"{name} {plan}", self.asked(name, **asked), answer(name, asked))
+
+    def test_questions(self) -> None:
+        """Predictions, and exercises that are answered: right and wrong ones are judged as in the studio."""
+        text = text_of_page(opened_by("example=petersen", Session()).network)  # type: ignore[arg-type]
+        for vertex, pulse, forest, said in (
+            (8, 3, 0, "2"),
+            (8, 3, 0, " 7"),
+            (10, 3, 0, "0"),
+            (3, 20, 1, "-"),
+        ):
+            asked = {
+                "network": text,
+                "vertex": vertex,
+                "pulse": pulse,
+                "forest": forest,
+                "said": said,
+            }
+            self.same(f"{vertex} {pulse}", self.asked("predict", **asked), answer("predict", asked))
+        for said in ("4", " 4 ", "5", "", "<b>"):
+            asked = {"network": "", "lesson": 1, "step": 1, "said": said}
+            self.same(said, self.asked("exercise", **asked), answer("exercise", asked))
+
+    def test_addresses(self) -> None:
+        """The places of the tables and links are read as the studio reads them."""
+        places = sorted(
+            {spot.place for spot in spots()}
+            | {f"lesson={n}" for n in WHOLE}
+            | {"lesson=2&step=4", "lecture=3"}
+        )
+        for place in places:
+            got, wanted = self.asked("address", place=place), answer("address", {"place": place})
+            assert isinstance(got, dict) and isinstance(wanted, dict)
+            for found in (got, wanted):
+                # How a network is drawn whose nodes are in the address is asked of the studio only.
+                network = found["network"]
+                found["network"] = network and [
+                    network["edges"],
+                    [(node["x"], node["y"]) for node in network["nodes"]],
+                ]
+            self.same(place, got, wanted)
+
+    def test_a_network_that_is_not_recorded(self) -> None:
+        text = "p edge 7 3\ne 1 2\ne 3 4\ne 5 6\n"
+        for name in ("plan", "rounds", "steps", "check"):
+            said = self.asked(name, network=text, plan=[])
+            self.note(
+                name, isinstance(said, dict) and "forestlab studio" in str(said.get("wrong")), said
+            )
+
+    def test_narrow(self) -> None:
+        """Nothing is wider than a phone."""
+        need(self, "a browser")
+        self.page.size(360, 740, phone=True)
+        self.addCleanup(self.page.size, 1280, 800)
+        for place in ("lesson=1&step=4", "lesson=5&step=4", "lesson=6&step=4", "lecture=2"):
+            self.go_to(place)
+            self.reads(place, "document.documentElement.scrollWidth", 360)
+
+
+del Cards
