@@ -25,7 +25,7 @@ from lab.studio.networks import opened_by
 from lab.studio.session import Session
 from lab.studio.studio import own_programs
 from tests import TOP, browser
-from tests.cases import Case, said_by, text_in
+from tests.cases import Case, text_in
 from tests.pages.test_studio_lessons import APART, Cards, TICKED, WRONG, steps
 from tests.tools import need
 
@@ -117,8 +117,22 @@ class Folder(Case):
         self.note("below a file", said.startswith(below) and "\n" not in said, said)
 
     def test_command_line(self) -> None:
-        done = said_by("studio", "--publish", self.folder, "petersen", limit=60)
-        self.note("no network with it", done.returncode == 2 and "takes no network" in done.stderr)
+        done = subprocess.run(
+            [
+                sys.executable,
+                "-S",
+                os.path.join(TOP, "lab"),
+                "studio",
+                "--publish",
+                "x",
+                "petersen",
+            ],
+            cwd=self.folder,
+            capture_output=True,
+            text=True,
+        )
+        self.note("no network with it", done.returncode == 2, done.stderr)
+        self.note("one line", done.stderr.count("\n") == 1 and "takes no network" in done.stderr)
 
 
 class Bytes(Case):
