@@ -130,7 +130,7 @@ OF_SEQUELS = {
             "first_free_is_a_barred_colour",
         ),
         "anew": Rule(
-            "a node tells the channel that it has chosen anew",
+            "a node tells the channel that it has chosen again",
             "it tells its channel in the plan",
             "recolouring",
             "choose_tells_the_first_colour",

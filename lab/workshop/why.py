@@ -56,7 +56,7 @@ FOUND = {
     "`hops N` that comes, by the least port by which it comes; if none comes, in none",
     "matching": "a node's partner is by the port by which it sent `take`, or by which `take` came",
     "independent-set": "a node is in if it has joined in the turn of its colour",
-    "recolouring": "a node's channel is the colour that it has chosen anew, plus one",
+    "recolouring": "a node's channel is the colour that it has chosen again, plus one",
 }
 # A key of RULES, the numbers in it, and what this node knows.
 Reason = tuple[str, dict[str, object], list[str]]

@@ -109,7 +109,7 @@ OF_BARRED: Rows = (
         1,
         None,
         {},
-        "a node's channel is the colour that it has chosen anew, plus one; it had merged colour 1, and barred at "
+        "a node's channel is the colour that it has chosen again, plus one; it had merged colour 1, and barred at "
         "it: colour 0; nothing has come",
     ),
 )
