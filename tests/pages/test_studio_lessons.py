@@ -646,6 +646,26 @@ class Cards(Page):
         self.reads("closed", "lesson.hidden", True)
         self.sees("and not in the address", "!/lesson/.test(location.hash)")
 
+    def test_a_question_in_its_card(self) -> None:
+        """The tab's question is in the card of the step that it is the exercise of, and elsewhere in its panel; ↺ goes
+        back to the beginning of the step."""
+        inside = "[lesson.contains(question), allrules.contains(question)]"
+        self.go_to("lesson=3&step=2")
+        self.step_to(3, 2)
+        self.reads("in the card", inside, [True, False])
+        self.click_on("#next")
+        self.sees("one pulse on", "studio.time.at === 3")
+        self.click_on("#lesson [aria-label='this step from its beginning']")
+        self.sees("and back", "studio.time.at === 2 && !studio.isFollowing()")
+        self.click_on("#lesson [data-way=back]")
+        self.step_to(3, 1)
+        self.reads("in the panel", inside, [False, True])
+        self.go_to("lesson=5&step=2")
+        self.step_to(5, 2)
+        self.reads("the other tab's", "lesson.contains(question2)", True)
+        self.click_on("header [data-tab=check]")
+        self.sees("brought back", "!lesson.contains(question2)")
+
     def test_wrong_answers(self) -> None:
         """A wrong answer is said to be none, without the right one."""
         self.value("localStorage.removeItem('studio-ticks')")

@@ -192,6 +192,14 @@ class Look(Page):
         self.page.key("f", text="f")
         self.sees("as before", "!document.documentElement.classList.contains('large')")
         self.reads("with the head", "document.querySelector('header').getClientRects().length", 1)
+        # A phone has no key F, and a large page no head: a button leads back.
+        self.reads("no button for it", "normal.getClientRects().length", 0)
+        for place in ("lecture=3", "example=petersen&tab=pictures"):
+            self.go_and_wait(place)
+            self.value("large.click()")
+            self.sees("a button", "normal.getClientRects().length === 1")
+            self.click_on("#normal")
+            self.sees("leads back", "!document.documentElement.classList.contains('large')")
 
     def test_names(self) -> None:
         """Each control has a name in the accessibility tree."""
