@@ -102,10 +102,8 @@ def legend(found: dict[int, Found]) -> str:
 def counts(found: dict[int, Found], network: Network) -> str:
     """How much there is of what is found."""
     if all(one.has_channel for one in found.values()):
-        after, before = (
-            len({colour(one) for one in found.values()})
-            for colour in (lambda one: one.colour, lambda one: one.before)
-        )
+        after = len({one.colour for one in found.values()})
+        before = len({one.before for one in found.values()})
         return counted(after, "channel") + (
             f"; before there were {before}" if before != after else ""
         )

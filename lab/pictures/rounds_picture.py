@@ -136,7 +136,12 @@ def place_of(left: float, top: float, row: int, pulse: int) -> Point:
 
 
 def draw_rows(
-    svg: Svg, left: float, top: float, parents: dict[int, int | None], last: int, square: Callable
+    svg: Svg,
+    left: float,
+    top: float,
+    parents: dict[int, int | None],
+    last: int,
+    square: Callable[[int, int, float, float], None],
 ) -> None:
     """The heads of the pulses 2 to `last`, and a row for each vertex of `parents`: its number, its parent, and what
     `square` draws of it, given the vertex, the pulse and a place."""

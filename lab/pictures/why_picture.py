@@ -16,7 +16,7 @@ from lab.words import as_text, counted, in_words
 
 
 # A kind, and the numbers that it is of.
-Fact = tuple
+Fact = tuple[str, int] | tuple[str, int, int] | tuple[str, int, int, int]
 
 NOT_FOLLOWED = (
     "not followed: that nobody had taken the channel that it has; and the greetings, which say who is "
@@ -117,7 +117,9 @@ class Cone:
         return sorted(fact[1] for fact in self.facts if fact[0] == "identifier")
 
     def forests(self) -> list[int]:
-        return sorted({fact[2] for fact in self.facts if fact[0] != "identifier"})
+        return sorted(
+            {f for kind, _, *more in self.facts if kind != "identifier" for f in more[:1]}
+        )
 
 
 def summary(cone: Cone) -> str:
