@@ -213,6 +213,7 @@ class Code(Enum):
     MAY_ACT_NO_TRUTH = auto()
     CHANGES_ME = auto()
     NO_WORD_OF_MESSAGE = auto()
+    HALF_OF_OWN_STEP = auto()
     LACKS_FUNCTIONS_OF_REACTING = auto()
     NODE_NOT_REPEATED = auto()
 

@@ -297,6 +297,9 @@ SENTENCES: dict[Code, str] = {
     Code.NO_WORD_OF_MESSAGE: (
         "the function `{begin}{word}` is of no word: a word has small letters alone"
     ),
+    Code.HALF_OF_OWN_STEP: (
+        "it has a function `{has}` and no function `{lacks}`: a step of a node's own needs both"
+    ),
     Code.LACKS_FUNCTIONS_OF_REACTING: (
         "{why}; it has `{begin}{word}`, so its nodes react to messages, without rounds"
     ),

@@ -305,9 +305,11 @@ def reacting_program(file: ProgramFile) -> Reacting:
         if not is_word(word):
             raise Fault(Code.NO_WORD_OF_MESSAGE, InText(file.path), begin=ON, word=word)
     has = [name for name in OWN_STEPS if name in file.functions]
-    needed = [("start",), ("result",), *[(name,) for name in OWN_STEPS if has]]
+    if len(has) == 1:
+        lacks = next(name for name in OWN_STEPS if name not in has)
+        raise Fault(Code.HALF_OF_OWN_STEP, InText(file.path), has=has[0], lacks=lacks)
     try:
-        check_functions(file, needed, ("right", "always"))
+        check_functions(file, [("start",), ("result",)], ("right", "always"))
     except Fault as why:
         raise Fault(
             Code.LACKS_FUNCTIONS_OF_REACTING, why=why, begin=ON, word=words_taken(file)[0]

@@ -122,7 +122,8 @@ def caption(rounds: Rounds, number: int) -> tuple[str, str]:
         title += f" · forest {forest}"
         said += (
             f" It is the turn of the nodes with colour {colour} in forest {forest} and channel {old + 1} so far (the "
-            f"pair K = {colour}, J = {old})." + ("" if pulse.chosen else " No node has this pair, so nothing happens in this pulse.")
+            f"pair K = {colour}, J = {old})."
+            + ("" if pulse.chosen else " No node has this pair, so nothing happens in this pulse.")
         )
     elif number >= SEED:
         title += " · forest 0" if forests == 1 else f" · forests 0 to {forests - 1}"

@@ -529,7 +529,14 @@ WRONG: list[tuple[str, ...]] = [
         " has no function start; it has `on_wave`, so its nodes react to messages",
     ),
     (echo("def result", "def results"), " has no function result; it has `on_wave`"),
-    (echo("def result", ACTS), " has no function may_act; it has `on_wave`"),
+    (
+        echo("def result", ACTS),
+        ": it has a function `act` and no function `may_act`: a step of a node's own needs both",
+    ),
+    (
+        echo("def result", "def may_act(me):\n    return False\n\n\ndef result"),
+        ": it has a function `may_act` and no function `act`: a step",
+    ),
     (
         echo("def result", f"def may_act(me):\n    me.count > 3\n\n\n{ACTS}"),
         ": `may_act` returns None: it must be True or False",
