@@ -107,6 +107,8 @@ def status_of(child: int, reader: int) -> int:
         os.waitpid(child, 0)
         raise
     if not os.read(reader, 1):
+        if os.WIFSIGNALED(ended) and os.WTERMSIG(ended) == signal.SIGALRM:
+            raise Fault(Code.CALL_NOT_ENDED)
         if os.WIFSIGNALED(ended):
             raise Fault(Code.ENDED_BY_SIGNAL, signal=os.WTERMSIG(ended))
         raise Fault(Code.ENDED_BY_ITSELF)

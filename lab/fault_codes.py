@@ -181,6 +181,7 @@ class Code(Enum):
     CANT_BE_RUN = auto()
     ENDED_BY_SIGNAL = auto()
     ENDED_BY_ITSELF = auto()
+    CALL_NOT_ENDED = auto()
     OPTION_OF_OTHER_PROGRAM = auto()
     NO_NAME_OF_A_PROGRAM = auto()
     NO_PROGRAM = auto()
@@ -238,6 +239,7 @@ class Code(Enum):
     STATES_GROW = auto()
     RUN_WITHOUT_END = auto()
     RUN_NOT_ENDED = auto()
+    TOO_MANY_UNDER_WAY = auto()
 
     # pictures
     NO_PARENT_OF_NODE = auto()

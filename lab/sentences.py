@@ -238,6 +238,10 @@ SENTENCES: dict[Code, str] = {
     Code.ENDED_BY_ITSELF: (
         "the program's file has ended the command by itself, before it was done"
     ),
+    Code.CALL_NOT_ENDED: (
+        "a call of a function of the program's file doesn't end, and the file catches what ends it: "
+        "let each `except` name what it catches"
+    ),
     Code.OPTION_OF_OTHER_PROGRAM: "--{option} is for --program {of}, not for {name}",
     Code.NO_NAME_OF_A_PROGRAM: "{name} is no name of a program, and doesn't end in .py",
     Code.NO_PROGRAM: (
@@ -253,10 +257,10 @@ SENTENCES: dict[Code, str] = {
     Code.NESTED_TOO_DEEP: "it is nested too deep for Python",
     Code.NOT_COMPILED: "{why}",
     Code.FUNCTION_GONE: "{file} has no function {names} when it is run again",
-    Code.NO_PULSE_RETURNED: "`last_pulse` returns {last!r}, which is no pulse",
-    Code.NO_WORDS_RETURNED: "`result` returns {returned!r}: it must be words on one line",
+    Code.NO_PULSE_RETURNED: "`last_pulse` returns {last}, which is no pulse",
+    Code.NO_WORDS_RETURNED: "`result` returns {returned}: it must be words on one line",
     Code.NOTHING_TO_DRAW_RETURNED: (
-        "`drawn` returns {pair!r} at the node of identifier {identifier}: it must be a pair, "
+        "`drawn` returns {pair} at the node of identifier {identifier}: it must be a pair, "
         "a colour below {colours} or None, and a port or None"
     ),
     Code.NOT_REPEATED: (
@@ -268,7 +272,7 @@ SENTENCES: dict[Code, str] = {
         "orders of events play on copies of it"
     ),
     Code.NO_TRUTH_RETURNED: (
-        "`{function}` returns {returned!r}: it must be True, False, or what isn't right in "
+        "`{function}` returns {returned}: it must be True, False, or what isn't right in "
         "words on one line"
     ),
     Code.NOT_PYTHON: "{why}",
@@ -278,7 +282,7 @@ SENTENCES: dict[Code, str] = {
         "for each port, or None can be sent"
     ),
     Code.LIST_OF_OTHER_LENGTH: "{where} returns a list of {payloads} for {ports} ports",
-    Code.SENDS_NO_PAYLOAD: "{where} sends {slot!r}: {why}",
+    Code.SENDS_NO_PAYLOAD: "{where} sends {slot}: {why}",
     Code.SENDS_IN_LAST_PULSE: "{where} sends something, and {pulse} is the last pulse",
     Code.CANT_BE_COPIED: (
         "what `me` keeps can't be copied and compared, as each order of events needs it "
@@ -290,9 +294,9 @@ SENTENCES: dict[Code, str] = {
         "file"
     ),
     Code.RETURNS_SOMETHING: (
-        "{where} returns {returned!r}: it returns nothing, and sends with `me.send`"
+        "{where} returns {returned}: it returns nothing, and sends with `me.send`"
     ),
-    Code.MAY_ACT_NO_TRUTH: "`may_act` returns {returned!r}: it must be True or False",
+    Code.MAY_ACT_NO_TRUTH: "`may_act` returns {returned}: it must be True or False",
     Code.CHANGES_ME: "{function} changes `me`: it only says what is so",
     Code.NO_WORD_OF_MESSAGE: (
         "the function `{begin}{word}` is of no word: a word has small letters alone"
@@ -353,6 +357,9 @@ SENTENCES: dict[Code, str] = {
     ),
     Code.RUN_WITHOUT_END: ("a run under the policy {policy} hasn't ended after {most:,} events"),
     Code.RUN_NOT_ENDED: "the run hasn't ended after {most:,} entries",
+    Code.TOO_MANY_UNDER_WAY: (
+        "the run can't end within {most:,} entries: {under_way:,} messages are sent and not yet taken"
+    ),
     # pictures
     Code.NO_PARENT_OF_NODE: "forest {forest} gives no parent to node {vertex}",
     Code.NO_PARENT: "forest {forest} gives no parent to any node",

@@ -27,6 +27,7 @@ from collections.abc import Callable, Hashable, Iterable, Iterator, Sequence
 import contextlib
 import os
 import random
+import re
 import signal
 import sys
 import threading
@@ -41,19 +42,22 @@ from lab.definitions.values import by_name, frozen
 from lab.fault_codes import Code
 from lab.faults import Fault, InText
 from lab.network import Network
-from lab.words import bytes_at
+from lab.words import bytes_at, one_line
 
 # A function that is needed, by the names that it may have.
 NEEDED = (("greet",), ("step", "next"), ("result",))
 MAY_BE = ("last_pulse", "right", "always", "drawn")
 COLOURS = 8
-# What a loaded file is called as a module.
-PROGRAM = "program"
-# After so many seconds a call of one function is ended.
+# After so many seconds a call of one function is ended; and so many later the process, if the file catches that.
 LONGEST = 20
-LONGEST_INBOX = 200
+LONGER = 5
+# Letters of a value that is shown, and of what an exception of the file says.
+LONGEST_VALUE = 200
+LONGEST_WORDS = 2_000
 # Of a file. Nobody writes a longer one, and Python takes hundreds of times as much memory to read it.
 MOST_BYTES = 1 << 20
+# What ends a line somewhere, and halves of a letter, which can't be written.
+BREAKS = re.compile("[\n\r\v\f\x1c-\x1e\x85\u2028\u2029\ud800-\udfff]")
 # Python composes the letters of a name in quadratic time. No language has more (Unicode Standard Annex 15, 13).
 MOST_MARKS = 30
 
@@ -123,20 +127,23 @@ def marks_in_a_row(text: str) -> int:
 
 def loaded(path: str, code: CodeType) -> dict[str, object]:
     """What a file defines, each time with variables of its own."""
-    found: dict[str, object] = {"__name__": PROGRAM, "__file__": path}
+    found: dict[str, object] = {"__name__": "program", "__file__": path}
     call(path, "", exec, code, found)  # pylint: disable=exec-used
     return found
 
 
 class TooLong(BaseException):
-    """A call that doesn't end. The file's own handlers of exceptions don't catch it."""
+    """A call that doesn't end. Of the file's own handlers of exceptions only one that names none catches it."""
 
 
 class Misuse(BaseException):
-    """What a file may not do with `me`. Its own handlers of exceptions don't catch it."""
+    """What a file may not do with `me`. Of its own handlers of exceptions only one that names none catches it."""
 
 
 def end_call(*_: object) -> None:
+    # The next signal ends the process.
+    signal.signal(signal.SIGALRM, signal.SIG_DFL)
+    signal.setitimer(signal.ITIMER_REAL, LONGER)
     raise TooLong(f"it hasn't ended after {LONGEST} seconds")
 
 
@@ -159,38 +166,57 @@ Returned = TypeVar("Returned")
 
 
 def call(path: str, where: str, function: Callable[..., Returned], *values: object) -> Returned:
-    """What a function of the file returns. Whatever it raises is said with its line and where that was; what it prints
-    goes to standard error."""
+    """What a function returns that is of the file, or calls the file's. Whatever the file raises is said with its line
+    and where that was; what it prints goes to standard error."""
     try:
         with contextlib.redirect_stdout(sys.stderr), limited():
-            return function(*values)
-    except (Exception, SystemExit, TooLong, Misuse) as why:
-        lines = [
-            frame.lineno
-            for frame in traceback.extract_tb(why.__traceback__)
-            if frame.filename == path
-        ]
-        kind = "" if isinstance(why, (TooLong, Misuse)) else type(why).__name__
-        said = ": ".join(filter(None, [kind, str(why)]))
-        place = InText(path, (lines[-1] or 1) if lines else None)
-        raise Fault(Code.RAISED, place, why=said, function=where) from None
+            try:
+                return function(*values)
+            except BaseException as why:
+                if is_ours(why, path):
+                    raise
+                raise raised_by(why, path, where) from None
+    except TooLong as why:
+        # It came while what the file has raised was put in words.
+        raise raised_by(why, path, where) from None
+
+
+def is_ours(why: BaseException, path: str) -> bool:
+    """Whether something was raised by this module, or by Ctrl-C, and not by the file."""
+    frames = traceback.extract_tb(why.__traceback__)
+    if isinstance(why, KeyboardInterrupt):
+        return signal.getsignal(signal.SIGINT) is not signal.SIG_IGN
+    return isinstance(why, Fault) and frames[-1].filename != path
+
+
+def raised_by(why: BaseException, path: str, where: str) -> Fault:
+    """The fault of a file that has raised something."""
+    lines = [
+        frame.lineno for frame in traceback.extract_tb(why.__traceback__) if frame.filename == path
+    ]
+    kind = "" if isinstance(why, (TooLong, Misuse)) else type(why).__name__
+    said = ": ".join(filter(None, [kind, words_of(why)]))
+    place = InText(path, (lines[-1] or 1) if lines else None)
+    return Fault(Code.RAISED, place, why=said, function=where)
+
+
+def words_of(why: BaseException) -> str:
+    """What something that was raised says of itself, on one line, if it can be said."""
+    try:
+        return one_line(cut(str(why), LONGEST_WORDS))
+    except TooLong:
+        raise
+    except BaseException:
+        return ""
 
 
 def variables_of(values: dict[str, object]) -> dict[str, Hashable]:
     """The variables of a loaded file, by name, as keys that are equal for equal values; what can't be compared isn't
     among them."""
-    kept = {
-        name: value
-        for name, value in values.items()
-        if not isinstance(value, (ModuleType, FunctionType, type)) and not name.startswith("__")
-    }
-    return keys_of(kept)
-
-
-def keys_of(values: dict[str, object]) -> dict[str, Hashable]:
-    """Keys that are equal for equal values, by name, of those that can be compared."""
     found = {}
     for name, value in values.items():
+        if isinstance(value, (ModuleType, FunctionType, type)) or name.startswith("__"):
+            continue
         with contextlib.suppress(Exception):
             found[name] = frozen(value)
     return found
@@ -287,25 +313,34 @@ class OwnNode:
             return net.nodes
         function = file.functions["last_pulse"]
         sizes = (net.nodes, net.greatest_degree, net.forest_count, net.greatest_bars)
-        last = call(file.path, "`last_pulse`", function, *sizes[: 4 if takes(function, 4) else 2])
-        if not isinstance(last, int) or isinstance(last, bool) or not 0 <= last < 2**32:
-            raise Fault(Code.NO_PULSE_RETURNED, InText(file.path), last=last)
-        return last
+
+        def pulse() -> int:
+            last = plain(function(*sizes[: 4 if takes(function, 4) else 2]))
+            if not is_number(last) or last >= 2**32:
+                raise Fault(Code.NO_PULSE_RETURNED, InText(file.path), last=shown(last))
+            return last
+
+        return call(file.path, "`last_pulse`", pulse)
 
     def where(self, function: str, pulse: int) -> str:
         return f"`{function}` at pulse {pulse} of the node of identifier {self.id}"
 
     def greet(self) -> list[Slot]:
         where = self.where("greet", 0)
-        return self.sent(where, 0, call(self.of_file.path, where, self.of_file.greeting, self.me))
+        return call(
+            self.of_file.path, where, lambda: self.sent(where, 0, self.of_file.greeting(self.me))
+        )
 
     def next(self, pulse: int, inbox: list[Slot]) -> list[Slot]:
         file = self.of_file
         came = [slot and (slot.word, slot.number) for slot in inbox]
         where = self.where(file.stepping_name, pulse)
-        with_inbox = f"{where}, whose inbox is {cut(repr(came))}"
-        sent = call(file.path, with_inbox, file.stepping, self.me, pulse, came)
-        return self.sent(where, pulse, sent)
+        with_inbox = f"{where}, whose inbox is {shown(came)}"
+        return call(
+            file.path,
+            with_inbox,
+            lambda: self.sent(where, pulse, file.stepping(self.me, pulse, came)),
+        )
 
     def sent(self, where: str, pulse: int, what: object) -> list[Slot]:
         """By port, what a function returned, with the words of payloads as the definitions write them."""
@@ -327,7 +362,8 @@ class OwnNode:
             try:
                 slots.append(None if slot is None else payload_of(slot))
             except NoPayload as why:
-                raise Fault(Code.SENDS_NO_PAYLOAD, place, where=where, slot=slot, why=why) from None
+                names = {"where": where, "slot": shown(slot), "why": why}
+                raise Fault(Code.SENDS_NO_PAYLOAD, place, **names) from None
         if pulse == self.last and any(slot is not None for slot in slots):
             raise Fault(Code.SENDS_IN_LAST_PULSE, place, where=where, pulse=pulse)
         return slots
@@ -341,15 +377,19 @@ class OwnNode:
         if drawing is None:
             return None, None
         where = f"`drawn` of the node of identifier {self.id}"
-        pair = call(path, where, drawing, self.me)
+        return call(path, where, self.pair_of, drawing)
+
+    def pair_of(self, drawing: Callable[..., object]) -> tuple[int | None, int | None]:
+        """What `drawn` returns."""
+        pair = drawing(self.me)
         if isinstance(pair, tuple) and len(pair) == 2:
-            colour, port = pair
+            colour, port = map(plain, pair)
             if is_below(colour, COLOURS) and is_below(port, self.degree):
                 return colour, port
         raise Fault(
             Code.NOTHING_TO_DRAW_RETURNED,
-            InText(path),
-            pair=pair,
+            InText(self.of_file.path),
+            pair=shown(pair),
             identifier=self.id,
             colours=COLOURS,
         )
@@ -357,10 +397,14 @@ class OwnNode:
 
 def found_by(file: LoadedFile, me: Me, identifier: int) -> str:
     """What a node of a file has found so far, in words."""
-    words = call(file.path, f"`result` of the node of identifier {identifier}", file.finding, me)
-    if not isinstance(words, str) or "\n" in words:
-        raise Fault(Code.NO_WORDS_RETURNED, InText(file.path), returned=words)
-    return words
+
+    def words() -> str:
+        found = plain(file.finding(me))
+        if not is_line(found):
+            raise Fault(Code.NO_WORDS_RETURNED, InText(file.path), returned=shown(found))
+        return found
+
+    return call(file.path, f"`result` of the node of identifier {identifier}", words)
 
 
 def takes(function: object, count: int) -> bool:
@@ -369,8 +413,31 @@ def takes(function: object, count: int) -> bool:
     return isinstance(code, CodeType) and code.co_argcount == count
 
 
-def cut(words: str) -> str:
-    return words if len(words) <= LONGEST_INBOX else f"{words[:LONGEST_INBOX]}.."
+def cut(words: str, most: int = LONGEST_VALUE) -> str:
+    return words if len(words) <= most else f"{words[:most]}.."
+
+
+def shown(value: object) -> str:
+    """A value of a file as Python writes it, of which the beginning is enough."""
+    return cut(repr(value))
+
+
+def plain(value: object) -> object:
+    """A value of a file without a type of the file: of a member of an `Enum` that is a word or a number, this. What
+    only says that it is a text or a number is nothing."""
+    try:
+        if isinstance(value, str):
+            return str.__str__(value)
+        if isinstance(value, int) and not isinstance(value, bool):
+            return int.__int__(value)
+    except TypeError:
+        return None
+    return value
+
+
+def is_line(words: object) -> TypeGuard[str]:
+    """Whether something is words on one line, which can be written."""
+    return isinstance(words, str) and not BREAKS.search(words)
 
 
 class NoPayload(ValueError):
@@ -379,8 +446,9 @@ class NoPayload(ValueError):
 
 def payload_of(slot: object) -> Payload:
     """A payload of a file as the definitions write it."""
-    match slot:
-        case tuple((word, number)) if is_word(word) and is_number(number):
+    if isinstance(slot, tuple) and len(slot) == 2:
+        word, number = map(plain, slot)
+        if is_word(word) and is_number(number):
             if number >= 2**128:
                 raise NoPayload("its number has to be below 2^128")
             return Payload(word, number)
@@ -443,8 +511,8 @@ def rounds_of(
 def kept_by(node: OwnNode) -> Hashable:
     """What a node keeps, as a key; nothing of what can't be compared, which `explore` refuses."""
     try:
-        return frozen(node.me, by_name)
-    except Exception:
+        return call(node.of_file.path, f"what node {node.id} keeps", frozen, node.me, by_name)
+    except Fault:
         return None
 
 
@@ -469,16 +537,23 @@ def what_is_wrong(
     right, or if there is no such function."""
     if file is None or function not in file.functions:
         return ""
-    more = [list(messages)] if function == "always" and asks_for_messages(file) else []
+    more: list[object] = (
+        [list(messages)] if function == "always" and asks_for_messages(file) else []
+    )
     values = [*by_identifier(net, found), *more]
-    said = call(file.path, f"`{function}`", file.functions[function], *values)
+    return call(file.path, f"`{function}`", judged_by, file, function, values)
+
+
+def judged_by(file: ProgramFile, function: str, values: list[object]) -> str:
+    """What isn't right by a function of a file, in words."""
+    said = plain(file.functions[function](*values))
     if said is True:
         return ""
     if said is False:
         return f"`{function}` says that it isn't right"
-    if isinstance(said, str) and said.strip() and "\n" not in said:
-        return said
-    raise Fault(Code.NO_TRUTH_RETURNED, InText(file.path), function=function, returned=said)
+    if is_line(said) and said.strip():
+        return cut(said, LONGEST_WORDS)
+    raise Fault(Code.NO_TRUTH_RETURNED, InText(file.path), function=function, returned=shown(said))
 
 
 def by_identifier(

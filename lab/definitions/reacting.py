@@ -15,14 +15,15 @@ one. A message is a word of small letters, and then numbers from 0 or such words
 import copy
 from collections.abc import Callable, Hashable, Sequence
 from dataclasses import dataclass
+from functools import partial
 from inspect import signature
-from types import FunctionType
+from types import MappingProxyType
 
 from lab.definitions.events import ACT, Kind, Message
+from lab.definitions.file_variables import FileVariables
 from lab.definitions.machine import NetState, Node, Outgoing
 from lab.definitions.nodes import alpha_start
 from lab.definitions.own_program import (
-    PROGRAM,
     LoadedFile,
     Me,
     Misuse,
@@ -32,10 +33,11 @@ from lab.definitions.own_program import (
     found_by,
     is_number,
     is_word,
-    keys_of,
     known,
     program_name,
     placed_among,
+    plain,
+    shown,
 )
 from lab.definitions.program import Program, ProgramFile
 from lab.definitions.values import by_name, frozen
@@ -47,7 +49,7 @@ from lab.words import counted
 ON = "on_"
 # In one call. Nobody's node has as many ports.
 MOST_SENT = 10_000
-# So many events are made twice.
+# So many events are made twice, as long as no node has more messages to send.
 MOST_REPEATED = 1_000
 OWN_STEPS = ("may_act", "act")
 WHO_SENDS = "`start`, `act` and the functions `on_WORD` may send"
@@ -63,24 +65,16 @@ class ReactingFile(LoadedFile):
         self.starting = self.needed("start")
         self.asking = self.function("may_act")
         self.acting = self.function("act")
-        self.reactions = {word: self.needed(ON + word) for word in words_taken(file)}
+        self.reactions = MappingProxyType(
+            {word: self.needed(ON + word) for word in words_taken(file)}
+        )
         self.takes: dict[tuple[str, int], bool] = {}
         # Whether a function has changed a variable, which was said then.
         self.is_changed = False
 
     def kept_outside(self) -> dict[str, Hashable]:
-        """The variables of the file, those of its classes, and the defaults of its functions, which Python makes
-        once."""
-        more: dict[str, object] = {}
-        for name, value in self.values.items():
-            if isinstance(value, FunctionType) and value.__defaults__:
-                parameters = value.__code__.co_varnames[: value.__code__.co_argcount]
-                for parameter, default in zip(parameters[::-1], value.__defaults__[::-1]):
-                    more[f"{parameter} of {name}"] = default
-            elif isinstance(value, type) and value.__module__ == PROGRAM:
-                own = vars(value).items()
-                more |= {f"{name}.{at}": one for at, one in own if not at.startswith("_")}
-        return super().kept_outside() | keys_of(more)
+        """The variables of the file, and what its functions and classes keep."""
+        return FileVariables(self.values).keys()
 
     def no_message(self, message: Sequence[object]) -> str:
         """Why something is no message of the file; nothing if it is one."""
@@ -88,14 +82,14 @@ class ReactingFile(LoadedFile):
             return "a message begins with a word, and here is none"
         word, *fields = message
         if not is_word(word):
-            return f"a message begins with a word of small letters, and {word!r} is none"
+            return f"a message begins with a word of small letters, and {shown(word)} is none"
         if word not in self.reactions:
             return f"`{word}` is sent, and the file has no function `{ON}{word}`"
         for field in fields:
             if not (is_word(field) or is_number(field) and field < 2**128):
                 return (
-                    f"`{word}` is sent with {field!r}: after the word come numbers from 0, below 2^128, and words of "
-                    "small letters"
+                    f"`{word}` is sent with {shown(field)}: after the word come numbers from 0, below 2^128, "
+                    "and words of small letters"
                 )
         if not self.takes_fields(word, len(fields)):
             function = f"{ON}{word}{signature(self.reactions[word])}"
@@ -124,15 +118,18 @@ class ReactingMe(Me):
         """Sends a message by a port."""
         if self._sent is None:
             raise Misuse(f"`me.send` is called here, and only {WHO_SENDS}")
-        if not is_number(port) or port >= self._file.ports:
+        at = plain(port)
+        if not is_number(at) or at >= self._file.ports:
             has = f"0 to {self._file.ports - 1}" if self._file.ports else "none"
-            raise Misuse(f"`me.send` has {port!r} as its port: the node's ports are {has}")
-        if why := self._file.no_message(message):
+            raise Misuse(f"`me.send` has {shown(port)} as its port: the node's ports are {has}")
+        parts = [plain(part) for part in message]
+        if why := self._file.no_message(parts):
             raise Misuse(why)
         if len(self._sent) == MOST_SENT:
             raise Misuse(f"more than {MOST_SENT:,} messages are sent in one call")
-        word, *fields = message
-        self._sent.append((port, Message(str(word), tuple(fields))))
+        word, *fields = parts
+        own = tuple(field for field in fields if is_word(field) or is_number(field))
+        self._sent.append((at, Message(str(word), own)))
 
     def send_all(self, *message: int | str, but: int | None = None) -> None:
         """Sends a message by all ports, or by all but one."""
@@ -165,26 +162,31 @@ class ReactingNode(Node):
     def play(self, name: str, function: Callable[..., object], *values: object) -> None:
         """It does what a function of the file says."""
         file, where = self.of_file, self.where(name)
+        call(file.path, where, self.react, name, partial(function, self.me, *values))
+        if file.asking is not None:
+            self.is_able = call(file.path, self.where("may_act"), self.says_able, file.asking)
+
+    def react(self, name: str, function: Callable[[], object]) -> None:
+        """It calls a function of the file, and sends what that says."""
         sent: list[tuple[int, Message]] = []
         self.me._sent = sent
-        returned = call(file.path, where, function, self.me, *values)
+        returned = function()
         self.me._sent = None
         if returned is not None:
-            raise Fault(Code.RETURNS_SOMETHING, InText(file.path), where=where, returned=returned)
+            names = {"where": self.where(name), "returned": shown(returned)}
+            raise Fault(Code.RETURNS_SOMETHING, InText(self.of_file.path), **names)
         for port, message in sent:
+            if not isinstance(message, Message):
+                raise Misuse("something is sent, and not by `me.send`")
             self.ports[port].out.append(message)
         self.check_variables(name)
         self.kept = self.key_of_kept()
-        self.is_able = self.says_able()
 
-    def says_able(self) -> bool:
+    def says_able(self, asking: Callable[..., object]) -> bool:
         """Whether the file says that a step of its own is possible."""
-        file = self.of_file
-        if file.asking is None:
-            return False
-        may = call(file.path, self.where("may_act"), file.asking, self.me)
+        may = asking(self.me)
         if not isinstance(may, bool):
-            raise Fault(Code.MAY_ACT_NO_TRUTH, InText(file.path), returned=may)
+            raise Fault(Code.MAY_ACT_NO_TRUTH, InText(self.of_file.path), returned=shown(may))
         self.check_unchanged("may_act")
         return may
 
@@ -224,7 +226,7 @@ class ReactingNode(Node):
 
     def result(self) -> str:
         words = found_by(self.of_file, self.me, self.id)
-        self.check_unchanged("result")
+        call(self.of_file.path, self.where("result"), self.check_unchanged, "result")
         return words
 
     # For all orders of events.
@@ -241,12 +243,15 @@ class ReactingNode(Node):
 
     def copied(self) -> "ReactingNode":
         node = copy.copy(self)
-        try:
-            node.me = copy.deepcopy(self.me)
-        except Exception as why:
-            raise self.not_plain(why) from None
+        node.me = call(self.of_file.path, self.where("copying"), self.copy_of_me)
         node.ports = [Outgoing(list(port.out)) for port in self.ports]
         return node
+
+    def copy_of_me(self) -> ReactingMe:
+        try:
+            return copy.deepcopy(self.me)
+        except Exception as why:
+            raise self.not_plain(why) from None
 
     def key(self) -> Hashable:
         """Equal for equal nodes of one vertex; how often it has acted doesn't count."""
@@ -351,6 +356,8 @@ def check_reactions(net: Network, program: Reacting) -> None:
         except Fault:
             return  # who plays this order says so, with the events before it
         check_same(program, nodes[0].id, *seen)
+        if sum(len(port.out) for port in nodes[0].ports) > MOST_REPEATED:
+            return
 
 
 def check_same(program: Reacting, identifier: int, one: Hashable, two: Hashable) -> None:

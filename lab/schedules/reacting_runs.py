@@ -48,6 +48,7 @@ class Runs:
         while not wrong and (steps := player.next_steps()):
             if len(events) == MOST_ENTRIES:
                 raise Fault(Code.RUN_WITHOUT_END, policy=policy.name, most=MOST_ENTRIES)
+            player.check_size(MOST_ENTRIES)
             event = player.event_of(policy.choose(steps))
             events.append(with_message(player.state, event))
             try:

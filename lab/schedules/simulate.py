@@ -86,7 +86,7 @@ Waiting = tuple[Kind, int, int]
 class Player(Generic[AnyNode]):
     """A run on its way, whose entries are `made`, of the machine at its start, `state`. `steps[v]` are the steps that
     are possible at v; `since[kind, v, w]` has for each wire that can be put or taken, and for a node's own step, how
-    many entries were made when it came there."""
+    many entries were made when it came there; `under_way` counts these."""
 
     def __init__(self, state: NetState[AnyNode]) -> None:
         self.state = state
@@ -94,6 +94,7 @@ class Player(Generic[AnyNode]):
         self.made: list[Entry] = []
         self.since: defaultdict[Waiting, deque[int]] = defaultdict(deque)
         self.steps: dict[int, list[Step]] = {}
+        self.under_way = 0
         for v in sorted(self.state.nodes):
             self.look_at(v)
 
@@ -109,6 +110,7 @@ class Player(Generic[AnyNode]):
     def note_waiting(self, kind: Kind, v: int, w: int, wires: list[Message]) -> None:
         """Notes since when these wires can be put or taken, and that the first one can be."""
         times = self.since[kind, v, w]
+        self.under_way += len(wires) - len(times)
         if len(times) > len(wires):
             times.popleft()
         if len(times) < len(wires):
@@ -158,6 +160,11 @@ class Player(Generic[AnyNode]):
         while steps := self.next_steps():
             yield self.make(self.event_of(policy.choose(steps)))
 
+    def check_size(self, most: int) -> None:
+        """Refuses a run that can't end within so many entries, since each message under way needs one."""
+        if len(self.made) + self.under_way > most:
+            raise Fault(Code.TOO_MANY_UNDER_WAY, most=most, under_way=self.under_way)
+
 
 # What a node's own step has in place of a wire.
 NO_WIRE = Message("")
@@ -196,7 +203,8 @@ def played(
     if isinstance(program, Reacting):
         entries = islice(entries, MOST_ENTRIES)
     for _ in entries:
-        pass
+        if isinstance(program, Reacting):
+            player.check_size(MOST_ENTRIES)
     if player.next_steps():
         raise Fault(Code.RUN_NOT_ENDED, most=MOST_ENTRIES)
     return player.made
