@@ -170,6 +170,7 @@ class Code(Enum):
     EDITION_OF_REACTIONS = auto()
     STEP_NOT_READY = auto()
     HAS_PULSES = auto()
+    TOO_MANY_CLOCKS = auto()
     NO_WIRE_OF_SYNCHRONISER = auto()
     NO_WORD_TO_BEGIN = auto()
     PROGRAM_FOR_ROUNDS = auto()

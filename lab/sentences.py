@@ -222,6 +222,9 @@ SENTENCES: dict[Code, str] = {
     ),
     Code.STEP_NOT_READY: "{entry}{lacks}",
     Code.HAS_PULSES: ("edition {edition} has pulses already: only edition 4 is written as rounds"),
+    Code.TOO_MANY_CLOCKS: (
+        "the vector clocks of this run have more than {most:,} entries, which ShiViz can't show: write it as json"
+    ),
     Code.NO_WIRE_OF_SYNCHRONISER: "not a wire of the synchroniser: {why}",
     Code.NO_WORD_TO_BEGIN: "{word} is no word that a message begins with",
     Code.PROGRAM_FOR_ROUNDS: (

@@ -195,12 +195,12 @@ def raised_by(why: BaseException, path: str, where: str) -> Fault:
         frame.lineno for frame in traceback.extract_tb(why.__traceback__) if frame.filename == path
     ]
     kind = "" if isinstance(why, (TooLong, Misuse)) else type(why).__name__
-    said = ": ".join(filter(None, [kind, words_of(why)]))
+    said = ": ".join(filter(None, [kind, words_raised(why)]))
     place = InText(path, (lines[-1] or 1) if lines else None)
     return Fault(Code.RAISED, place, why=said, function=where)
 
 
-def words_of(why: BaseException) -> str:
+def words_raised(why: BaseException) -> str:
     """What something that was raised says of itself, on one line, if it can be said."""
     try:
         return one_line(cut(str(why), LONGEST_WORDS))
@@ -317,7 +317,7 @@ class OwnNode:
         def pulse() -> int:
             last = plain(function(*sizes[: 4 if takes(function, 4) else 2]))
             if not is_number(last) or last >= 2**32:
-                raise Fault(Code.NO_PULSE_RETURNED, InText(file.path), last=shown(last))
+                raise Fault(Code.NO_PULSE_RETURNED, InText(file.path), last=as_python(last))
             return last
 
         return call(file.path, "`last_pulse`", pulse)
@@ -335,7 +335,7 @@ class OwnNode:
         file = self.of_file
         came = [slot and (slot.word, slot.number) for slot in inbox]
         where = self.where(file.stepping_name, pulse)
-        with_inbox = f"{where}, whose inbox is {shown(came)}"
+        with_inbox = f"{where}, whose inbox is {as_python(came)}"
         return call(
             file.path,
             with_inbox,
@@ -362,7 +362,7 @@ class OwnNode:
             try:
                 slots.append(None if slot is None else payload_of(slot))
             except NoPayload as why:
-                names = {"where": where, "slot": shown(slot), "why": why}
+                names = {"where": where, "slot": as_python(slot), "why": why}
                 raise Fault(Code.SENDS_NO_PAYLOAD, place, **names) from None
         if pulse == self.last and any(slot is not None for slot in slots):
             raise Fault(Code.SENDS_IN_LAST_PULSE, place, where=where, pulse=pulse)
@@ -389,7 +389,7 @@ class OwnNode:
         raise Fault(
             Code.NOTHING_TO_DRAW_RETURNED,
             InText(self.of_file.path),
-            pair=shown(pair),
+            pair=as_python(pair),
             identifier=self.id,
             colours=COLOURS,
         )
@@ -401,7 +401,7 @@ def found_by(file: LoadedFile, me: Me, identifier: int) -> str:
     def words() -> str:
         found = plain(file.finding(me))
         if not is_line(found):
-            raise Fault(Code.NO_WORDS_RETURNED, InText(file.path), returned=shown(found))
+            raise Fault(Code.NO_WORDS_RETURNED, InText(file.path), returned=as_python(found))
         return found
 
     return call(file.path, f"`result` of the node of identifier {identifier}", words)
@@ -417,7 +417,7 @@ def cut(words: str, most: int = LONGEST_VALUE) -> str:
     return words if len(words) <= most else f"{words[:most]}.."
 
 
-def shown(value: object) -> str:
+def as_python(value: object) -> str:
     """A value of a file as Python writes it, of which the beginning is enough."""
     return cut(repr(value))
 
@@ -553,7 +553,9 @@ def judged_by(file: ProgramFile, function: str, values: list[object]) -> str:
         return f"`{function}` says that it isn't right"
     if is_line(said) and said.strip():
         return cut(said, LONGEST_WORDS)
-    raise Fault(Code.NO_TRUTH_RETURNED, InText(file.path), function=function, returned=shown(said))
+    raise Fault(
+        Code.NO_TRUTH_RETURNED, InText(file.path), function=function, returned=as_python(said)
+    )
 
 
 def by_identifier(

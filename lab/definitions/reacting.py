@@ -37,7 +37,7 @@ from lab.definitions.own_program import (
     program_name,
     placed_among,
     plain,
-    shown,
+    as_python,
 )
 from lab.definitions.program import Program, ProgramFile
 from lab.definitions.values import by_name, frozen
@@ -82,13 +82,13 @@ class ReactingFile(LoadedFile):
             return "a message begins with a word, and here is none"
         word, *fields = message
         if not is_word(word):
-            return f"a message begins with a word of small letters, and {shown(word)} is none"
+            return f"a message begins with a word of small letters, and {as_python(word)} is none"
         if word not in self.reactions:
             return f"`{word}` is sent, and the file has no function `{ON}{word}`"
         for field in fields:
             if not (is_word(field) or is_number(field) and field < 2**128):
                 return (
-                    f"`{word}` is sent with {shown(field)}: after the word come numbers from 0, below 2^128, "
+                    f"`{word}` is sent with {as_python(field)}: after the word come numbers from 0, below 2^128, "
                     "and words of small letters"
                 )
         if not self.takes_fields(word, len(fields)):
@@ -121,7 +121,7 @@ class ReactingMe(Me):
         at = plain(port)
         if not is_number(at) or at >= self._file.ports:
             has = f"0 to {self._file.ports - 1}" if self._file.ports else "none"
-            raise Misuse(f"`me.send` has {shown(port)} as its port: the node's ports are {has}")
+            raise Misuse(f"`me.send` has {as_python(port)} as its port: the node's ports are {has}")
         parts = [plain(part) for part in message]
         if why := self._file.no_message(parts):
             raise Misuse(why)
@@ -173,7 +173,7 @@ class ReactingNode(Node):
         returned = function()
         self.me._sent = None
         if returned is not None:
-            names = {"where": self.where(name), "returned": shown(returned)}
+            names = {"where": self.where(name), "returned": as_python(returned)}
             raise Fault(Code.RETURNS_SOMETHING, InText(self.of_file.path), **names)
         for port, message in sent:
             if not isinstance(message, Message):
@@ -186,7 +186,7 @@ class ReactingNode(Node):
         """Whether the file says that a step of its own is possible."""
         may = asking(self.me)
         if not isinstance(may, bool):
-            raise Fault(Code.MAY_ACT_NO_TRUTH, InText(self.of_file.path), returned=shown(may))
+            raise Fault(Code.MAY_ACT_NO_TRUTH, InText(self.of_file.path), returned=as_python(may))
         self.check_unchanged("may_act")
         return may
 

@@ -130,6 +130,13 @@ def draw_rounds(of: Source, forests: tuple[int, int] | None, pulses: tuple[int, 
     return program_picture.draw(rounds, pulses)
 
 
+def draw_bits(of: Source, forest: int | None, vertex: int | None) -> str:
+    rounds = of.rounds()
+    if not isinstance(rounds, Rounds):
+        raise Fault(Code.NO_FORESTS, name=of.program.name)
+    return bits_picture.draw(rounds, forest or 0, vertex)
+
+
 def draw_why(of: Source, vertex: int | None, in_words: bool | None) -> str:
     rounds = of.rounds()
     if not isinstance(rounds, Rounds):
@@ -219,7 +226,7 @@ KINDS = {
         "Without --vertex, the least one that has a parent. A vertex without a line `i V NUMBER` has its own\n"
         "number as its name, of few digits.",
         "forestlab picture bits examples/petersen.col --vertex 6 > petersen-bits.svg",
-        lambda of, forest, vertex: bits_picture.draw(of.rounds(), forest or 0, vertex),
+        draw_bits,
     ),
     "why": PictureKind(
         "Which messages decided the channel of --vertex, on the rounds or in words.",

@@ -6,10 +6,13 @@ from dataclasses import replace
 
 from lab.definitions.events import ACT, PULSE, PUT, TAKE, Entry, Message
 from lab.fault_codes import Code
+from lab.faults import Fault
 from lab.transcripts.fields import NoEntry, first_line, wire_of
 from lab.transcripts.reading import Head, WrongEntry, line_of, read
 
 Made = list[tuple[Entry, Entry | None]]
+# A vector clock has an entry for each node that it has heard of, so all of them grow with the square of a long run.
+MOST_CLOCKS = 5_000_000
 
 
 def entries_of(text: bytes) -> tuple[Head, Made]:
@@ -60,6 +63,7 @@ def as_shiviz(_: Head, entries: Made) -> Iterator[str]:
     """Two lines an entry: the node with its vector clock, and what it did."""
     clocks: dict[int, dict[int, int]] = {}
     carried: dict[int | None, dict[int, int]] = {}
+    written = 0
     for entry, put in entries:
         own = clocks.setdefault(entry.node, {})
         own[entry.node] = own.get(entry.node, 0) + 1
@@ -68,6 +72,9 @@ def as_shiviz(_: Head, entries: Made) -> Iterator[str]:
                 own[v] = max(own.get(v, 0), count)
         if entry.kind is PUT:
             carried[entry.line] = dict(own)
+        written += len(own)
+        if written > MOST_CLOCKS:
+            raise Fault(Code.TOO_MANY_CLOCKS, most=MOST_CLOCKS)
         yield f"node{entry.node} " + json.dumps(
             {f"node{v}": count for v, count in sorted(own.items())}
         )

@@ -176,7 +176,7 @@ READS = {
     # Files of this folder.
     ("lab/version.py", "text: open"): OF_TREE,
     ("lab/version.py", "text: file.read"): OF_TREE,
-    ("lab/version.py", "text: kit.readline"): OF_TREE,
+    ("lab/version.py", "text: kits.read"): OF_TREE,
     ("lab/pictures/pages.py", "text_of: open"): OF_TREE,
     ("lab/pictures/pages.py", "text_of: file.read"): OF_TREE,
     ("lab/studio/lessons.py", "page_text: open"): OF_TREE,

@@ -7,6 +7,7 @@ import os
 from unittest import mock
 
 from lab.definitions.nodes import COLOURING
+from lab.definitions.programs import PROGRAMS
 from lab.studio import limits, runs
 from lab.studio.calls import CALLS
 from lab.studio.fields import fields_of, object_of
@@ -86,6 +87,12 @@ GOOD: list[tuple[str, dict]] = [
     ("build", {}),
     ("built", {}),
 ]
+NETWORKS = (
+    "p edge 1 0\n",
+    "p edge 3 3\ne 1 2\ne 2 3\ne 1 3\nb 3 1\n",
+    "p edge 4 3\ne 1 2\ne 2 3\ne 3 4\ni 1 9\n",
+    "p edge 4 0\n",
+)
 # Values of every type, and of each the ones that are at an end of it.
 VALUES: tuple[object, ...] = (
     *(None, True, False, 0, 1, -1, 3, 10**9, 10**30, 1.5, float("inf"), float("nan")),
@@ -177,6 +184,15 @@ class Calls(FilesCase):
             self.is_no_fault(f"{name} {asked}", self.outcome(name, text_of(asked)))
         wanted = {name: set(fields_of(call.asked)) for name, call in CALLS.items()}
         self.same("all fields", fields, wanted)
+
+    def test_other_programs(self):
+        """A call with any program, or on any network, is answered or refused."""
+        for name, asked in GOOD:
+            others = [{"program": program} for program in (*PROGRAMS, "echo") if "program" in asked]
+            others += [{"network": network} for network in NETWORKS if "network" in asked]
+            for other in others:
+                row = f"{name} {asked | other}"
+                self.is_no_fault(row, self.outcome(name, text_of(asked | other)))
 
     def test_refusals(self):
         """What is said of each kind of a malformed call."""

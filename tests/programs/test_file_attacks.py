@@ -27,32 +27,32 @@ def result(me):
 """
 # Places outside `me`: what the file begins with, what it does then, and the variable that keeps who was first.
 OUTSIDE = (
-    ("class C:\n    first = 0", "C.first = C.first or number; me.first = C.first", "C"),
+    ("class C:\n    first = 0", "C.first = C.first or number; me.first = C.first", "C.first"),
     (
         "class C:\n    class D:\n        first = 0",
         "C.D.first = C.D.first or number; me.first = C.D.first",
-        "C",
+        "C.D",
     ),
     (
         "def make():\n    kept = []\n    def keep(n):\n        kept.append(n)\n        return kept[0]\n"
         "    return keep\nkeep = make()",
         "me.first = keep(number)",
-        "keep",
+        "kept of keep",
     ),
     (
         "def keep(n, kept=[]):\n    kept.append(n)\n    return kept[0]",
         "me.first = keep(number)",
-        "keep",
+        "kept of keep",
     ),
     (
         "def keep(n, *, kept=[]):\n    kept.append(n)\n    return kept[0]",
         "me.first = keep(number)",
-        "keep",
+        "kept of keep",
     ),
     (
         "",
         "on_ping.kept = getattr(on_ping, 'kept', 0) or number; me.first = on_ping.kept",
-        "on_ping",
+        "on_ping.kept",
     ),
     (
         "kept = [lambda n, kept=[]: (kept.append(n), kept[0])[1]]",

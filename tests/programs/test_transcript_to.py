@@ -54,3 +54,14 @@ class Forms(Case):
             (["xml"], RUN, 2, "invalid choice"),
         ):
             self.refusal(f"{words}", call(*words, data=data), wanted, end)
+
+    def test_long_row(self):
+        """A message that goes along a row of n nodes has clocks of 1, 2, 2, 3, 3, .. n entries: n*n in all."""
+        nodes = 2_300
+        lines = [f"transcript 2 {nodes}"]
+        for v in range(1, nodes):
+            lines += [f"{2 * v - 1} {v} put {v + 1} ack 0", f"{2 * v} {v + 1} take {v} ack 0"]
+        run = "\n".join(lines) + "\n"
+        done = said_by("transcript", "convert", "shiviz", data=run.encode())
+        said = "the vector clocks of this run have more than 5,000,000 entries"
+        self.refusal("a row", done, 1, said)
