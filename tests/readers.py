@@ -23,6 +23,7 @@ from lab.transcripts import transcript
 from lab.workshop.protocol import END, fields_of, forms_of, lines_of
 from lab.workshop.findings import NoAnswer
 from lab.workshop.submissions import said_command
+from tests import TOP
 
 Main = Callable[[list[str]], int]
 # The modules of commands.
@@ -39,6 +40,15 @@ ALONE = b"".join(b"%d %d pulse %d\n" % (p, v, p) for p in range(1, 13) for v in 
 ENTRIES = (
     b"transcript 2 2\n1 1 put 2 payload 0 hello 1\n1 2 put 1 payload 0 hello 2\n"
     b"2 1 take 2 payload 0 hello 2\n3 1 put 2 ack 0\n4 2 take 1 payload 0 hello 1\n5 2 pulse 1\n"
+)
+# A program of nodes that react to messages, and a run of it; and one that is a run of the synchroniser, too.
+ECHO = os.path.join(TOP, "examples", "algorithms", "echo.py")
+OF_ECHO = (
+    b"transcript 4 echo 2\n1 1 put 2 wave\n2 2 take 1 wave\n3 2 put 1 echo 1\n4 1 take 2 echo 1\n"
+)
+OF_ALPHA = (
+    b"transcript 4 alpha 2\n1 1 put 2 payload 0 leader 1\n2 2 take 1 payload 0 leader 1\n"
+    b"3 2 put 1 ack 0\n4 1 take 2 ack 0\n5 1 put 2 safe 0\n6 1 act 1\n7 1 put 2 close\n"
 )
 GRAPHML = (
     b"<?xml version='1.0' encoding='utf-8'?><graphml xmlns='http://graphml.graphdrawing.org/xmlns'>"
@@ -196,6 +206,7 @@ ENCODINGS = (
 OF_TRANSCRIPTS = tuple(
     b"transcript 1 2 3 leader pulse put take payload ack safe close hello label hops 0 1 12".split()
 )
+OF_REACTIONS = OF_TRANSCRIPTS + tuple(b"act wave echo alpha 4".split())
 OF_XML = (
     b"<node <edge <graph <data <key id='a' source='a' target='b' /> > </node> </graph> <!-- --> &lt; &a;"
     b" <![CDATA[ ]]>"
@@ -302,14 +313,37 @@ READERS = (
         (ENTRIES.replace(b"2 2", b"3 leader 2", 1).replace(b"hello", b"leader"),),
         OF_TRANSCRIPTS,
     ),
-    Reader("as json", transcript.main, ("convert", "json", "-"), (ENTRIES,), OF_TRANSCRIPTS),
-    Reader("as shiviz", transcript.main, ("convert", "shiviz", "-"), (ENTRIES,), OF_TRANSCRIPTS),
+    Reader(
+        "transcript of reactions",
+        transcript.main,
+        ("check", "path2", "-", "--program", ECHO),
+        (OF_ECHO,),
+        OF_REACTIONS,
+    ),
+    Reader(
+        "as rounds",
+        transcript.main,
+        ("convert", "rounds", "-", "--program", "leader"),
+        (OF_ALPHA,),
+        OF_REACTIONS,
+    ),
+    Reader("as json", transcript.main, ("convert", "json", "-"), (ENTRIES, OF_ALPHA), OF_REACTIONS),
+    Reader(
+        "as shiviz", transcript.main, ("convert", "shiviz", "-"), (ENTRIES, OF_ALPHA), OF_REACTIONS
+    ),
     Reader(
         "events",
         simulate.main,
         ("path2", "--program", "leader", "--events", "-"),
         (b"put 1 0\nput 2 0\ntake 2 0: a note\nc x\npulse 1\n",),
         tuple(b"put take pulse c : 0 1 2".split()),
+    ),
+    Reader(
+        "events of reactions",
+        simulate.main,
+        ("path2", "--program", ECHO, "--events", "-"),
+        (b"put 1 0\ntake 2 0: wave from 1\nput 2 0\nc x\ntake 1 0\n",),
+        tuple(b"put take act c : 0 1 2".split()),
     ),
     Reader(
         "picture of a run",

@@ -40,5 +40,7 @@ class NewProgram(Case):
 
     def test_names(self):
         for name in ("Echoes", "a-b", "colouring", "x" * 21, ""):
-            with self.subTest(name), self.assertRaisesRegex(Fault, f"^{name}: "):
+            # Where there is no name, none is said.
+            begin = f"{name}: " if name else "a program's name is "
+            with self.subTest(name), self.assertRaisesRegex(Fault, f"^{begin}"):
                 copy(name, self.folder)
