@@ -94,7 +94,7 @@ class States(Case):
             at = f"{name}: node {v} after {'_'.join(player.chosen) or 'nothing'}"
             if not player.is_over:
                 self.same(f"{at}: it may make its pulse", goes_on == "may", str(v) in steps)
-            found, why = waited(player, v)
+            found, why = waited(player.state, v, player.without, player.is_over)
             self.same(f"{at}: the answer", set(found), set() if player.is_over else waits)
             self.why_is_so(f"{at}: {why}", player, v, why, str(v) in steps)
             for step, other in after:
