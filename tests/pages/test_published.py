@@ -307,7 +307,7 @@ class Published(Cards):
                 player = Stepwise(network, without=without)
                 for _ in range(source.randrange(5, 90)):
                     steps = player.possible()
-                    if steps:
+                    if steps and not player.is_over:
                         player.follow([source.choice(steps)])
                 lists.append(player.chosen)
             for made in lists:
