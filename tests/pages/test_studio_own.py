@@ -13,7 +13,8 @@ EVIL = "# <img src=x onerror=document.title='bad'></pre><script>document.title='
 SHOWN = "['before', 'ran', 'after'].map(one => document.getElementById(one).textContent).join('')"
 MARKED = "document.getElementById('ran').hidden ? '' : document.getElementById('ran').textContent.split('\\n')[0]"
 # Whether the function that ran last is seen, with its first line at least.
-SEEN = """(() => { const [ran, box] = ['ran', 'codebox'].map(one => document.getElementById(one).getBoundingClientRect());
+SEEN = """(() => { const place = one => document.getElementById(one).getBoundingClientRect(), ran = place('ran');
+  const box = place('codebox');
   return ran.top >= box.top - 1 && ran.top + 20 <= box.bottom; })()"""
 ECHO = "example=triangle&program=echo&tab=adversary"
 
