@@ -99,9 +99,13 @@ class ReactingStepwise(ByHand[ReactingNode]):
 
 
 def in_python(value: object) -> str:
-    """A value as Python writes it, cut, and without the place in memory that differs from call to call."""
+    """A value as Python writes it, cut, and without the place in memory that differs from call to call; of what Python
+    doesn't write, its type."""
     short = reprlib.Repr()
     short.maxlevel, short.maxlist, short.maxtuple, short.maxdict, short.maxset = 3, 12, 12, 12, 12
     short.maxstring = short.maxlong = short.maxother = MOST_LETTERS
-    said = re.sub(" at 0x[0-9a-f]+", "", short.repr(value))
+    try:
+        said = re.sub(" at 0x[0-9a-f]+", "", short.repr(value))
+    except Exception:  # as of a number of more than 4,300 digits
+        return f"a value of the type {type(value).__name__}"
     return said if len(said) <= MOST_LETTERS else f"{said[: MOST_LETTERS - 2]}.."

@@ -84,6 +84,19 @@ ENDLESS = """\
     if me.first == 2 or me.id != 1:
         me.send(port, "hi", id)
 """
+# Values that Python writes at length, or not at all.
+KEEPS = """\
+    class Thing:
+        pass
+
+    class Fails:
+        def __repr__(self):
+            raise ValueError
+
+    me.great, me.long, me.list = 10**5000, "x" * 999, list(range(99))
+    me.thing, me.fails = Thing(), Fails()
+    me.inside = False
+"""
 FAILS = FIRST.replace("me.first = me.first or id", "me.first = {}[id]")
 ROUNDS = (
     "def greet(me):\n    return None\n\n\ndef step(me, pulse, inbox):\n    return None\n\n\n"
@@ -350,6 +363,21 @@ class OwnFiles(FilesCase):
         self.same("no verdict", (found["right"], found["always"]), (None, None))
         self.same("found before", found["nodes"][0]["found"], "first None")
         self.same("the function", found["ran"], {"function": "on_hi", "node": 1})
+
+    def test_what_is_kept(self) -> None:
+        """Whatever a node keeps is shown, in few letters, and the same at each call."""
+        text = INSIDE.replace("    me.inside = False\n", KEEPS, 1)
+        session = session_of(self.file("inside.py", text))
+        found = [self.found(session, program="inside")["nodes"][0]["keeps"] for _ in range(2)]
+        self.same("twice", found[0], found[1])
+        kept = dict(found[0])
+        self.same("a number", kept["great"], "a value of the type int")
+        self.note("a long text", len(kept["long"]) <= 120 and ".." in kept["long"], kept["long"])
+        self.note("a list", len(kept["list"]) <= 120, kept["list"])
+        self.same("an object", kept["thing"], "<program.start.<locals>.Thing object>")
+        self.same("what fails", kept["fails"], "<Fails instance>")
+        known = {"id", "degree", "nodes", "forests", "barred", "greatest_degree", "greatest_bars"}
+        self.same("no more than the file keeps", known & set(kept), set())
 
     def test_what_is_sent(self) -> None:
         """A question is of a step that is possible, and the answer names the function."""
