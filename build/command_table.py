@@ -1,5 +1,5 @@
-"""Writes the table of all commands in README.md: what the help texts of forestplan, forestplay and forestlab say of each
-command, in their order."""
+"""Writes the table of all commands in README.md: what the help texts of forestplan, forestplay and forestlab say of
+each command, in their order."""
 import argparse
 import os
 import re
