@@ -174,6 +174,17 @@ READS = {
     ("lab/studio/building.py", "build_so_far: log.read"): "16 KiB: the same",
     ("lab/version.py", "commit: subprocess.run"): "a line of git",
     # Files of this folder.
+    **{("lab/studio/bundle.py", f"module_text: {what}"): OF_TREE for what in ("open", "file.read")},
+    **{
+        ("lab/studio/publishing.py", f"{where}: {what}"): OF_TREE
+        for where in ("index_page", "published")
+        for what in ("open", "file.read")
+    },
+    ("lab/studio/publishing.py", "publish: open"): WRITTEN,
+    **{
+        ("lab/studio/recording.py", f"linked_places: {what}"): OF_TREE
+        for what in ("open", "file.read")
+    },
     ("lab/version.py", "text: open"): OF_TREE,
     ("lab/version.py", "text: file.read"): OF_TREE,
     ("lab/version.py", "text: kits.read"): OF_TREE,
