@@ -38,7 +38,7 @@ from lab.studio.exercises import (
     proper_words,
 )
 from lab.studio.lessons import LECTURE, LESSONS, SaidExercise, SeenExercise, step_place, steps_in
-from lab.studio.local_states import OWN_STEP, LocalStates, LocalStep, TooMany
+from lab.studio.local_states import OWN_STEP, LocalState, LocalStates, LocalStep, TooMany
 from lab.studio.messages import (
     BrokenCall,
     ExampleCall,
@@ -332,9 +332,7 @@ class Recording:
         self.ask(replace(asked, slow=(), lazy=()))
 
     def adversary(self, on: OnPage, values: Values) -> None:
-        links = len(on.net.edges)
-        most = len(OF_SCHEDULES) if links <= 1 else 1 if links <= MOST_LINKS else 0
-        for count in range(most + 1):
+        for count in range(most_left_out(len(on.net.edges)) + 1):
             for rules in combinations(OF_SCHEDULES, count):
                 self.all_runs(on, ",".join(rules))
         if values.without:
@@ -427,6 +425,13 @@ OF_TABS: dict[str, Callable[[Recording, OnPage, Values], None]] = {
 }
 
 
+def most_left_out(links: int) -> int:
+    """How many rules are left out at a time, in a network with so many links: all of them in the smallest ones."""
+    if links <= 1:
+        return len(OF_SCHEDULES)
+    return int(links <= MOST_LINKS)
+
+
 def made_calls() -> Iterator[MakeCall]:
     """The networks that can be made on the page."""
     for kind in MADE:
@@ -442,12 +447,21 @@ def of_edges(nodes: int, edges: Collection[tuple[int, int]]) -> Net:
 def drawn_from(net: Net) -> Iterator[Net]:
     """The networks that come of one by a few changes on the page."""
     for nodes in range(1, FEW + 1):
-        every = list(combinations(range(1, nodes + 1), 2))
-        for count in range(len(every) + 1):
-            for edges in combinations(every, count):
-                yield of_edges(nodes, edges)
-    if not 0 < len(net.nodes) <= MORE:
-        return
+        yield from all_of_nodes(nodes)
+    if 0 < len(net.nodes) <= MORE:
+        yield from changed(net)
+
+
+def all_of_nodes(nodes: int) -> Iterator[Net]:
+    """All networks of so many nodes."""
+    every = list(combinations(range(1, nodes + 1), 2))
+    for count in range(len(every) + 1):
+        for edges in combinations(every, count):
+            yield of_edges(nodes, edges)
+
+
+def changed(net: Net) -> Iterator[Net]:
+    """A network with other edges at one or two places, and with another identifier or other bars at a node."""
     there, numbers = set(net.edges), range(1, len(net.nodes) + 1)
     changes = list(combinations(numbers, 2))
     for count in (1, 2):
@@ -487,28 +501,23 @@ def all_runs_of(
         what, why = waited(found.state, v, found.without, is_over)
         return Explained(", ".join(what), why)
 
+    def state_of(v: int, k: int, one: LocalState, numbers: dict[tuple[int, str], int]) -> OneState:
+        takes = {numbers[key]: row for key, row in one.rows.items() if key != OWN_STEP}
+        same = [number for number, row in takes.items() if row.to == k and not row.puts]
+        own = one.rows.get(OWN_STEP)
+        return OneState(
+            looks.setdefault(one.look, len(looks)),
+            waits.setdefault(waits_in(v, k, False), len(waits)),
+            row_of(own) if own else None,
+            {number: row_of(row) for number, row in takes.items() if number not in same},
+            same,
+        )
+
     nodes = []
     for v, states in found.found.items():
-        numbers = {
-            key: k
-            for k, key in enumerate(
-                dict.fromkeys(key for one in states for key in one.rows if key != OWN_STEP)
-            )
-        }
-        rows = []
-        for k, one in enumerate(states):
-            takes = {numbers[key]: row for key, row in one.rows.items() if key != OWN_STEP}
-            same = [number for number, row in takes.items() if row.to == k and not row.puts]
-            own = one.rows.get(OWN_STEP)
-            rows.append(
-                OneState(
-                    looks.setdefault(one.look, len(looks)),
-                    waits.setdefault(waits_in(v, k, False), len(waits)),
-                    row_of(own) if own else None,
-                    {number: row_of(row) for number, row in takes.items() if number not in same},
-                    same,
-                )
-            )
+        keys = dict.fromkeys(key for one in states for key in one.rows if key != OWN_STEP)
+        numbers = {key: k for k, key in enumerate(keys)}
+        rows = [state_of(v, k, one, numbers) for k, one in enumerate(states)]
         nodes.append(OneNode(found.network.neighbours[v], found.starts[v], list(numbers), rows))
     return AllRuns(
         last=found.last,

@@ -13,6 +13,8 @@ from tests.pages.test_studio_page import Page
 # Width and height of the window, and whether a finger points.
 WINDOWS = {1440: (900, False), 1280: (800, False), 768: (1024, False), 360: (740, True)}
 LOOKS = ("light", "dark", "large")
+# Pictures in a row of a sheet, for windows wider than this.
+COLUMNS = ((800, 3), (400, 4), (0, 6))
 # What is after the # of the address, and what is waited for.
 PLACES = {
     "first": "",
@@ -58,7 +60,7 @@ class Looked(Page):
 
     def sheet(self, names: list[str], path: str, wide: int) -> None:
         """A picture of pictures, side by side, each with its name."""
-        columns = 6 if wide <= 400 else 3 if wide > 800 else 4
+        columns = next(count for least, count in COLUMNS if wide > least)
         shown = "".join(
             f'<figure><img src="file://{name}"><figcaption>{os.path.basename(name)[:-4]}</figcaption></figure>'
             for name in names
@@ -79,6 +81,23 @@ class Looked(Page):
         os.remove(page)
 
 
+def looked_at(looked: "Looked", folder: str, words: list[str]) -> None:
+    for wide, (high, is_phone) in WINDOWS.items():
+        for look in LOOKS:
+            names = [f"{wide}-{look}-{name}" for name in PLACES]
+            names = [one for one in names if not words or any(word in one for word in words)]
+            if not names:
+                continue
+            looked.page.size(wide, high, is_phone)
+            looked.look(look)
+            for name in names:
+                looked.open(PLACES[name.split("-")[2]], look)
+                looked.picture(os.path.join(folder, name + ".png"))
+            looked.look("light")
+            made = [os.path.join(folder, f"{name}.png") for name in names]
+            looked.sheet(made, os.path.join(folder, f"sheet-{wide}-{look}.png"), wide)
+
+
 def main() -> None:
     folder, *words = sys.argv[1:]
     folder = os.path.abspath(folder)
@@ -89,20 +108,7 @@ def main() -> None:
     looked = Looked("picture")
     looked.value, looked.click_on = looked.page.value, looked.page.click_on
     try:
-        for wide, (high, is_phone) in WINDOWS.items():
-            for look in LOOKS:
-                names = [f"{wide}-{look}-{name}" for name in PLACES]
-                names = [one for one in names if not words or any(word in one for word in words)]
-                if not names:
-                    continue
-                looked.page.size(wide, high, is_phone)
-                looked.look(look)
-                for name in names:
-                    looked.open(PLACES[name.split("-")[2]], look)
-                    looked.picture(os.path.join(folder, name + ".png"))
-                looked.look("light")
-                made = [os.path.join(folder, f"{name}.png") for name in names]
-                looked.sheet(made, os.path.join(folder, f"sheet-{wide}-{look}.png"), wide)
+        looked_at(looked, folder, words)
         print(f"{len(glob.glob(os.path.join(folder, '*.png')))} pictures in {folder}")
         for fault in looked.page.faults:
             print("a script complained:", fault)

@@ -24,7 +24,14 @@ LOOSE = {
     "lab/python/forestplan/_sites.py": (2, "places have names of any kind"),
     "lab/studio/connections.py": (2, "an address and a place for bytes, as sockets have them"),
     "lab/studio/page/address.js": (1, "the values of an address, each of its own type"),
+    "lab/studio/page/draw.js": (1, "fields and menus, which the browser's types keep apart"),
+    "lab/studio/page/recorded.js": (1, "each call asks with fields of its own"),
+    "lab/studio/page/recorded_address.js": (1, "the values of an address, each of its own type"),
     "lab/studio/serving.py": (2, "a request and an address, as socketserver has them"),
+    "tests/pages/test_published.py": (
+        2,
+        "recorded answers of all kinds; an example is always read, so it has a network",
+    ),
     "tests/pages/test_reads.py": (1, "one method stands for three of a visitor"),
 }
 
