@@ -389,6 +389,7 @@ class Code(Enum):
     NO_STEP_OF_LESSON = auto()
     NO_EXERCISE = auto()
     NO_ROW_YET = auto()
+    ROW_OF_NONE = auto()
     ROW_OF_ONE = auto()
     ROW_OF_OTHER_LENGTH = auto()
 

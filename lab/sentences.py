@@ -575,6 +575,7 @@ SENTENCES: dict[Code, str] = {
     Code.NO_STEP_OF_LESSON: "the field step: lesson {lesson} has the steps 1 to {steps}",
     Code.NO_EXERCISE: "this step has no exercise that is judged here",
     Code.NO_ROW_YET: "the {nodes} transmitters aren't one row yet",
+    Code.ROW_OF_NONE: "draw {nodes} transmitters first",
     Code.ROW_OF_ONE: "the row has {nodes} transmitters, and here is {here}",
     Code.ROW_OF_OTHER_LENGTH: "the row has {nodes} transmitters, and here are {here}",
     # the build

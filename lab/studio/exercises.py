@@ -79,7 +79,12 @@ def ends_of(network: Network) -> list[int]:
 
 def row_asked(call: ExerciseCall, nodes: int) -> Network:
     """A row of so many nodes; refused in words."""
-    network = network_asked(call)
+    try:
+        network = network_asked(call)
+    except Fault as why:
+        if why.code is not Code.NO_NODE_YET:
+            raise
+        raise Fault(Code.ROW_OF_NONE, nodes=nodes) from None
     if network.nodes != nodes:
         code = Code.ROW_OF_ONE if network.nodes == 1 else Code.ROW_OF_OTHER_LENGTH
         raise Fault(code, nodes=nodes, here=network.nodes)

@@ -404,14 +404,13 @@ class Recording:
 
     def drawn_exercise(self, call: ExerciseCall, on: OnPage) -> None:
         """An exercise on the network that is drawn: for each that can be drawn or made on the page."""
-        nets = [on.net, *drawn_from(on.net)]
+        nets = [of_edges(0, ()), on.net, *drawn_from(on.net)]
         for asked in made_calls():
             made = CALLS["make"].function(asked, self.session, tell)
             if isinstance(made, Net):
                 nets.append(made)
         for net in nets:
-            if net.nodes:
-                self.ask(replace(call, network=text_of_page(net)))
+            self.ask(replace(call, network=text_of_page(net)))
 
 
 # What is recorded of a place of a tab.

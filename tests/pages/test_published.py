@@ -377,6 +377,22 @@ class Published(Cards):
             asked = {"network": "", "lesson": 1, "step": 1, "said": said}
             self.same(said, self.asked("exercise", **asked), answer("exercise", asked))
 
+    def test_nothing_drawn(self) -> None:
+        """An exercise with an empty drawing is judged as in the studio: the step says what to draw first."""
+        for step, said in ((4, "draw 4 transmitters first"), (6, "draw 4 transmitters first")):
+            asked = {"network": "p edge 0 0\n", "lesson": 1, "step": step}
+            self.same(f"step {step}", self.asked("exercise", **asked), {"wrong": said})
+        self.value("localStorage.removeItem('studio-ticks')")
+        self.open()
+        self.go_to("lesson=1&step=4")
+        self.step_to(1, 4)
+        said = "lesson.querySelector('.judged').textContent"
+        self.sees("what to do", f"{said} === '☐ Not yet: draw 4 transmitters first.'")
+        for nodes in range(1, 7):
+            self.press("a")
+            self.sees("a node", f"studio.net.nodes.length === {nodes}", 20)
+        self.sees("one full stop", f"/forestlab studio starts it[.]$/.test({said})")
+
     def test_addresses(self) -> None:
         """The places of the tables and links are read as the studio reads them."""
         places = sorted(

@@ -358,7 +358,7 @@ class Judged(Case):
             (1, "row", False, "aren't one row", {"network": of([(1, 2), (3, 4)], 4)}),
             (1, "row", False, "aren't one row", {"network": of(triangle, 4)}),
             (1, "row", False, "here are 5", {"network": of([*row, (2, 5)], 5)}),
-            (1, "row", False, "no node", {"network": of([], 0)}),
+            (1, "row", False, "draw 4 transmitters first", {"network": of([], 0)}),
             (1, "two", True, "2 rounds", {"network": of([(1, 3), (2, 3), (2, 4)], 4)}),
             (1, "two", False, "4 rounds", {"network": of([(1, 2), (2, 3), (3, 4)], 4)}),
             (1, "long", True, "0 to 21", {"network": of([(v, v + 1) for v in range(1, 400)], 400)}),

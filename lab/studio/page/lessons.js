@@ -164,12 +164,15 @@ async function judged(lesson, is, what) {
     if (!found || !isOpen(lesson, is)) return;
     if (found.done) {
       finish(lesson, is, found.said);
-    } else if (!isDone(lesson, is)) say(lesson, is, `Not yet: ${found.said}.`);
+    } else if (!isDone(lesson, is)) say(lesson, is, notYet(found.said));
   } catch (fault) {
     if (!(fault instanceof Wrong)) throw fault;
-    if (isOpen(lesson, is) && !isDone(lesson, is)) say(lesson, is, `Not yet: ${messageOf(fault)}.`);
+    if (isOpen(lesson, is) && !isDone(lesson, is)) say(lesson, is, notYet(messageOf(fault)));
   }
 }
+// What is lacking, as a sentence: a published page says in whole ones what it can't judge.
+/** @param {string} words */
+function notYet(words) { return `Not yet: ${words}${words.endsWith(".") ? "" : "."}`; }
 /** @param {number} lesson @param {Exercise} is */
 function isOpen(lesson, is) {
   const step = stepSeen();
