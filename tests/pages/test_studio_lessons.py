@@ -619,6 +619,21 @@ class Cards(Page):
         self.click_on("#lesson .all a:nth-of-type(3)")
         self.step_to(3, 1)
 
+    def test_the_title_of_a_step(self) -> None:
+        """On a phone the title of a step is seen just below the drawing, however far the step before was read."""
+        self.page.size(360, 740, True)
+        self.addCleanup(self.page.size, 1280, 800)
+        title = "lesson.querySelector('h2').getBoundingClientRect()"
+        below = f"{title}.top - left.getBoundingClientRect().bottom"
+        self.go_to("lesson=1")
+        self.step_to(1, 1)
+        for way, step in (("on", 2), ("on", 3), ("on", 4), ("back", 3)):
+            self.value("scrollTo(0, document.documentElement.scrollHeight)")
+            self.sees("out of sight", f"{below} < 0", 20)
+            self.value(f"lesson.querySelector('[data-way={way}]').click()")
+            self.step_to(1, step)
+            self.sees(f"step {step}", f"{below} >= 0 && {below} < 40", 20)
+
     def test_a_step_that_goes_on(self) -> None:
         """A step without a place of its own keeps what was drawn."""
         self.go_to("lesson=1&step=5")

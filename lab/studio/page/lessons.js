@@ -36,8 +36,17 @@ export function showCard() {
   box.replaceChildren(...parts);
   const slot = box.querySelector(".asked");
   if (slot && !isAway) slot.append(by(seen.tab === "adversary" ? "question2" : "question"));
-  if (parts.length) by("side").scrollTop = 0;
+  if (parts.length) showTop();
   look();
+}
+// Shows the title of the card. On a phone the whole page scrolls below a drawing that stays where it is, and the title
+// may be behind the drawing: then it comes just below, once the step is drawn.
+function showTop() {
+  by("side").scrollTop = 0;
+  requestAnimationFrame(() => {
+    const over = by("left").getBoundingClientRect().bottom - by("lesson").getBoundingClientRect().top;
+    if (getComputedStyle(by("left")).position === "sticky" && over > 0) scrollBy(0, -over - 8);
+  });
 }
 // The tabs' own questions: that of a step's exercise is in its card, and brought back to its panel when the step is left.
 /** @param {"question" | "question2"} id */
