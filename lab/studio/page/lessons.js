@@ -119,6 +119,7 @@ function go(lesson, step, isAgain = false) {
 /** @param {Lesson} lesson */
 function footer({number}) {
   const box = html("nav", null, {class: "all", "aria-label": "all lessons"});
+  box.append(html("span", "lessons", {class: "soft"}));
   hello().lessons.forEach(one => {
     const [of, done] = countOf(one), isWhole = done === of;
     const link = html("a", `${one.number}${isWhole ? "✓" : ""}`, {href: `#lesson=${one.number}&step=1`, title: one.title,
