@@ -117,7 +117,7 @@ class Look(Page):
         """A phone has the name of the page, and in a lesson more than half of it for what is read."""
         self.page.size(360, 740, True)
         self.addCleanup(self.page.size, 1280, 800)
-        for place in ("example=petersen&tab=draw", "lesson=3&step=2"):
+        for place in ("example=petersen&tab=draw", "lesson=6&step=1", "lesson=3&step=2"):
             self.go_and_wait(place)
             box = self.value(
                 "(b => [b.width, b.height, b.right])"
@@ -125,6 +125,7 @@ class Look(Page):
             )
             self.note(f"{place}: its name", box[0] > 80 and box[1] > 14 and box[2] <= 360, box)
             self.reads("nothing is wider", "document.documentElement.scrollWidth <= 360", True)
+            self.reads("nor the legend", "legend.scrollWidth <= legend.clientWidth", True)
         high = self.value("left.getBoundingClientRect().height")
         self.note("room to read in", high <= 420, high)
 
