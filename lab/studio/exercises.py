@@ -47,8 +47,11 @@ def exercise_judged(call: ExerciseCall, session: Session, tell: Tell) -> Exercis
 def said_right(exercise: SaidExercise, said: str) -> ExerciseJudged:
     if " ".join(said.lower().split()) == exercise.right:
         return ExerciseJudged(True, exercise.answer)
+    answer = said.strip()[:60]
+    if not answer:
+        return ExerciseJudged(False, "an answer is missing")
     return ExerciseJudged(
-        False, f"it isn't {said.strip()[:60]}" if said.strip() else "an answer is missing"
+        False, f"the answer isn't “{answer}”" if exercise.picks else f"it isn't {answer}"
     )
 
 

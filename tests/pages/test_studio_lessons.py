@@ -313,6 +313,8 @@ class Judged(Case):
                 found = verdict(*name, said=said)
                 self.note(f"{name}: {said} is wrong", not found.done, found)
                 self.note("without the answer", exercise.answer not in found.said, found)
+                is_quoted = f"“{said}”" in found.said
+                self.same("a sentence that is picked is quoted", is_quoted, bool(exercise.picks))
 
     def test_the_second_rule(self) -> None:
         """Of the rules that can be picked it is the only one that gives no wrong inbox alone, but one with `acks`."""
@@ -703,6 +705,22 @@ class Cards(Page):
             self.type_in("#question input", answer)
             self.sees(answer, f"/{answer}/.test(question.lastElementChild.textContent)")
         self.reads("a prediction that is told isn't done", f"Boolean({TICKED})", False)
+
+    def test_marks_of_an_answer(self) -> None:
+        """The answer that is said at last has its words in italics, and no asterisks."""
+        exercise = LESSONS[2].steps[4].exercise
+        assert exercise and "*i*" in exercise.answer
+        self.value("localStorage.removeItem('studio-ticks')")
+        self.open()
+        self.go_to("lesson=3&step=5")
+        self.step_to(3, 5)
+        self.type_in("#lesson form input", "5")
+        self.ticked("it is done")
+        judged = "lesson.querySelector('.judged')"
+        self.reads(
+            "italics", f"Array.from({judged}.querySelectorAll('i'), one => one.textContent)", ["i"]
+        )
+        self.reads("no asterisks", f"{judged}.textContent.includes('*')", False)
 
     def test_whole_texts(self) -> None:
         """Each lesson has its whole text with its pictures."""

@@ -6,7 +6,7 @@ import {isKept} from "./kept.js";
 import {coded, html} from "./marks.js";
 import {text} from "./model.js";
 import {steps} from "./steps_tab.js";
-import {textOf} from "./text.js";
+import {partsOf, textOf} from "./text.js";
 import {countOf, isDone, tick} from "./ticks.js";
 
 // What is shown: so that a card is made anew only if it is another one.
@@ -198,10 +198,11 @@ function finish(lesson, is, words) {
 // What is said of an exercise, behind a box that is ticked if it is done.
 /** @param {number} lesson @param {Exercise} is @param {string} words */
 function say(lesson, is, words) {
-  const isIt = isDone(lesson, is), notKept = isIt && !isKept ? " This browser keeps no ticks, so they go with this page." : "";
+  // The answer to a question is written as the steps are, with words in italics.
+  const isIt = isDone(lesson, is), parted = isIt && is.kind === "said" ? partsOf : coded, notKept = isIt && !isKept ? " This browser keeps no ticks, so they go with this page." : "";
   all("#lesson .judged").forEach(place => {
     place.className = `judged ${isIt ? "good" : ""}`;
-    place.replaceChildren(html("span", isIt ? "☑ " : "☐ ", {class: "box"}), ...coded(capital(words || "Not done yet.") + notKept));
+    place.replaceChildren(html("span", isIt ? "☑ " : "☐ ", {class: "box"}), ...parted(capital(words || "Not done yet.") + notKept));
   });
 }
 // The footer, and the menu of the lessons, with what is done now.

@@ -72,6 +72,9 @@ function blockOf(lines) {
   item.append(...textOf([line.slice(mark.length), ...inside.map(strip)].join("\n")));
   return item;
 }
+// One line as the parts of a paragraph.
+/** @param {string} said */
+export function partsOf(said) { return Array.from(inline("p", said).childNodes); }
 /** @param {string} words */
 export function textOf(words) {
   const lines = words.split("\n"), blocks = [];
