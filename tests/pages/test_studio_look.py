@@ -129,6 +129,19 @@ class Look(Page):
         high = self.value("left.getBoundingClientRect().height")
         self.note("room to read in", high <= 420, high)
 
+    def test_first_screen(self) -> None:
+        """What is under way isn't said over the first screen, which plays behind it."""
+        self.page.go("about:blank")
+        self.page.go(self.address)
+        self.page.until("window.studio && studio.seen.hello && !welcome.hidden", 60)
+        seen = "busy.getClientRects().length"
+        self.value("busy.hidden = false")
+        self.reads("not here", seen, 0)
+        self.go_to("example=petersen&tab=draw")
+        self.value("busy.hidden = false")
+        self.sees("but elsewhere", f"{seen} === 1")
+        self.value("busy.hidden = true")
+
     def test_type(self) -> None:
         """Four sizes of type, and no other one."""
         sizes = set()
