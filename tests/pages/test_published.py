@@ -379,6 +379,8 @@ class Published(Cards):
 
     def test_nothing_drawn(self) -> None:
         """An exercise with an empty drawing is judged as in the studio: the step says what to draw first."""
+        # Where the page itself has nothing judged.
+        self.go_to("lecture=1")
         for step, said in ((4, "draw 4 transmitters first"), (6, "draw 4 transmitters first")):
             asked = {"network": "p edge 0 0\n", "lesson": 1, "step": step}
             self.same(f"step {step}", self.asked("exercise", **asked), {"wrong": said})
