@@ -47,7 +47,8 @@ hooks.show = () => {
   look();
   hooks.link();
 };
-hooks.open = place => { location.hash = place; };
+// What is seen is written into the address first: a change to the place that it still says would be none.
+hooks.open = place => { link(); location.hash = place; };
 // The title of the page, by which the browser's list of places tells them apart.
 function titleSeen() {
   if (!by("welcome").hidden) return "forestplan studio";
