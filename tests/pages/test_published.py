@@ -64,6 +64,14 @@ def answer(name: str, asked: Mapping[str, object]) -> object:
         return {"wrong": str(why)}
 
 
+def plain(name: str, found: Any) -> Any:
+    """An answer to be compared. The picture of what goes wrong has the places and the name of the page's network, which
+    no key has: of it only counts that there is one."""
+    if name != "broken" or "wrong" in found:
+        return found
+    return {"answer": found["answer"] | {"picture": bool(found["answer"]["picture"])}}
+
+
 class Folder(Case):
     """Where the page is written, and what is said if it isn't."""
 
@@ -278,7 +286,8 @@ class Published(Cards):
                     asked["network"] = rest.removesuffix(words)
                 kept = found["values"][number]
                 again = answer(name, asked)
-                is_same = kept == (again if "wrong" in kept else {"answer": again})
+                wanted = again if "wrong" in kept else {"answer": again}
+                is_same = plain(name, kept) == plain(name, wanted)
                 self.note(f"{piece}: {key[:60]}", is_same, [kept, again] if not is_same else "")
                 count += 1
         self.note("there are many", count > 1000, count)
