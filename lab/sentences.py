@@ -361,7 +361,7 @@ SENTENCES: dict[Code, str] = {
     Code.RUN_WITHOUT_END: ("a run under the policy {policy} hasn't ended after {most:,} events"),
     Code.RUN_NOT_ENDED: "the run hasn't ended after {most:,} entries",
     Code.TOO_MANY_UNDER_WAY: (
-        "the run can't end within {most:,} entries: {under_way:,} messages are sent and not yet taken"
+        "the run can't end within {most:,} entries (messages sent and not yet taken: {under_way:,})"
     ),
     # pictures
     Code.NO_PARENT_OF_NODE: "forest {forest} gives no parent to node {vertex}",

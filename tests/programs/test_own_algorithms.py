@@ -1,6 +1,7 @@
 """Tests of programs of one's own, from a Python file, and of those that have a name, in `explore`, `simulate`,
 `transcript` and `picture`. test_sequels.py has what nodes find."""
 import itertools
+import re
 import subprocess
 import textwrap
 import time
@@ -334,7 +335,7 @@ class OwnAlgorithms(Case):
         listed = self.told(text, "--list")
         self.same("its list of events", (listed[0], len(listed[1].splitlines())), (1, 28))
         page = text_in("docs", "learn", "OWN_ALGORITHM.md")
-        rest = page.partition("Of an independent set:\n\n")[2].splitlines(keepends=True)
+        rest = re.split(r"Of an\s+independent\s+set:\n\n", page)[1].splitlines(keepends=True)
         block = "".join(itertools.takewhile(lambda line: line.startswith("    "), rest))
         text = text_in(SET) + "\n" + textwrap.dedent(block) + "\n"
         for change, first in (

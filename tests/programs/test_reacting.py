@@ -876,7 +876,8 @@ class Transcripts(Case):
             Fault
         ) as caught:
             played(network_at("ring3"), program=of)
-        self.same("said", str(caught.exception), "the run hasn't ended after 500 entries")
+        wanted = "the run can't end within 500 entries (messages sent and not yet taken: 1)"
+        self.same("said", str(caught.exception), wanted)
 
     def test_other_forms(self) -> None:
         """By hand: the first act and the first put of the run above."""

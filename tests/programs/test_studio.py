@@ -341,7 +341,7 @@ class Answers(Server):
 
     def test_answers(self):
         lessons = self.found("hello")["lessons"]
-        self.note("all lessons", [one["number"] for one in lessons] == [*range(1, 8)], lessons)
+        self.note("all lessons", [one["number"] for one in lessons] == [*range(1, 9)], lessons)
         plan = self.found("plan", network=TRIANGLE)
         self.note("plan", plan["plan"] == [2, 3, 1], plan)
         self.note("rounds", self.found("rounds", network=TRIANGLE)["last"] == 30)
