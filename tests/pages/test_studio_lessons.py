@@ -508,7 +508,8 @@ class Cards(Page):
         self.type_in("#make [name=nodes]", nodes)
 
     def fill(self, label: str, value: str) -> None:
-        """Fills a field of the chosen node."""
+        """Fills a field of the chosen node, once the plan is there: with it the fields are made again."""
+        self.page.until("busy.hidden && !studio.isFollowing() && studio.drawn.plan", 20)
         self.value(
             "Array.from(document.querySelectorAll('#chosen label')).find(one => "
             f"one.textContent.startsWith('{label}')).querySelector('input').id = 'field'"

@@ -55,6 +55,8 @@ class OwnFiles(Page):
         os.replace(self.path(name) + "~", self.path(name))
 
     def open(self, place: str) -> None:
+        # From elsewhere, since steps of the test before may not stand in the address yet.
+        self.go_to("example=two&tab=draw")
         self.go_to(place)
         self.sees("a run", "studio.steps.found && studio.steps.found.nodes")
         self.sees("a text", "!code.hidden && document.getElementById('numbers').textContent")
