@@ -72,8 +72,8 @@ CHANNELS = LessonSteps(
             "has one channel at both ends. There is none, so this plan is *proper*.",
             SaidExercise(
                 name="enough",
-                asks="Each transmitter has three neighbours. How many channels are enough, however the numbers are "
-                "given out?",
+                asks="Each transmitter has three neighbours. How many channels are always enough if the transmitters "
+                "choose one after another, in any order, each the lowest channel that is free?",
                 right="4",
                 hint="Think of the transmitter that chooses last. How many channels does it have to avoid?",
                 answer="Four. The last transmitter that chooses avoids at most three channels, those of its three "
