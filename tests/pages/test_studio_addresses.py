@@ -12,20 +12,22 @@ from tests.pages.test_studio_page import Page
 from tests.programs.test_addresses import TWO, random_state, rounded, stored
 
 STATES, SEED = 24, 331
-# What the page shows, and what is in its fields.
+# What the page shows, and what is in its fields. A node's label and its side aren't in an address: they follow from it.
 STATE = """(() => { const {net, seen, run, rounds, check, steps} = studio, by = id => document.getElementById(id);
   const {tab, program, passes, root, slow, lazy, node, lesson, lecture} = seen, isRun = tab === "run";
   const kind = document.querySelector("[data-kind][aria-pressed=true]");
   return {tab, program, passes, root, slow, lazy, node, lesson, lecture, step: lesson && seen.step,
-    nodes: net.nodes, edges: net.edges,
+    nodes: net.nodes.map(({label, side, ...node}) => node), edges: net.edges,
     broken: rounds.without, without: steps.without,
     predict: tab === "adversary" ? steps.predicts : rounds.predicts,
     dare: steps.dare, steps: isRun ? run.steps : steps.made, other: run.other, how: by("made").value,
     policy: by("policy").value, seed: by("seed").value, beside: by("beside").checked,
     plan: check.plan.slice(0, check.plan.findLastIndex(Boolean) + 1),
     kind: tab === "pictures" ? kind.dataset.kind : null}; })()"""
-# Makes the page show a state, and gives the address that it writes.
+# Makes the page show a state, and gives the address that it writes; "" if Chromium ignores a change of it, as in go_to.
 WRITE = """(s => { const {net, seen, time, run, rounds, check, steps} = studio, by = id => document.getElementById(id);
+  history.replaceState("before", "", location.href);
+  if (history.state !== "before") return "";
   time.stop();
   if (s.tab === "pictures") document.querySelector(`[data-kind=${s.kind}]`).click();
   Object.assign(net, {name: "", nodes: s.nodes || net.nodes, edges: s.edges || net.edges, example: s.example || ""});
@@ -41,7 +43,7 @@ WRITE = """(s => { const {net, seen, time, run, rounds, check, steps} = studio, 
   by("seed").value = s.seed;
   by("beside").checked = s.beside;
   by("copy").onclick();
-  return location.hash; })"""
+  return history.state === null ? location.hash : ""; })"""
 # What a tab says, besides what all say; the rest of a state isn't in its address.
 ALL = ("tab", "program", "lesson", "step", "lecture", "nodes", "edges")
 SAID = {
@@ -97,7 +99,8 @@ class StudioAddresses(Page):
 
     def written(self, state):
         """The address that the page writes of a state."""
-        return self.value(f"{WRITE}({json.dumps(state)})")
+        self.page.until(f"window.place = {WRITE}({json.dumps(state)})", 60)
+        return self.value("place")
 
     def follow(self, place, state):
         """The row of an address that is followed: the page comes to show the state."""
