@@ -133,7 +133,8 @@ def spoiled(source, data, pieces, others):
 
 def refusal_of(net, data, program):
     """The code by which the checker refuses a transcript, and the line; None if it doesn't. Lines that are no entries
-    come first: the programs read all of a text before they play it. Edition 4 is read by `forestlab` only."""
+    come first: the programs read all of a text before they play it. Edition 4 is read by `forestlab` only.
+    """
     if data.startswith(b"transcript 4 "):
         return "X1", 1
     try:
