@@ -29,7 +29,7 @@ LOOSE = {
     "lab/studio/page/recorded_address.js": (1, "the values of an address, each of its own type"),
     "lab/studio/serving.py": (2, "a request and an address, as socketserver has them"),
     "tests/pages/test_published.py": (
-        2,
+        4,
         "recorded answers of all kinds; an example is always read, so it has a network",
     ),
     "tests/pages/test_reads.py": (1, "one method stands for three of a visitor"),
