@@ -424,6 +424,7 @@ class Published(Cards):
             self.same(place, got, wanted)
 
     def test_a_network_that_is_not_recorded(self) -> None:
+        self.page.until("window.studio && studio.seen.hello && !studio.isFollowing()", 60)
         text = "p edge 7 3\ne 1 2\ne 3 4\ne 5 6\n"
         for name in ("plan", "rounds", "steps", "check"):
             said = self.asked(name, network=text, plan=[])
