@@ -19,7 +19,7 @@ COPIED = (
     "LICENSE-APACHE",
     "bin/forestlab",
     "docs/learn/TUTORIAL.md",
-    *(f"docs/learn/LESSON_{number}.md" for number in range(1, 8)),
+    *(f"docs/learn/LESSON_{number}.md" for number in range(1, 9)),
     "docs/learn/BY_HAND.md",
     "docs/learn/ANSWERS.md",
     "docs/learn/GALLERY.md",
@@ -67,7 +67,7 @@ README = """\
 
 Transmitters find channels by talking with their neighbours alone. Here you learn how, and write one yourself.
 
-- [TUTORIAL](docs/learn/TUTORIAL.md): the algorithm in seven lessons, with commands to try; begin there.
+- [TUTORIAL](docs/learn/TUTORIAL.md): the algorithm in eight lessons, with commands to try; begin there.
 - [WORKSHOP](docs/learn/WORKSHOP.md): write the program of one node, in any language; [PROTOCOL](docs/learn/PROTOCOL.md)
   is how it talks, and `examples/workshop/skeletons` has programs to begin with.
 - [OWN_NETWORK](docs/learn/OWN_NETWORK.md): channels for a network of your own.

@@ -725,7 +725,7 @@ class Cards(Page):
 
     def test_whole_texts(self) -> None:
         """Each lesson has its whole text with its pictures."""
-        for number in range(1, 8):
+        for number in range(1, 9):
             self.go_to(f"lesson={number}")
             self.step_to(number, 1)
             part = "lesson.querySelector(':scope > details')"
