@@ -16,6 +16,7 @@ from lab.definitions.reacting import AnyProgram, Reacting, reacting_program, rea
 from lab.definitions.recolouring import recolouring
 from lab.fault_codes import Code
 from lab.faults import Fault
+from lab.limits import MAX_PASSES
 from lab.network import Network
 from lab.words import as_utf8, count
 
@@ -29,8 +30,6 @@ OPTIONS: dict[str, tuple[str, Callable[[int], Program]]] = {
     "root": ("layers", layers),
     "passes": ("recolouring", recolouring),
 }
-# How often recolouring may choose anew.
-MAX_PASSES = 64
 # What takes a file whose nodes react to messages, too.
 HELP = f"what the nodes run: {', '.join(PROGRAMS)}, or a file of your own, as NAME.py; default: colouring"
 

@@ -6,8 +6,8 @@ from argparse import ArgumentParser, Namespace
 
 from lab.fault_codes import Code
 from lab.faults import Fault, InText
+from lab.limits import MAX_CHANNEL
 from lab.networks.fields import shown
-from lab.networks.network_text import MAX_CHANNEL
 from lab.networks.options import add_stated, commands_for, stated_by
 from lab.networks.plan_text import PlanRow, rows_of
 from lab.networks.forms import Unsaid, decoded

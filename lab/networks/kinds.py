@@ -9,8 +9,9 @@ from typing import NamedTuple
 
 from lab.fault_codes import Code
 from lab.faults import Fault
+from lab.limits import MAX_EDGES, MAX_NODES
 from lab.network import Edge, Network, Places
-from lab.networks.network_text import MAX_EDGES, MAX_NODES, checked
+from lab.networks.network_text import checked
 from lab.networks.places import near
 from lab.networks.random_networks import alike_edges, below
 

@@ -6,8 +6,8 @@ from types import ModuleType
 
 from lab.fault_codes import Code
 from lab.faults import Fault, InText
+from lab.limits import MAX_EDGES, MAX_NODES
 from lab.networks.fields import shown
-from lab.networks.network_text import MAX_EDGES, MAX_NODES
 from lab.networks.networkx_graph import Graph
 
 FIRST, LAST = b"?~"

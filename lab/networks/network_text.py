@@ -7,17 +7,13 @@ import re
 
 from lab.fault_codes import Code
 from lab.faults import Fault, InText
+from lab.limits import MAX_BARS, MAX_CHANNEL, MAX_DEGREE, MAX_EDGES, MAX_NODES
 from lab.network import Edge, Network
 from lab.networks.fields import fields_of, shown, whole
 
 FORMATS = ("edge", "edges", "col")
 SKIPPED = {"n", "d", "v", "x"}
-MAX_NODES = 20000
-MAX_EDGES = 400000
-MAX_DEGREE = 1023
 IDENTIFIERS = 2**128
-MAX_CHANNEL = 2048
-MAX_BARS = 1024
 
 
 def stem(path: str) -> str:

@@ -3,9 +3,10 @@ import re
 
 from lab.fault_codes import Code
 from lab.faults import Fault, InText
+from lab.limits import MAX_BARS, MAX_CHANNEL, MAX_EDGES, MAX_NODES
 from lab.networks.fields import shown, whole
 from lab.networks.listing import Listed, Where, check_known, name_of
-from lab.networks.network_text import IDENTIFIERS, MAX_BARS, MAX_CHANNEL, MAX_EDGES, MAX_NODES
+from lab.networks.network_text import IDENTIFIERS
 from lab.networks.places import Place, across_of, near, on_ground, on_map
 from lab.networks.forms import Stated
 from lab.networks.table import Table

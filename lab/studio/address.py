@@ -9,9 +9,10 @@ from dataclasses import dataclass, field, replace
 from typing import get_args
 
 from lab.definitions.nodes import COLOURING
-from lab.definitions.programs import MAX_PASSES, OPTIONS, PROGRAMS
+from lab.definitions.programs import OPTIONS, PROGRAMS
 from lab.fault_codes import Code
 from lab.faults import Fault
+from lab.limits import MAX_PASSES
 from lab.networks.fields import shown
 from lab.schedules.policies import POLICIES
 from lab.schedules.rules import OF_LINKS, OF_PROGRAMS, OF_SCHEDULES

@@ -5,10 +5,11 @@ from typing import Protocol
 
 from lab.definitions.nodes import COLOURING
 from lab.definitions.program import Program
-from lab.definitions.programs import MAX_PASSES, PROGRAMS, any_program_at
+from lab.definitions.programs import PROGRAMS, any_program_at
 from lab.definitions.reacting import AnyProgram, Reacting, words_taken
 from lab.fault_codes import Code
 from lab.faults import Fault, InText
+from lab.limits import MAX_PASSES
 from lab.network import Network
 from lab.networks.network_text import read_network
 from lab.studio.messages import OfNetwork, OfProgram, WithoutRules

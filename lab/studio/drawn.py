@@ -9,8 +9,8 @@ from urllib.parse import unquote_to_bytes
 
 from lab.fault_codes import Code
 from lab.faults import Fault
+from lab.limits import MAX_CHANNEL
 from lab.networks.fields import shown
-from lab.networks.network_text import MAX_CHANNEL
 from lab.pictures.page_data import Net, PlainNode
 from lab.pictures.pages import net_at
 

@@ -6,9 +6,10 @@ from dataclasses import dataclass, replace
 from math import isqrt, prod
 from typing import NoReturn
 
-from lab.definitions.programs import MAX_PASSES, PROGRAMS
+from lab.definitions.programs import PROGRAMS
 from lab.fault_codes import Code
 from lab.faults import Fault, InText
+from lab.limits import MAX_PASSES
 from lab.network import Network
 from lab.networks.kinds import KINDS
 from lab.networks.network_text import read_network, stem

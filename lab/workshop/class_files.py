@@ -35,6 +35,7 @@ COPIED = (
     "lab/definitions/__init__.py",
     "lab/definitions/events.py",
     "lab/help",
+    "lab/limits.py",
     "lab/network.py",
     "lab/programs.py",
     "lab/unbuilt.py",

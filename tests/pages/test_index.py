@@ -72,14 +72,12 @@ SAID_OF_LIMITS = {
     ),
     "docs/learn/LESSON_6.md": ("every network of up to {MAX_NODES:,} nodes",),
     "docs/work/LOOKUP.md": ("{MAX_DEGREE:,} + {MAX_BARS:,}, below `COLOURS`, {MAX_CHANNEL:,}",),
-    "lab/networks/network_text.py": assigned(*OF_NETWORKS, "MAX_DEGREE"),
-    "lab/definitions/programs.py": assigned("MAX_PASSES"),
+    "lab/limits.py": assigned(*OF_NETWORKS, "MAX_DEGREE", "MAX_WORKERS", "MAX_PASSES"),
     "lab/networks/codes.py": ("it names one more than {MAX_EDGES:,} different edges",),
     "lab/python/forestplan/__init__.py": (
         "`workers`, 1 to {MAX_WORKERS},",
         "more than {MAX_DEGREE:,} neighbours",
     ),
-    "lab/python/forestplan/_graphs.py": assigned(*OF_NETWORKS, "MAX_WORKERS", "MAX_PASSES"),
     "lab/studio/page/draw.js": (" > {MAX_CHANNEL})", "numbers from 1 to {MAX_CHANNEL:,},"),
     "lab/studio/page/page.html": (
         'id="workers" type="number" min="1" max="{MAX_WORKERS}"',

@@ -6,8 +6,9 @@ import random
 import re
 
 from lab.faults import Fault
+from lab.limits import MAX_NODES
 from lab.networks import tables
-from lab.networks.network_text import MAX_NODES, network_of
+from lab.networks.network_text import network_of
 from lab.networks.forms import Stated
 from tests.cases import Case, called, example, said_by
 from tests.programs.test_own_networks import call, edges_of

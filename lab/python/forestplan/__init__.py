@@ -19,18 +19,7 @@ import tempfile
 from collections.abc import Callable, Iterable, Mapping
 from typing import Any, NamedTuple
 
-from forestplan._graphs import (
-    MAX_PASSES,
-    MAX_WORKERS,
-    Bars,
-    Channels,
-    Graph,
-    Licence,
-    Node,
-    Sites,
-    text_of,
-    whole,
-)
+from forestplan._graphs import Bars, Channels, Graph, Licence, Node, Sites, limits, text_of, whole
 from forestplan._programs import called, home, lab_called, of_lab, program_at
 from forestplan._sites import sites
 
@@ -282,7 +271,7 @@ def colour_map(channels: int = 8) -> Any:
 
 def _workers(workers: int) -> list[str]:
     """The words that ask for so many worker threads, or for fewer where there are fewer processors."""
-    asked = whole(workers, "workers", 1, MAX_WORKERS)
+    asked = whole(workers, "workers", 1, limits.MAX_WORKERS)
     return ["--workers", str(of_lab("processors").workers(asked))]
 
 
@@ -290,7 +279,7 @@ def _command_of(workers: int | None, passes: int) -> list[str]:
     """The program and its arguments that find a plan."""
     more = [] if workers is None else _workers(workers)
     command = ["forestplan", "plan" if more else "plain"]
-    if many := whole(passes, "passes", 0, MAX_PASSES):
+    if many := whole(passes, "passes", 0, limits.MAX_PASSES):
         command = ["forestplay", "run" if more else "ends"]
         more += ["--program", "recolouring", "--passes", str(many)]
     return [*command, *more]

@@ -15,12 +15,7 @@ Numbers = Mapping[Node, int]
 Pair = tuple[Node, Node]
 
 # The programs' limits.
-MAX_NODES = 20000
-MAX_EDGES = 400000
-MAX_CHANNEL = 2048
-MAX_BARS = 1024
-MAX_WORKERS = 64
-MAX_PASSES = 64
+limits = of_lab("limits")
 # No channel of a licence has a greater number.
 MAX_REAL = 10**12
 
@@ -54,7 +49,7 @@ class Licence:
                 f"the licence is {channels!r}, and has to be a list of whole numbers, in order of preference"
             )
         self.channels = [whole(one, "a channel of the licence", 0, MAX_REAL) for one in channels]
-        bounded(len(channels), "the number of channels of the licence", 0, MAX_CHANNEL)
+        bounded(len(channels), "the number of channels of the licence", 0, limits.MAX_CHANNEL)
         self.counted = {channel: k for k, channel in enumerate(self.channels, 1)}
         if len(self.counted) < len(channels):
             raise ValueError("the licence names a channel twice")
@@ -62,7 +57,7 @@ class Licence:
     def number(self, channel: object, what: str) -> int | None:
         """Which channel of a program it is; None if the licence lacks it."""
         if self.channels is None:
-            return whole(channel, what, 1, MAX_CHANNEL)
+            return whole(channel, what, 1, limits.MAX_CHANNEL)
         return self.counted.get(whole(channel, what, 0, MAX_REAL))
 
 
@@ -85,8 +80,8 @@ def text_of(G: Graph, bars: Bars = None, licence: Channels = None) -> tuple[str,
     barred = barred_in(bars, number, Licence(licence))
     ends = [sorted((number[one], number[other])) for one, other in pairs]
     edges = sorted({(v, w) for v, w in ends if v != w})
-    bounded(len(order), "the number of nodes", 0, MAX_NODES)
-    bounded(len(edges), "the number of edges", 0, MAX_EDGES)
+    bounded(len(order), "the number of nodes", 0, limits.MAX_NODES)
+    bounded(len(edges), "the number of edges", 0, limits.MAX_EDGES)
     lines = [f"c name {v} {' '.join(str(node).split())}" for node, v in number.items()]
     lines.append(f"p edge {len(order)} {len(edges)}")
     lines += lines_of_nodes(G, given, number)
@@ -131,7 +126,7 @@ def barred_in(bars: Bars, number: Numbers, licence: Licence) -> list[tuple[int, 
         }
         # A bar of a channel that the licence lacks bars nothing.
         own = [channel for channel in numbers if channel is not None]
-        bounded(len(own), f"the number of bars of {node!r}", 0, MAX_BARS)
+        bounded(len(own), f"the number of bars of {node!r}", 0, limits.MAX_BARS)
         found += [(number[node], channel) for channel in own]
     return sorted(found)
 

@@ -2,7 +2,7 @@
 from collections.abc import Iterable, Mapping
 from typing import Any
 
-from forestplan._graphs import MAX_EDGES, Sites, bounded
+from forestplan._graphs import Sites, bounded, limits
 from forestplan._programs import of_lab
 
 FAR = (-1e9, 1e9)
@@ -40,7 +40,7 @@ def sites(places: Mapping[Any, Any], reach: float, unit: str = "degrees") -> Sit
         points = [(x, y, 0.0) for x, y in known.values()]
         found.places = {site: (x, -y) for site, (x, y) in known.items()}
     for count, (at, other) in enumerate(near.near(points, reach, is_globe), 1):
-        bounded(count, "the number of edges", 0, MAX_EDGES)
+        bounded(count, "the number of edges", 0, limits.MAX_EDGES)
         found[names[at]].append(names[other])
         found[names[other]].append(names[at])
     return found
