@@ -1,5 +1,5 @@
 # Sourced by the scripts that run Python or a program.
-lab=${BASH_SOURCE[0]%/*}
+package=${BASH_SOURCE[0]%/*}
 
 # Ends this shell, if a limit of /proc/self/limits is lower: within_limits STATUS WORDS NAME=LEAST .. What would begin
 # then ends by a signal, or says more than a line.
@@ -14,7 +14,7 @@ within_limits() {
   done
 }
 
-# Python in place of this shell: begin FOLDER NAME [arguments]. In place of a closed stream, or a folder as standard
+# Python in place of this shell: begin FOLDER [arguments]. In place of a closed stream, or a folder as standard
 # input, it gets one that refuses what it is for. (The shell has its script in the place of a closed standard error.)
 # In an installed folder it leaves nothing that it compiles.
 begin() {
@@ -23,20 +23,20 @@ begin() {
   [[ -e /dev/stderr && ! /dev/stderr -ef $0 ]] || exec 2>/dev/null
   within_limits 1 "out of memory" "stack size=262144" "address space=33554432" "data size=16777216"
   local held=() options=(-S -X utf8)
-  [[ ! -e $lab/../VERSION ]] || options+=(-B)
+  [[ ! -e $package/../VERSION ]] || options+=(-B)
   # Ctrl-C waits until door.py takes it: while Python itself begins, it would print a traceback. Of few processes none is
   # asked whether `env` can have it wait.
   trap 'exit 130' INT
   [[ $limits =~ processes\ +[0-9]{1,3}\  ]] || ! env --block-signal=INT true 2>/dev/null || held=(env --block-signal=INT)
-  exec "${held[@]}" python3 "${options[@]}" "$lab/../$1" "${@:2}"
+  exec "${held[@]}" python3 "${options[@]}" "$@"
 }
 
 # Prints what needs no program, the version or a text of lab/help/, and ends this shell: say_known NAME [arguments].
 say_known() {
-  [ "${*:2}" != --version ] || begin lab --version
-  [[ $# -le 3 && ${!#} =~ ^(-h|--help)$ && -r $lab/help/$1${3:+-$2}.txt ]] || return 0
+  [ "${*:2}" != --version ] || begin "$package" --version
+  [[ $# -le 3 && ${!#} =~ ^(-h|--help)$ && -r $package/help/$1${3:+-$2}.txt ]] || return 0
   local text
-  IFS= read -r -d '' text <"$lab/help/$1${3:+-$2}.txt" || :
+  IFS= read -r -d '' text <"$package/help/$1${3:+-$2}.txt" || :
   trap '' PIPE XFSZ
   [[ $text ]] && printf %s "$text" 2>/dev/null && exit 0
   echo "$1: stream" >&2 || :
@@ -48,6 +48,6 @@ say_known() {
 run_program() {
   within_limits 4 memory "stack size=262144"
   trap '' XFSZ
-  if [[ -t 2 && ${3-} =~ ^(plan|transcript)$ ]]; then (begin lab progress $$ "$2" "$3") </dev/null >/dev/null & fi
+  if [[ -t 2 && ${3-} =~ ^(plan|transcript)$ ]]; then (begin "$package" progress $$ "$2" "$3") </dev/null >/dev/null & fi
   GLIBC_TUNABLES=${GLIBC_TUNABLES-glibc.malloc.hugetlb=1} exec "$1" "${@:3}"
 }

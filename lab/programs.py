@@ -8,9 +8,9 @@ from collections.abc import Iterable
 
 from lab.fault_codes import Code
 from lab.faults import Fault
+from lab.folders import built
 from lab.unbuilt import how_to_build
 
-TOP = os.path.dirname(os.path.dirname(os.path.realpath(__file__)))
 # What the C library is asked for, unless the caller says something else: large pages for what is allocated.
 TUNABLES = "glibc.malloc.hugetlb=1"
 
@@ -34,17 +34,6 @@ class Refused(Exception):
         super().__init__(status, words)
         self.status = status
         self.words = words
-
-
-def built(name: str) -> str | None:
-    """The program's file, or None if it isn't built. An installed folder has it in lib/."""
-    is_tree = os.path.isdir(os.path.join(TOP, "crates", name))
-    path = (
-        os.path.join(TOP, "crates", name, "out", name)
-        if is_tree
-        else os.path.join(TOP, "lib", name)
-    )
-    return path if os.path.isfile(path) and os.access(path, os.X_OK) else None
 
 
 def program_file(name: str) -> str:

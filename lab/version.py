@@ -5,7 +5,8 @@ import os
 import subprocess
 import sys
 
-TOP = os.path.dirname(os.path.dirname(os.path.realpath(__file__)))
+from lab.folders import TOP
+
 NUMBER = "0.6.0"
 
 

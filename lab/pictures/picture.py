@@ -11,7 +11,7 @@ from dataclasses import dataclass
 from inspect import signature
 from typing import Any, NamedTuple
 
-from lab import programs
+from lab import folders, programs
 from lab.definitions.colours import plan_text as plan_by_definition
 from lab.definitions.nodes import COLOURING
 from lab.definitions.program import Program
@@ -459,7 +459,7 @@ def note(what: str) -> None:
 
 def plan_text(network: Network, network_text: bytes) -> str:
     """The plan of the proved program; where that isn't built, of the definitions, which is said."""
-    if programs.built("forestplan"):
+    if folders.built("forestplan"):
         return programs.text_of("forestplan", ["plain"], network_text)
     note(
         "forestplan isn't built, so the plan is that of the definitions in Python, which no proof covers"

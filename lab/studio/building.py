@@ -10,7 +10,7 @@ import time
 
 from lab.fault_codes import Code
 from lab.faults import Fault
-from lab.programs import TOP, built
+from lab.folders import TOP, built
 from lab.studio.answers import Build
 from lab.studio.messages import BuildCall, BuiltCall
 from lab.studio.session import Session

@@ -9,7 +9,7 @@ import re
 from collections.abc import Sequence
 from dataclasses import dataclass
 
-from lab.programs import TOP
+from lab.folders import TOP
 from lab.schedules.rules import OF_SCHEDULES
 from lab.studio.answers import TABS, Exercise, LecturePlace, Lesson, LessonStep, TabName
 

@@ -9,6 +9,7 @@ from typing import NoReturn
 from lab.definitions.programs import PROGRAMS
 from lab.fault_codes import Code
 from lab.faults import Fault, InText
+from lab.folders import TOP
 from lab.limits import MAX_PASSES
 from lab.network import Network
 from lab.networks.kinds import KINDS
@@ -20,7 +21,6 @@ from lab.networks.texts import text_of
 from lab.pictures.page_data import Net
 from lab.pictures.pages import net_at, net_of, plain_nodes
 from lab.pictures.places import places_of
-from lab.programs import TOP
 from lab.schedules.policies import POLICIES
 from lab.schedules.rules import OF_LINKS, OF_PROGRAMS, OF_SCHEDULES, Rule
 from lab.studio.address import Address, Here, NAMES, pairs_of, place_opened, read_values

@@ -11,9 +11,9 @@ from dataclasses import MISSING, fields, replace
 from lab import version
 from lab.fault_codes import Code
 from lab.faults import Fault, InText
+from lab.folders import TOP
 from lab.pictures import pages
 from lab.pictures.page_data import as_object
-from lab.programs import TOP
 from lab.studio.answers import Hello, Published
 from lab.studio.bundle import OWN, as_one_script
 from lab.studio.calls import CALLS

@@ -16,11 +16,11 @@ from lab.definitions.nodes import COLOURING
 from lab.definitions.programs import PROGRAMS
 from lab.definitions.rounds import Rounds
 from lab.faults import Fault
+from lab.folders import TOP
 from lab.network import Network
 from lab.networks.verdicts import Verdict
 from lab.pictures.page_data import Look, Net, NetNode, as_object
 from lab.pictures.program_rounds import ProgramRounds
-from lab.programs import TOP
 from lab.schedules.rules import OF_PROGRAMS, OF_SCHEDULES
 from lab.studio import dares
 from lab.studio.address import pairs_of, program_named

@@ -25,9 +25,9 @@ from collections.abc import Callable, Iterator
 from typing import Any
 
 from lab.faults import Fault
+from lab.folders import PACKAGE, TOP
 from lab.pictures import pages
 from lab.pictures.page_data import as_object
-from lab.programs import TOP
 from lab.studio import limits
 from lab.studio.building import Building
 from lab.studio.calls import CALLS
@@ -36,7 +36,7 @@ from lab.studio.fields import object_of
 from lab.studio.session import Session
 
 HOST = "127.0.0.1"
-FOLDERS = os.path.join(TOP, "lab/studio/page"), pages.FOLDER
+FOLDERS = os.path.join(PACKAGE, "studio", "page"), pages.FOLDER
 FILES = {name: os.path.join(folder, name) for folder in FOLDERS for name in os.listdir(folder)}
 # The pictures of the lessons.
 PICTURES = os.path.join(TOP, "docs", "pictures")

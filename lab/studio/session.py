@@ -4,8 +4,8 @@ import os
 from dataclasses import dataclass, field
 from typing import Literal
 
+from lab.folders import TOP
 from lab.pictures.page_data import Net
-from lab.programs import TOP
 
 # What the nodes of a file do: they make rounds, or they react to each message.
 Form = Literal["rounds", "reactions"]

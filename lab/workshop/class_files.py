@@ -9,7 +9,8 @@ from collections.abc import Callable, Collection, Iterator
 
 from lab import version
 from lab.door import held
-from lab.programs import SCRIPT, TOP, program_file
+from lab.folders import PACKAGE, TOP
+from lab.programs import SCRIPT, program_file
 from lab.unbuilt import FIRST
 from lab.words import parser_of
 
@@ -34,9 +35,11 @@ COPIED = (
     "lab/door.sh",
     "lab/definitions/__init__.py",
     "lab/definitions/events.py",
+    "lab/folders.py",
     "lab/help",
     "lab/limits.py",
     "lab/network.py",
+    "lab/processors.py",
     "lab/programs.py",
     "lab/unbuilt.py",
     "lab/progress.py",
@@ -80,14 +83,21 @@ folder has it.
 """
 
 
+def place_here(path: str) -> str:
+    """The file or folder here that a class gets at a path. pip has this package elsewhere than a tree has it."""
+    inner = path.removeprefix("lab/")
+    return os.path.join(TOP, path) if inner == path else os.path.join(PACKAGE, inner)
+
+
 def class_files() -> Iterator[str]:
     """The paths of all files that are copied; the programs themselves come besides."""
     for path in COPIED:
-        if os.path.isfile(os.path.join(TOP, path)):
+        source = place_here(path)
+        if os.path.isfile(source):
             yield path
-        for folder, _, names in sorted(os.walk(os.path.join(TOP, path))):
+        for folder, _, names in sorted(os.walk(source)):
             for name in sorted(names):
-                found = os.path.relpath(os.path.join(folder, name), TOP)
+                found = path + os.path.join(folder, name).removeprefix(source)
                 if not found.startswith(LEFT_OUT) and not found.endswith(".pyc"):
                     yield found
 
@@ -179,7 +189,7 @@ def copy_class(room: str) -> None:
     """Makes the folder from this one; what an installed folder has in share/ is copied. Its pages lose their links to
     pages that a class doesn't get."""
     found = {os.path.join("lib", name): program_file(name) for name in FIRST}
-    found |= {path: os.path.join(TOP, path) for path in class_files()}
+    found |= {path: place_here(path) for path in class_files()}
     for at, _, names in os.walk(os.path.join(TOP, "share")):
         found |= {
             os.path.relpath(os.path.join(at, name), TOP): os.path.join(at, name) for name in names

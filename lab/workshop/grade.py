@@ -10,7 +10,7 @@ import tempfile
 
 from lab.fault_codes import Code
 from lab.faults import Fault
-from lab.programs import TOP
+from lab.folders import PACKAGE, TOP
 from lab.schedules.policies import POLICIES
 from lab.words import as_text, count, parser_of
 from lab.workshop.leftovers import shut
@@ -195,7 +195,7 @@ def main(words: list[str]) -> int:
     given.before = words[at + 1 :]
     given.folder = os.path.realpath(given.folder)
     given.seed = given.seed or secrets.token_hex(4)
-    given.show = [shown(line, path, [given.folder, TOP]) for path in given.show]
+    given.show = [shown(line, path, [given.folder, TOP, PACKAGE]) for path in given.show]
     submissions = submissions_of(given.folder)
     given.users = {student: USERS[at % len(USERS)] for at, student in enumerate(submissions)}
     status, _, why = ask("forestplan", "plain", "p edge 0 0\n")

@@ -15,7 +15,7 @@ from multiprocessing.connection import Connection, wait
 
 from lab.door import held
 from lab.faults import Fault
-from lab.programs import TOP
+from lab.folders import PACKAGE, TOP
 from lab.workshop.cases import cases_of
 from lab.workshop.compiling import compiled
 from lab.workshop.guard import Guard, Unguarded
@@ -36,7 +36,7 @@ FORK = multiprocessing.get_context("fork")
 def sandbox_of(folder: str, given: argparse.Namespace, room: str, user: int) -> Sandbox:
     """The container of what is in a folder of the room."""
     home = os.path.realpath(os.path.expanduser("~"))
-    closed = (given.folder, TOP, room)
+    closed = (given.folder, TOP, PACKAGE, room)
     needed = on_the_path(os.environ.get("PATH", ""), closed, (home, os.path.join(home, ".local")))
     return Sandbox(folder, [*closed, home], [*needed, *given.show], user)
 

@@ -9,8 +9,8 @@ import tempfile
 from argparse import Namespace
 
 from lab.faults import Fault
+from lab.folders import PACKAGE, TOP
 from lab.networks.texts import plain_text
-from lab.programs import TOP
 from lab.workshop import class_files, grade
 from lab.workshop.cases import Case, cases_of
 from lab.workshop.leftovers import shut
@@ -76,7 +76,7 @@ def keep(case: Case, folder: str, program: str) -> None:
         f"  {command.format(**given)}"
         for command in REPEAT[case.played_run.kept]
         if "transcript check" not in command
-        or os.path.exists(os.path.join(TOP, "lab/transcripts/check.py"))
+        or os.path.exists(os.path.join(PACKAGE, "transcripts", "check.py"))
     ]
     words = described(case) if case.finding else [f"case   {case.number}: right"]
     words += ["", "The same without the workshop:", *commands, ""]
