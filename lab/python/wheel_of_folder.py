@@ -44,7 +44,7 @@ Description-Content-Type: text/plain
 """,
         "WHEEL": f"Wheel-Version: 1.0\nGenerator: forestplan\nRoot-Is-Purelib: false\nTag: {tag}\n",
         "entry_points.txt": "[console_scripts]\n"
-        + "".join(f"{one} = forestplan._programs:command\n" for one in COMMANDS),
+        + "".join(f"{one} = forestplan.interface.programs:command\n" for one in COMMANDS),
     }
     path = os.path.join(folder, name)
     with zipfile.ZipFile(path, "w", zipfile.ZIP_DEFLATED, strict_timestamps=False) as wheel:

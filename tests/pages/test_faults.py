@@ -26,7 +26,10 @@ SAYING = {"called", "said_by", "ask", "asked", "replayed"}
 # Places that look into a sentence all the same, with the reason.
 ALLOWED: dict[tuple[str, str], str] = {
     ("lab/door.py", "run"): "puts what Python says of a mistake of our own into one line",
-    ("lab/python/forestplan/__init__.py", "_called"): "a package of its own, which reads the line",
+    (
+        "lab/python/forestplan/interface/calls.py",
+        "_called",
+    ): "a package of its own, which reads the line",
     ("lab/workshop/workshop.py", "draw"): "names a temporary folder as what it stands for",
 }
 

@@ -74,7 +74,7 @@ SAID_OF_LIMITS = {
     "docs/work/LOOKUP.md": ("{MAX_DEGREE:,} + {MAX_BARS:,}, below `COLOURS`, {MAX_CHANNEL:,}",),
     "lab/limits.py": assigned(*OF_NETWORKS, "MAX_DEGREE", "MAX_WORKERS", "MAX_PASSES"),
     "lab/networks/codes.py": ("it names one more than {MAX_EDGES:,} different edges",),
-    "lab/python/forestplan/__init__.py": (
+    "lab/python/forestplan/interface/calls.py": (
         "`workers`, 1 to {MAX_WORKERS},",
         "more than {MAX_DEGREE:,} neighbours",
     ),

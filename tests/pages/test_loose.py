@@ -16,12 +16,13 @@ LOOSE = {
         "which element has a name is said by the page, not by the browser",
     ),
     "lab/pictures/picture.py": (1, "the network of a picture that may have none"),
-    "lab/python/forestplan/__init__.py": (
-        4,
+    "lab/python/forestplan/interface/answers.py": (3, "a text or a property; a class of matplotlib"),
+    "lab/python/forestplan/interface/calls.py": (1, "a plan has nodes of any kind"),
+    "lab/python/forestplan/interface/graphs.py": (
+        3,
         "a graph of networkx, igraph or a dictionary, with nodes of any kind",
     ),
-    "lab/python/forestplan/_graphs.py": (3, "the same"),
-    "lab/python/forestplan/_sites.py": (2, "places have names of any kind"),
+    "lab/python/forestplan/interface/sites.py": (2, "places have names of any kind"),
     "lab/studio/connections.py": (2, "an address and a place for bytes, as sockets have them"),
     "lab/studio/page/address.js": (1, "the values of an address, each of its own type"),
     "lab/studio/page/draw.js": (1, "fields and menus, which the browser's types keep apart"),

@@ -150,7 +150,7 @@ READS = {
     ("lab/door.py", "status_of: os.read"): "one byte",
     # What programs of this folder, or of the system, say.
     ("lab/programs.py", "called: subprocess.run"): OF_PROGRAM,
-    ("lab/python/forestplan/_programs.py", "called: subprocess.run"): OF_PROGRAM,
+    ("lab/python/forestplan/interface/programs.py", "called: subprocess.run"): OF_PROGRAM,
     ("lab/workshop/workshop.py", "draw: subprocess.run"): "a line of `forestlab picture`",
     (
         "lab/workshop/sandbox.py",
@@ -208,10 +208,10 @@ READS = {
         "build_wheel: wheel.read",
     ): "a file of this folder, as it was packed",
     (
-        "lab/python/forestplan/_programs.py",
+        "lab/python/forestplan/interface/programs.py",
         "of_lab: importlib.util.spec_from_file_location",
     ): OF_TREE,
-    ("lab/python/forestplan/_programs.py", "of_lab: spec.loader.exec_module"): OF_TREE,
+    ("lab/python/forestplan/interface/programs.py", "of_lab: spec.loader.exec_module"): OF_TREE,
     # What is written.
     ("lab/words.py", "write: open"): WRITTEN,
     ("lab/words.py", "write_apart: open"): WRITTEN,

@@ -22,7 +22,7 @@ from lab.network import Network
 from lab.networks.network_text import network_of
 from lab.pictures.palette import CHANNEL_HUES
 from tests import TOP
-from tests.cases import Case, forestlab, working_in
+from tests.cases import Case, called, forestlab, working_in
 from tests.programs.test_own_networks import is_near
 from tests.programs.test_plain_networks import networks_by_chance
 from tests.programs.test_sequels import channels
@@ -31,9 +31,14 @@ from tests.tools import need, needs
 
 sys.path.append(os.path.join(TOP, "lab", "python"))
 import forestplan  # noqa: E402
+from forestplan.interface import calls, sites as site_graphs  # noqa: E402
 
 PACKAGE = os.path.dirname(forestplan.__file__)
 NOTEBOOK = os.path.join(TOP, "examples", "forestplan.ipynb")
+PUBLIC = (
+    "Entry Message Plan Pulse Refused Rounds Sites Transcript check colour_map home plan rounds sites text_of "
+    "transcript"
+)
 # Four nodes in a ring, one with an edge to itself and one in both directions.
 SQUARE = {"Ulm": ["Aue", "Bonn"], "Aue": ["Ulm", "Hof"], "Hof": [], "Bonn": ["Hof", "Bonn"]}
 NUMBER = {node: v for v, node in enumerate(forestplan.text_of(SQUARE)[1], 1)}
@@ -181,6 +186,27 @@ def small_graph(source):
 
 
 class InPython(Case):
+    def test_public(self):
+        """What is public is this list. It is imported only once it is asked for, so the commands don't wait for it; and
+        it needs neither numpy nor networkx."""
+        self.same("the names", forestplan.__all__, PUBLIC.split())
+        code = (
+            "import sys, forestplan; print(*sorted(name for name in sys.modules if 'forestplan' in name)); "
+            "from forestplan import *; "
+            "print(text_of({1: [2], 2: []})[1]); print({'numpy', 'networkx'} & set(sys.modules)); "
+            "forestplan.unknown"
+        )
+        environment = os.environ | {"PYTHONPATH": os.path.dirname(PACKAGE)}
+        done = called(sys.executable, "-S", "-c", code, env=environment)
+        self.same(
+            "what is printed", done[:2], (1, b"forestplan forestplan._python\n[1, 2]\nset()\n")
+        )
+        last = b"AttributeError: module 'forestplan' has no attribute 'unknown'\n"
+        self.note("another name", done[2].endswith(last), done)
+        for name in forestplan.__all__:
+            module = getattr(forestplan, name).__module__
+            self.same(f"the module of {name}", module.partition(".")[0], "forestplan")
+
     def refused(self, kind, call):
         """What a call raises."""
         with self.assertRaises(kind) as caught:
@@ -317,7 +343,7 @@ class InPython(Case):
         """As many as are asked for, but no more than there are processors."""
         for usable, asked, wanted in ((1, 4, "1"), (2, 64, "2"), (8, 3, "3"), (64, 64, "64")):
             with mock.patch("os.sched_getaffinity", return_value=range(usable)):
-                got = forestplan._command_of(asked, 0)
+                got = calls._command_of(asked, 0)
             self.same(f"{asked} workers, {usable} processors", got[-1], wanted)
 
     @needs("bin/forestplan", "bin/forestplay")
@@ -362,7 +388,7 @@ class InPython(Case):
         self.same("dir", dir(forestplan), sorted(forestplan.__all__))
         for name in forestplan.__all__:
             self.note(name, getattr(forestplan, name).__doc__)
-        for module in (forestplan, sys.modules["forestplan._sites"]):
+        for module in (calls, site_graphs):
             done = doctest.testmod(module)
             self.note(f"examples of {module}", not done.failed and done.attempted, done)
 

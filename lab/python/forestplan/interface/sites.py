@@ -2,8 +2,8 @@
 from collections.abc import Iterable, Mapping
 from typing import Any
 
-from forestplan._graphs import Sites, bounded, limits
-from forestplan._programs import of_lab
+from forestplan.interface.graphs import Sites, bounded, limits
+from forestplan.interface.programs import of_lab
 
 FAR = (-1e9, 1e9)
 # What a place is in: what makes kilometres of it, and the bounds of its two numbers.

@@ -3,7 +3,7 @@ import numbers
 from collections.abc import Hashable, Iterable, Mapping, Sequence
 from typing import Any
 
-from forestplan._programs import of_lab
+from forestplan.interface.programs import of_lab
 
 Node = Hashable
 Bars = Mapping[Any, Iterable[int]] | None

@@ -8,7 +8,8 @@ from collections.abc import Sequence
 from types import ModuleType
 from typing import NoReturn
 
-HERE = os.path.dirname(os.path.realpath(__file__))
+# The package `forestplan`.
+HERE = os.path.dirname(os.path.dirname(os.path.realpath(__file__)))
 
 
 def home() -> str:
@@ -17,17 +18,18 @@ def home() -> str:
 
     Raises FileNotFoundError if there is none."""
     for folder in (os.path.join(HERE, "installed"), os.path.join(HERE, "..", "..", "..")):
-        if os.path.isfile(os.path.join(folder, "lab", "programs.py")):
+        if os.path.isfile(os.path.join(folder, "lab", "folders.py")):
             return os.path.realpath(folder)
     raise FileNotFoundError("there is no folder of forestplan that is installed or built")
 
 
 def program_at(name: str) -> str:
     """The file of a program. Raises FileNotFoundError if it isn't built."""
-    places = (os.path.join(home(), *parts, name) for parts in (("crates", name, "out"), ("lib",)))
-    found = next((place for place in places if os.access(place, os.X_OK)), None)
+    folders = of_lab("folders")
+    found: str | None = folders.built(name)
     if found is None:
-        how = of_lab("unbuilt").how_to_build(name)
+        unbuilt = of_lab("unbuilt")
+        how = unbuilt.how_to_build(name)
         raise FileNotFoundError(f"{name} isn't built in {home()}: {how}")
     return found
 

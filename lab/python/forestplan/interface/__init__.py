@@ -1,0 +1,1 @@
+"""What `import forestplan` gives: calls of the proved programs with graphs of Python."""
