@@ -14,11 +14,9 @@ from lab.workshop.class_files import is_free, make_folder, write, write_scripts,
 
 # What is copied, each at the path that it has here.
 FOLDERS = ("examples", "docs", "lab")
-FILES = ("CHANGELOG.md", "LICENSE-MIT", "LICENSE-APACHE", "bin/forestlab")
+FILES = ("CHANGELOG.md", "LICENSE-MIT", "LICENSE-APACHE", "bin/forestlab", "pyproject.toml")
 # Where shells look for what completes words, below share/.
 OF_SHELLS = ("bash-completion/completions/forestlab", "zsh/site-functions/_forestlab")
-# What pip reads, which is at the top of an installed folder.
-PYPROJECT = os.path.join("lab", "python", "pyproject.toml")
 
 HELP = """\
 Copies forestplan and what belongs to it into a folder, so that it runs there
@@ -118,7 +116,6 @@ def make(room: str, section: str = SECTION) -> None:
     write_scripts(room)
     for path in FILES:
         shutil.copy(os.path.join(TOP, path), os.path.join(room, path))
-    os.rename(os.path.join(room, PYPROJECT), os.path.join(room, "pyproject.toml"))
     write(os.path.join(room, "README.md"), readme(section))
     share = os.path.join(room, "share")
     commands = os.path.join(room, "bin")

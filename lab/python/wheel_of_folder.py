@@ -1,34 +1,54 @@
-"""What pip calls to install the package `forestplan` from an installed folder: a wheel of the package, with the
-programs and lab/ below it, wherever pip puts packages, and of the commands. It needs pip alone, no other package and no
-network."""
+"""What pip calls to install the package `forestplan`. Of an installed folder it gets a wheel of the package, with the
+programs and lab/ below it, wherever pip puts packages, and of the commands. Of a tree `pip install -e` gets a wheel
+that says where the package is. It needs pip alone, no other package and no network."""
 import ast
 import base64
 import hashlib
 import os
 import sysconfig
 import zipfile
-from collections.abc import Iterator
+from collections.abc import Iterator, Mapping
 
-TOP = os.path.dirname(os.path.dirname(os.path.dirname(os.path.realpath(__file__))))
+# The folder of the package.
+SOURCES = os.path.dirname(os.path.realpath(__file__))
+TOP = os.path.dirname(os.path.dirname(SOURCES))
 PACKAGE = os.path.join("lab", "python", "forestplan")
 # What the package and the commands call.
 FOLDERS = ("bin", "lib", "lab", "examples")
 COMMANDS = ("forestlab", "forestplan", "forestplay")
 LICENSES = ("LICENSE-APACHE", "LICENSE-MIT")
+NO_FOLDER = """\
+This is a tree of sources. Call `pip install -e` for it, or make a folder by `python3 build install DIR`, and then call
+`pip install DIR`."""
 
 
 def build_wheel(
     folder: str, config_settings: object = None, metadata_directory: str | None = None
 ) -> str:
-    """Writes the wheel into a folder, and returns its name."""
-    version = text_in("VERSION").split()[1]
-    tag = "py3-none-" + sysconfig.get_platform().replace("-", "_").replace(".", "_")
+    """Writes the wheel of an installed folder into another folder, and returns its name."""
+    if not os.path.isfile(os.path.join(TOP, "VERSION")):
+        raise SystemExit(NO_FOLDER)
+    platform = sysconfig.get_platform().replace("-", "_").replace(".", "_")
+    return write_wheel(folder, f"py3-none-{platform}", dict(files()), {})
+
+
+def build_editable(
+    folder: str, config_settings: object = None, metadata_directory: str | None = None
+) -> str:
+    """Writes the wheel that has Python find the package where it is, and returns its name."""
+    return write_wheel(folder, "py3-none-any", {}, {"forestplan.pth": f"{SOURCES}\n"})
+
+
+def write_wheel(
+    folder: str, tag: str, copied: Mapping[str, str], written: Mapping[str, str]
+) -> str:
+    """Writes a wheel of files that are copied, by their paths in it, and of texts; with what a wheel says of itself."""
+    version = version_number()
     name = f"forestplan-{version}-{tag}.whl"
     info = f"forestplan-{version}.dist-info"
     said = ast.get_docstring(ast.parse(text_in(PACKAGE, "__init__.py"))) or ""
     summary = said.partition("\n")[0]
-    texts = {
-        "METADATA": f"""\
+    metadata = f"""\
 Metadata-Version: 2.1
 Name: forestplan
 Version: {version}
@@ -41,17 +61,22 @@ Requires-Python: >=3.10
 Description-Content-Type: text/plain
 
 {said}
-""",
-        "WHEEL": f"Wheel-Version: 1.0\nGenerator: forestplan\nRoot-Is-Purelib: false\nTag: {tag}\n",
-        "entry_points.txt": "[console_scripts]\n"
-        + "".join(f"{one} = forestplan.interface.programs:command\n" for one in COMMANDS),
+"""
+    commands = [f"{one} = forestplan.interface.programs:command\n" for one in COMMANDS]
+    texts = {
+        **written,
+        f"{info}/METADATA": metadata,
+        f"{info}/WHEEL": "Wheel-Version: 1.0\nGenerator: forestplan\nRoot-Is-Purelib: false\n"
+        f"Tag: {tag}\n",
+        f"{info}/entry_points.txt": "[console_scripts]\n" + "".join(commands),
     }
+    paths = {**copied, **{f"{info}/{one}": one for one in LICENSES}}
     path = os.path.join(folder, name)
     with zipfile.ZipFile(path, "w", zipfile.ZIP_DEFLATED, strict_timestamps=False) as wheel:
-        for there, here in sorted(files(info)):
+        for there, here in sorted(paths.items()):
             wheel.write(os.path.join(TOP, here), there)
-        for one, text in texts.items():
-            wheel.writestr(f"{info}/{one}", text)
+        for there, text in texts.items():
+            wheel.writestr(there, text)
         rows = [row(there, wheel.read(there)) for there in wheel.namelist()]
         wheel.writestr(f"{info}/RECORD", "".join(rows) + f"{info}/RECORD,,\n")
     return name
@@ -62,9 +87,12 @@ def text_in(*parts: str) -> str:
         return file.read()
 
 
-def files(info: str) -> Iterator[tuple[str, str]]:
+def version_number() -> str:
+    return text_in("lab", "version.py").partition('NUMBER = "')[2].partition('"')[0]
+
+
+def files() -> Iterator[tuple[str, str]]:
     """(path in the wheel, path here) of all that it has of this folder."""
-    yield from ((f"{info}/{name}", name) for name in LICENSES)
     yield "forestplan/installed/VERSION", "VERSION"
     for folder in FOLDERS:
         for at, below, names in os.walk(os.path.join(TOP, folder)):

@@ -202,10 +202,10 @@ READS = {
     ("lab/workshop/class_files.py", "copy_class: file.read"): OF_TREE,
     ("lab/python/wheel_of_folder.py", "text_in: open"): OF_TREE,
     ("lab/python/wheel_of_folder.py", "text_in: file.read"): OF_TREE,
-    ("lab/python/wheel_of_folder.py", "build_wheel: ast.parse"): OF_TREE,
+    ("lab/python/wheel_of_folder.py", "write_wheel: ast.parse"): OF_TREE,
     (
         "lab/python/wheel_of_folder.py",
-        "build_wheel: wheel.read",
+        "write_wheel: wheel.read",
     ): "a file of this folder, as it was packed",
     (
         "lab/python/forestplan/interface/programs.py",

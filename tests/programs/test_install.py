@@ -340,6 +340,28 @@ class Install(FolderCase):
         got = run(command, b"p edge 1 0\n", cwd=self.elsewhere, env=env)
         self.assertEqual(got, (0, b"plan\n1 1\n", b""))
 
+    def test_editable(self):
+        """`pip install -e` of a tree has Python import the package where it is, and puts the commands on the PATH. A
+        tree that isn't installed so is refused, with what to call."""
+        tree, room = (os.path.join(self.folder, name) for name in ("its tree", "its environment"))
+        copied(tree, "bin", "build", "lab", "pyproject.toml", "LICENSE-MIT", "LICENSE-APACHE")
+        system = "/usr/bin/python3"
+        need(self, system)
+        run([system, "-m", "venv", "--without-pip", "--system-site-packages", room])
+        pip = [f"{room}/bin/python", "-m", "pip"]
+        if run([*pip, "--version"])[0]:
+            self.skipTest(f"pip of {system} isn't installed")
+        env = ENVIRONMENT | {"PIP_NO_INDEX": "1"}
+        got = run([*pip, "install", "-e", tree], env=env)
+        self.assertEqual(got[0], 0, got)
+        code = "import forestplan as it; print(it.sites({1: (0, 0)}, 1), it.home())"
+        got = run([f"{room}/bin/python", "-B", "-c", code], cwd=self.elsewhere, env=env)
+        self.same("Python", got, (0, f"{{1: []}} {tree}\n".encode(), b""))
+        got = run([f"{room}/bin/forestlab", "network", "ring", "3"], cwd=self.elsewhere, env=env)
+        self.note("forestlab", got[::2] == (0, b"") and b"p edge 3 3\n" in got[1], got)
+        got = run([*pip, "install", tree], env=env)
+        self.note("without -e", got[0] == 1 and b"build install DIR" in got[2], got)
+
     def test_unbuilt(self):
         """From a tree that isn't built from its sources, without the toolchain, nothing is installed."""
         tree, target = os.path.join(self.folder, "a tree"), os.path.join(self.folder, "target")
