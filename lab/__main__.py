@@ -6,6 +6,7 @@ import sys
 from collections.abc import Callable
 
 LEAST_PYTHON = (3, 10)
+HERE = os.path.dirname(os.path.realpath(__file__))
 # The module of each command, whose `main` takes the words after the command and returns the status, and its line of
 # help; by what a reader wants, in the order of the help text.
 READERS = {
@@ -78,8 +79,11 @@ def main() -> int:
             f"Python {'.'.join(map(str, LEAST_PYTHON))} or later is needed, and python3 is "
             + sys.version.split()[0]
         )
-    # Run as a folder, its own place comes first where modules are looked for; the package's is one above.
-    sys.path[0] = os.path.dirname(os.path.dirname(os.path.realpath(__file__)))
+    # Run as a folder, its own place comes first where modules are looked for. The package is one above, maybe among
+    # others, whose modules mustn't come before Python's own; so nothing else is looked for there.
+    sys.path[0] = os.path.dirname(HERE)
+    importlib.import_module("lab")
+    del sys.path[0]
     name = sys.argv[1] if len(sys.argv) > 1 else ""
     arguments = sys.argv[2:]
     door = importlib.import_module("lab.door")
@@ -115,7 +119,7 @@ def command_of(name: str, arguments: "list[str]") -> "Callable[[], int]":
 
 def is_there(module: str) -> bool:
     """Whether this folder has a module: that of a class lacks those that solve its assignment."""
-    return os.path.isfile(os.path.join(sys.path[0], *module.split(".")) + ".py")
+    return os.path.isfile(os.path.join(HERE, *module.split(".")[1:]) + ".py")
 
 
 def help_text() -> int:
