@@ -64,14 +64,16 @@ MODULES = {
 }
 
 
-def __getattr__(name: str) -> object:
-    for module, names in MODULES.items():
-        if name in names.split():
-            found = getattr(importlib.import_module("forestplan.interface." + module), name)
-            globals()[name] = found
-            return found
-    raise AttributeError("module 'forestplan' has no attribute " + repr(name))
-
-
 def __dir__() -> "list[str]":
     return __all__
+
+
+if not TYPE_CHECKING:
+
+    def __getattr__(name: str) -> object:
+        for module, names in MODULES.items():
+            if name in names.split():
+                found = getattr(importlib.import_module("forestplan.interface." + module), name)
+                globals()[name] = found
+                return found
+        raise AttributeError("module 'forestplan' has no attribute " + repr(name))
