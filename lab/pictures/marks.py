@@ -243,8 +243,8 @@ def cut_name(name: str) -> str:
 def whole_letters(text: str) -> list[str]:
     """The letters of a text, each with the marks and the joined signs that belong to it, so that none is cut apart.
 
-    >>> whole_letters("e\\u0301a")
-    ['é', 'a']
+    >>> [len(letter) for letter in whole_letters("e\\u0301a")]
+    [2, 1]
     """
     letters: list[str] = []
     for one in text:

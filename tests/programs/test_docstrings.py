@@ -1,14 +1,23 @@
-"""The examples in the docstrings of a package that is used as a library: each is run, and each function that other
-modules import has one."""
+"""The docstrings of lab/: each example is run, each module stands in the map of its package, and in a package that is
+used as a library each function that other modules import has an example."""
 import ast
 import doctest
 import importlib
 import pathlib
+import re
 
 from tests import TOP
 from tests.cases import FilesCase
 
+# Those that `help("lab")` names, in the order in which they import each other; the last one is the whole.
+ALL_PACKAGES = (
+    *("lab.definitions", "lab.networks", "lab.transcripts", "lab.schedules", "lab.pictures"),
+    *("lab.workshop", "lab.studio", "lab"),
+)
+# Those whose functions each have an example.
 PACKAGES = ("lab.networks",)
+# A line of a map: a module or a package, and what it has.
+MAPPED = re.compile(r"^    (\w+)  +\S", re.M)
 # What the command line is made of: it adds options to a parser, writes, or calls networkx, and the tests of the
 # commands call it.
 OF_COMMANDS = {
@@ -19,7 +28,14 @@ OF_COMMANDS = {
 
 def modules_of(package: str) -> list[str]:
     paths = pathlib.Path(TOP, *package.split(".")).glob("*.py")
-    return [f"{package}.{path.stem}" for path in sorted(paths) if path.stem != "__init__"]
+    return [f"{package}.{path.stem}" for path in sorted(paths) if not path.stem.startswith("__")]
+
+
+def is_shown(module: str) -> bool:
+    """Whether a module's text has an example."""
+    path = pathlib.Path(TOP, *module.split("."))
+    file = path / "__init__.py" if path.is_dir() else path.with_suffix(".py")
+    return ">>> " in file.read_text(encoding="utf-8")
 
 
 def imported() -> set[tuple[str, str]]:
@@ -46,10 +62,24 @@ def without_example(module: str, names: set[str]) -> list[str]:
 
 class Docstrings(FilesCase):
     def test_examples(self) -> None:
-        for package in PACKAGES:
-            for module in modules_of(package):
+        for package in ALL_PACKAGES:
+            for module in filter(is_shown, [package, *modules_of(package)]):
                 done = doctest.testmod(importlib.import_module(module))
                 self.same(f"examples of {module} that fail", done.failed, 0)
+
+    def test_each_package_has_one(self) -> None:
+        """A stranger who asks for help on a package finds something to type."""
+        for package in ALL_PACKAGES:
+            self.note(package, is_shown(package), "has no example")
+
+    def test_maps(self) -> None:
+        """The docstring of a package has a line for each of its modules, and `lab` for each of its packages."""
+        for package in ALL_PACKAGES:
+            mapped = MAPPED.findall(importlib.import_module(package).__doc__ or "")
+            parts = [module.rpartition(".")[2] for module in modules_of(package)]
+            if package == "lab":
+                parts += [other.rpartition(".")[2] for other in ALL_PACKAGES if other != "lab"]
+            self.same(f"what the map of {package} has", sorted(mapped), sorted(parts))
 
     def test_each_has_one(self) -> None:
         known = imported()
