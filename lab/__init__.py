@@ -61,6 +61,7 @@ Draw a picture: ``lab.pictures.picture.KINDS`` has the kinds.
 What all packages share:
 
     network         what a network is: vertices, edges, identifiers, barred channels, forests
+    limits          the programs' limits: nodes, edges, neighbours, channels, workers, passes
     fault_codes     the codes of all faults
     faults          the exception `Fault`, with a code, a place and a subject
     sentences       the sentence of each code
@@ -69,6 +70,7 @@ What all packages share:
     unbuilt         what to say of a program that isn't built
     progress        what is shown of a call that takes minutes
     processors      how many processors may be used
+    folders         where the package is, and what belongs to it
     version         which forestplan this is
     door            how a command ends, whatever happens
 """

@@ -3,7 +3,7 @@
     sources             the network of a name: an example, a kind with its size, a file
     kinds               kinds of networks: path, ring, star, complete, grid, queen, tree, disk, random
     random_networks     random edges with wishes: connected, a greatest number of neighbours or forests
-    network_text        the DIMACS format: the network of a text or its first fault; the limits of a network
+    network_text        the DIMACS format: the network of a text, or its first fault
     texts               a network as a text in the DIMACS format
     fields              the fields of a line, and the numbers in them
     plan_text           the plan of a text; which neighbours share a channel
