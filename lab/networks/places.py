@@ -1,9 +1,11 @@
 """Places of sites, on a plane in kilometres or on the globe, and which of them are near each other. `import
 forestplan` loads this file alone, so it imports nothing of lab/."""
 import math
-from collections.abc import Collection, Iterator
+from collections.abc import Collection, Hashable, Iterator, Mapping
 from itertools import product
+from typing import TypeVar
 
+Site = TypeVar("Site", bound=Hashable)
 # The mean radius of the earth in kilometres.
 EARTH = 6371.0088
 Place = tuple[float, float]
@@ -26,7 +28,7 @@ def on_ground(latitude: float, longitude: float) -> Point:
     )
 
 
-def on_map(places: dict[str, Place]) -> dict[str, Place]:
+def on_map(places: Mapping[Site, Place]) -> dict[Site, Place]:
     """Places of latitude and longitude on a map in kilometres, with true lengths at their mean latitude, and y growing
     downwards.
 

@@ -3,8 +3,10 @@ from collections.abc import Mapping
 from typing import Any
 
 from forestplan.interface.answers import Entry, Message, Plan, Pulse, Refused, Rounds, Transcript
-from forestplan.interface.graphs import Bars, Channels, Graph, Licence, Node, limits, text_of, whole
+from forestplan.interface.graphs import Bars, Channels, Graph, Licence, Node, text_of, whole
 from forestplan.interface.programs import called, of_lab, program_at
+
+limits = of_lab("limits")
 
 
 def plan(

@@ -2,8 +2,10 @@
 from collections.abc import Iterable, Mapping
 from typing import Any
 
-from forestplan.interface.graphs import Sites, bounded, limits
+from forestplan.interface.graphs import Sites, bounded
 from forestplan.interface.programs import of_lab
+
+limits = of_lab("limits")
 
 FAR = (-1e9, 1e9)
 # What a place is in: what makes kilometres of it, and the bounds of its two numbers.
@@ -46,13 +48,13 @@ def sites(places: Mapping[Any, Any], reach: float, unit: str = "degrees") -> Sit
     return found
 
 
-def place_of(site: object, place: Iterable[object], unit: str) -> list[float]:
+def place_of(site: object, place: Iterable[object], unit: str) -> tuple[float, float]:
     """A place in degrees or in kilometres."""
-    factor, *bounds = UNITS[unit]
+    factor, of_x, of_y = UNITS[unit]
     try:
         x, y = place
     except (TypeError, ValueError):
         what = f"the place of {site!r} is {place!r}, and has to be two numbers"
         raise TypeError(what) from None
-    both = zip((x, y), bounds)
-    return [factor * bounded(one, f"the place of {site!r}", *bound) for one, bound in both]
+    what = f"the place of {site!r}"
+    return (factor * bounded(x, what, *of_x), factor * bounded(y, what, *of_y))
