@@ -134,6 +134,8 @@ def opened_by(place: str, session: Session, before: Here = Here()) -> Place:
         network = shown(read_network(text, pairs["example"]))
     elif "net" in pairs:
         drawn = drawn_of(pairs["net"])
+        if len(drawn.nodes) > MOST_DRAWN:
+            raise Fault(Code.TOO_MANY_TO_DRAW, most=MOST_DRAWN, nodes=len(drawn.nodes))
         text, network = drawn.text(), drawn.for_page()
     elif {"example", "net"} & set(unread):
         raise Fault(Code.TWO_NETWORKS)

@@ -1,11 +1,12 @@
 """The studio as static files: `forestlab studio --publish DIR`. The page and its scripts are the studio's own. In place
 of the server they have the answers of recording.py, in pieces that are scripts, too. So any web server gives the page
 away, below any path, and a browser opens it from a folder."""
+import contextlib
 import json
 import os
 import re
 import shutil
-from collections.abc import Sequence
+from collections.abc import Iterator, Mapping, Sequence
 from dataclasses import MISSING, fields, replace
 
 from lab import version
@@ -27,6 +28,8 @@ POLICY = (
     "default-src 'none'; script-src 'self' file:; style-src 'unsafe-inline'; img-src 'self' file: data: blob:; "
     "form-action 'none'; base-uri 'none'"
 )
+# What a browser opens first.
+PAGE = "index.html"
 PICTURE = re.compile(r"\]\(\.\./pictures/([\w.-]+)\)")
 
 
@@ -34,7 +37,7 @@ def published(session: Session, places: Sequence[Spot] | None = None) -> dict[st
     """The files of the page, by their names: of all places, or of some."""
     recording = Recording(session, places).record()
     is_ = hello_of(session, recording)
-    files = {"index.html": index_page(), "studio.js": script(is_, list(recording.pieces))}
+    files = {PAGE: index_page(), "studio.js": script(is_, list(recording.pieces))}
     for name, piece in recording.pieces.items():
         files[f"answers/{name}.js"] = f'recorded("{name}", {json_of(piece)});\n'
     found = {name: text.encode() for name, text in files.items()}
@@ -82,32 +85,67 @@ def index_page() -> str:
     return text.replace('<meta charset="utf-8">', f'<meta charset="utf-8">{policy}')
 
 
-def check_is_new(folder: str) -> None:
-    """Refuses what isn't a new folder or an empty one."""
+@contextlib.contextmanager
+def refused(folder: str) -> Iterator[None]:
+    """What can't be written is said of the folder that the user has named."""
     try:
-        is_free = not os.path.lexists(folder) or os.path.isdir(folder) and not os.listdir(folder)
+        yield
     except OSError as why:
         raise Fault(Code.NOT_PUBLISHED, InText(folder), why=why.strerror) from None
+
+
+def check_is_new(folder: str) -> None:
+    """Refuses what isn't a new folder or an empty one."""
+    with refused(folder):
+        is_free = not os.path.lexists(folder) or os.path.isdir(folder) and not os.listdir(folder)
     if not is_free:
         raise Fault(Code.FOLDER_NOT_EMPTY, InText(folder))
 
 
 def publish(folder: str, session: Session) -> int:
-    """Writes the page into a folder, which is there whole or as it was, and returns its bytes."""
+    """Writes the page into a folder, which is there whole or as it was, and returns its bytes. A folder that is there
+    stays: it may be a disk, the folder that the user is in, or one that somebody has given the user.
+    """
     check_is_new(folder)
-    files = published(session)
     at = os.path.realpath(folder)
-    new = f"{at}.{os.getpid()}.new"
+    room = f"{at}{os.sep}" if os.path.isdir(at) else at
+    new = f"{room}.{os.getpid()}.new"
+    with refused(folder):
+        os.makedirs(os.path.dirname(new), exist_ok=True)
+        # One that is there already is somebody else's.
+        os.mkdir(new)
     try:
-        for name, data in files.items():
-            path = os.path.join(new, name)
-            os.makedirs(os.path.dirname(path), exist_ok=True)
-            with open(path, "xb") as file:
-                file.write(data)
-        check_is_new(folder)
-        os.rename(new, at)
-    except OSError as why:
-        raise Fault(Code.NOT_PUBLISHED, InText(folder), why=why.strerror) from None
+        files = published(session)
+        with refused(folder):
+            write(files, new)
+            put_in_place(new, at, folder)
     finally:
         shutil.rmtree(new, ignore_errors=True)
     return sum(map(len, files.values()))
+
+
+def write(files: Mapping[str, bytes], folder: str) -> None:
+    for name, data in files.items():
+        path = os.path.join(folder, name)
+        os.makedirs(os.path.dirname(path), exist_ok=True)
+        with open(path, "xb") as file:
+            file.write(data)
+
+
+def put_in_place(new: str, at: str, folder: str) -> None:
+    """Gives a folder its name, or moves what is in it into the one around it, the page itself last."""
+    if os.path.dirname(new) != at:
+        check_is_new(folder)
+        os.rename(new, at)
+        return
+    if os.listdir(at) != [os.path.basename(new)]:
+        raise Fault(Code.FOLDER_NOT_EMPTY, InText(folder))
+    moved = []
+    try:
+        for name in sorted(os.listdir(new), key=PAGE.__eq__):
+            os.rename(os.path.join(new, name), os.path.join(at, name))
+            moved.append(name)
+    except BaseException:
+        for name in moved:
+            os.rename(os.path.join(at, name), os.path.join(new, name))
+        raise

@@ -20,7 +20,7 @@ from lab.studio.asked import form_of_program
 from lab.studio.building import are_built
 from lab.studio.links import judge
 from lab.studio.networks import shown
-from lab.studio.publishing import publish
+from lab.studio.publishing import PAGE, publish
 from lab.studio.serving import Server
 from lab.studio.session import SAMPLES, Form, Session
 from lab.words import Parser, one_line, parser_of, text_at, text_name
@@ -155,10 +155,10 @@ def opened(path: str) -> Network:
 
 def main(words: list[str]) -> int:
     given = command_line().parse_args(words)
-    if given.links is not None:
-        return judge_links(given)
     if given.publish is not None:
         return publish_page(given)
+    if given.links is not None:
+        return judge_links(given)
     with tempfile.TemporaryDirectory(prefix="forestplan-studio-") as folder:
         try:
             network = None if given.network is None else shown(opened(given.network))
@@ -192,10 +192,9 @@ def judge_links(given: Namespace) -> int:
 
 def publish_page(given: Namespace) -> int:
     """Writes the page that needs no server."""
-    if given.network is not None or given.own:
-        print(
-            "studio: --publish takes no network and no --own: it has the lessons", file=sys.stderr
-        )
+    if given.network is not None or given.own or given.links is not None:
+        said = "--publish takes no network, no --own and no --links: it has the lessons"
+        print(f"studio: {said}", file=sys.stderr)
         return 2
     try:
         own, forms = own_programs([])
@@ -203,10 +202,9 @@ def publish_page(given: Namespace) -> int:
     except Fault as why:
         print(f"studio: {why}", file=sys.stderr)
         return 1
-    page = os.path.join(given.publish, "index.html")
-    print(
-        f"studio: {page} is written, with all that it needs: {size / 1e6:.1f} MB", file=sys.stderr
-    )
+    page = one_line(os.path.join(given.publish, PAGE))
+    said = f"{page} is written, with all that it needs: {size / 1e6:.1f} MB"
+    print(f"studio: {said}", file=sys.stderr)
     return 0
 
 

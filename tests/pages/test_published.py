@@ -1,14 +1,18 @@
 """The studio as static files, `forestlab studio --publish DIR`: the page from a folder in a browser without network, on
 which the lessons are gone through as in the studio; each answer that is recorded asked again; and the folder."""
+import contextlib
 import gzip
+import io
 import json
 import os
 import random
 import re
 import shutil
+import signal
 import subprocess
 import sys
 import tempfile
+import time
 from collections.abc import Iterator, Mapping
 from typing import Any
 from unittest import mock
@@ -17,7 +21,7 @@ from lab.faults import Fault
 from lab.networks.network_text import read_network
 from lab.pictures.page_data import as_object
 from lab.schedules.stepwise import Stepwise
-from lab.studio import publishing
+from lab.studio import publishing, studio
 from lab.studio.calls import CALLS
 from lab.studio.lessons import LESSONS, SeenExercise
 from lab.studio.recording import spots, tell, text_of_page
@@ -25,7 +29,7 @@ from lab.studio.networks import opened_by
 from lab.studio.session import Session
 from lab.studio.studio import own_programs
 from tests import TOP, browser
-from tests.cases import Case, text_in
+from tests.cases import Case, text_in, working_in
 from tests.pages.test_studio_lessons import APART, Cards, TICKED, WRONG, steps
 from tests.tools import need
 
@@ -116,6 +120,107 @@ class Folder(Case):
         self.same("as it was", os.listdir(at), [])
         self.same("nothing beside it", os.listdir(self.folder), ["empty"])
 
+    def test_the_folder_stays(self) -> None:
+        """It may be a disk, or the folder that the user is in: it keeps its place on the disk, and who may read it."""
+        at = os.path.join(self.folder, "empty")
+        os.mkdir(at)
+        os.chmod(at, 0o751)
+        before = os.stat(at)
+        for name in ("", "again"):
+            with working_in(at):
+                said = self.refused(f"./{name}", {"index.html": b"x"})
+            self.same("written", said, "")
+            self.same(f"files of {name}", text_in(at, name, "index.html"), "x")
+            os.remove(os.path.join(at, name, "index.html"))
+        after = os.stat(at)
+        self.same("the same", (after.st_ino, after.st_mode), (before.st_ino, before.st_mode))
+
+    def test_a_folder_that_is_given(self) -> None:
+        """The folder is the user's, and the one around it isn't."""
+        outer, user = os.path.join(self.folder, "outer"), 12345 if os.geteuid() == 0 else None
+        own = os.path.join(outer, "own")
+        os.makedirs(own)
+        os.chmod(self.folder, 0o755)
+        os.chmod(outer, 0o555)
+        self.addCleanup(os.chmod, outer, 0o755)
+        if user:
+            os.chown(own, user, user)
+            os.seteuid(user)
+            self.addCleanup(os.seteuid, 0)
+        self.same("written", self.refused(own, {"index.html": b"x"}), "")
+        self.same("its files", os.listdir(own), ["index.html"])
+
+    def test_a_folder_of_somebody_else(self) -> None:
+        """Whoever guesses the name under which the page is made, as any user can in /tmp, gets nothing of it into a
+        folder of their own, and loses nothing."""
+        at = os.path.join(self.folder, "page")
+        theirs = f"{at}.{os.getpid()}.new"
+        os.mkdir(theirs)
+        with open(os.path.join(theirs, "evil.js"), "w", encoding="utf-8") as file:
+            file.write("theirs")
+        said = self.refused(at, {"index.html": b"x"})
+        self.same("one line", said, f"{at}: it can't be written: {os.strerror(17)}")
+        self.same("nothing is there", os.listdir(self.folder), [os.path.basename(theirs)])
+        self.same("theirs", os.listdir(theirs), ["evil.js"])
+
+    def test_filled_meanwhile(self) -> None:
+        """A file that somebody puts into the folder while the page is made stays, and is alone there."""
+        for name in ("new", "empty"):
+            at = os.path.join(self.folder, name)
+            if name == "empty":
+                os.mkdir(at)
+
+            def fill(*_: object, at: str = at) -> dict[str, bytes]:
+                os.makedirs(at, exist_ok=True)
+                with open(os.path.join(at, "mine"), "w", encoding="utf-8") as file:
+                    file.write("mine")
+                return {"index.html": b"x", "a.js": b"y"}
+
+            with mock.patch.object(publishing, "published", fill):
+                with self.assertRaisesRegex(Fault, "name a new folder, or an empty one"):
+                    publishing.publish(at, Session())
+            self.same(name, os.listdir(at), ["mine"])
+        self.same("nothing else", sorted(os.listdir(self.folder)), ["empty", "new"])
+
+    def test_a_move_that_fails(self) -> None:
+        """A disk that is full after some of the files are in their place: none is left."""
+        at, rename = os.path.join(self.folder, "empty"), os.rename
+        os.mkdir(at)
+
+        def fails(old: str, new: str) -> None:
+            if os.path.basename(new) == "index.html":
+                raise OSError(28, os.strerror(28))
+            rename(old, new)
+
+        with mock.patch("os.rename", fails):
+            said = self.refused(at, {"index.html": b"x", "a.js": b"y", "answers/b.js": b"z"})
+        self.same("one line", said, f"{at}: it can't be written: {os.strerror(28)}")
+        self.same("as it was", os.listdir(at), [])
+
+    def test_ended(self) -> None:
+        """Who ends the command while the page is made finds the folder as it was."""
+        for signal_, name in ((signal.SIGTERM, "new"), (signal.SIGINT, "empty")):
+            at = os.path.join(self.folder, name)
+            if name == "empty":
+                os.mkdir(at)
+            words = [sys.executable, "-S", os.path.join(TOP, "lab"), "studio", "--publish", at]
+            run = subprocess.Popen(words, stderr=subprocess.PIPE, text=True)
+            until = time.monotonic() + 60
+            while not self.made() and time.monotonic() < until:
+                time.sleep(0.05)
+            self.note("it is made", self.made())
+            run.send_signal(signal_)
+            said = run.communicate(timeout=60)[1]
+            self.note("no traceback", "Traceback" not in said and said.count("\n") <= 1, said)
+            self.same(name, self.made(), [])
+        self.same("as it was", (os.listdir(self.folder), os.listdir(at)), (["empty"], []))
+
+    def made(self) -> list[str]:
+        """The folders in which a page is made."""
+        return [
+            name for _, names, _ in os.walk(self.folder) for name in names if name.endswith(".new")
+        ]
+
     def test_nowhere(self) -> None:
         at = os.path.join(self.folder, "not", "there", "mine")
         os.chmod(self.folder, 0o755)
@@ -125,22 +230,27 @@ class Folder(Case):
         self.note("below a file", said.startswith(below) and "\n" not in said, said)
 
     def test_command_line(self) -> None:
-        done = subprocess.run(
-            [
-                sys.executable,
-                "-S",
-                os.path.join(TOP, "lab"),
-                "studio",
-                "--publish",
-                "x",
-                "petersen",
-            ],
-            cwd=self.folder,
-            capture_output=True,
-            text=True,
-        )
-        self.note("no network with it", done.returncode == 2, done.stderr)
-        self.note("one line", done.stderr.count("\n") == 1 and "takes no network" in done.stderr)
+        """What the page can't have is refused, and nothing is written."""
+        for words in (["petersen"], ["--own", "a.py"], ["--links", "links"]):
+            done = self.called("--publish", "x", *words)
+            self.note(f"no {words} with it", done.returncode == 2, done)
+            self.note("one line", done.stderr.count("\n") == 1 and "takes no" in done.stderr)
+            self.same("nothing is written", os.listdir(self.folder), [])
+
+    def test_one_line(self) -> None:
+        """A name with a line feed, and with what a terminal takes as an order, is said in one line."""
+        name = "a\nstudio: b\x1b[31m"
+        with mock.patch.object(studio, "publish", return_value=10):
+            out = io.StringIO()
+            with contextlib.redirect_stderr(out):
+                self.same("written", studio.main(["--publish", name]), 0)
+        said = out.getvalue()
+        self.note("one line", said.count("\n") == 1 and said[:-1].isprintable(), said)
+
+    def called(self, *words: str) -> subprocess.CompletedProcess[str]:
+        path = os.path.join(TOP, "lab")
+        line = [sys.executable, "-S", path, "studio", *words]
+        return subprocess.run(line, cwd=self.folder, capture_output=True, text=True)
 
 
 class Bytes(Case):
@@ -422,6 +532,33 @@ class Published(Cards):
                     [(node["x"], node["y"]) for node in network["nodes"]],
                 ]
             self.same(place, got, wanted)
+
+    def test_hostile_addresses(self) -> None:
+        """Whoever wrote it, an address breaks nothing: what can't be read is said in a line, and no node that isn't
+        there, no half edge and no name of another thing gets into the page."""
+        two, left_out = "net=0.0_90.0~1-2", "is left out"
+        for place, said in (
+            (f"{two}&tab=rounds&node=1.5", left_out),
+            (f"{two}&tab=draw&node=1.5", left_out),
+            (f"{two}&tab=check&plan=1-2", left_out),
+            (f"{two}&tab=adversary&dare=__proto__", left_out),
+            (f"{two}&tab=rounds&program=constructor", left_out),
+            ("net=0.0_1.1~1.5-2&tab=rounds", "can’t be read"),
+            (f"{two}~b1-0&tab=draw", "can’t be read"),
+            (f"{two}~n1-%zz&tab=draw", "can’t be read"),
+            (f"net={'0.0_' * 100_000}0.0&tab=draw", "can’t be read"),
+            (f"{two}~n1-%5F%5Fproto%5F%5F_2-constructor&tab=draw", ""),
+            (f"{two}~n1-%3C%2Fscript%3E%3Cscript%3Ealert(1)&tab=draw", ""),
+        ):
+            self.page.faults.clear()
+            self.page.go("about:blank")
+            self.page.go(f"{self.address}#{place}")
+            self.sees(
+                "it is followed", "window.studio && studio.seen.hello && !studio.isFollowing()"
+            )
+            self.sees(place[:60], f"wrong.textContent.includes({json.dumps(said)})")
+            self.reads(f"{place[:60]}: no fault", "wrong.textContent.includes('a fault')", False)
+            self.same(f"{place[:60]}: none is thrown", self.page.faults, [])
 
     def test_a_network_that_is_not_recorded(self) -> None:
         self.page.until("window.studio && studio.seen.hello && !studio.isFollowing()", 60)

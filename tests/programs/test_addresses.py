@@ -26,8 +26,10 @@ from lab.studio.address import NAMES, Here
 from lab.studio.answers import PictureKind, TabName, Values
 from lab.studio.dares import DARES
 from lab.studio.links import judge, judged_link
-from lab.studio.networks import opened_by
-from lab.studio.session import Session
+from lab.studio.messages import HelloCall
+from lab.studio.networks import hello, opened_by
+from lab.studio.recording import tell
+from lab.studio.session import SAMPLES, Session
 from tests import FORESTLAB, TOP
 from tests.cases import Case, called, example, found_in, said_by, text_in, written_by
 from tests.tools import need
@@ -41,6 +43,22 @@ import {codeOf, written} from "./address.mjs";
 const {states, names} = JSON.parse(readFileSync(0));
 console.log(JSON.stringify(states.map(state => [written(state, names), state.net && codeOf(state.net)])));
 """
+# Reads each address of standard input as a published page does.
+READER = """\
+import {readFileSync} from "node:fs";
+import {opened} from "./reader.mjs";
+const {places, hello, examples} = JSON.parse(readFileSync(0)), found = [];
+const example = async name => Object.hasOwn(examples, name) ? examples[name] : null;
+for (const place of places) found.push(await opened(place, hello, {nodes: 0, edges: []}, example));
+console.log(JSON.stringify(found));
+"""
+# The studio with its samples, and names that an address may have as its example.
+OPEN = Session(own=SAMPLES, forms={name: "reactions" for name in SAMPLES})
+SHOWN = ("two", "path", "petersen", "chain6")
+# What may get into an address that is written by hand, cut or joined.
+SPOILS = tuple(
+    "0 1 9 . - _ ~ & = % %41 %zz a , net tab lesson step &dare= &steps= &lesson= ~i1-".split()
+)
 TEXTS = (
     *("", "1", "7", "Oslo", "a b", "Ü~_b", "50%", "%41", "x=1&y=2", "#3", "<b>", "名前", "a.b-c"),
     *("+", "\U0001f600", "\u202eabc", "\0", "'\"`", "~~__", "%", "&amp;", "1.5"),
@@ -53,6 +71,81 @@ WON_BY_ROOT = {
     2: "2-1_1_3_3_1_2-3_1-2_1-2_2-1_3-2_2-1_2-1_2_2-3_3-2_2_1-2_1-2_3-2_3-2_2-3_2-3",
     3: "3-2_1-2_3_1_2-1_3_1_2_2_2-1_2-1_3-2_2-3_2-3_1-2_2-3_3-2_2-3_3-2_1-2",
 }
+
+# Addresses that no page writes, with what is said of each; of a few nothing is wrong.
+REFUSED = (
+    ("net=0.0_1.1~1-2~i1-1x7~b1-zz", "the identifier of node 1 is `1x7`"),
+    ("net=0.0_1.1~1-2~b1-zz", "`zz` is barred"),
+    ("net=0.0_1.1~1-2~b1-0", "`0` is barred"),
+    ("net=0.0_1.1~1-2~b1-2049", "`2049` is barred"),
+    ("net=0.0_1.1~1-2~b1--3", "`-3` is barred"),
+    ("net=0.0_1.1~1-2~i1-7_1-8", "node 1 has two identifiers"),
+    ("net=0.0_1.1~1-2~i1-7~i2-8", "are there twice"),
+    ("net=0.0_1.1~1-2~x1-7", "mean nothing"),
+    ("net=0.0_1.1~1-2~", "mean nothing"),
+    ("net=0.0_1.1~1-2~b1-3_1-3", "barred twice"),
+    ("net=0.0_1.1~1-2~n1-%E0", "stands for no letter"),
+    ("net=0.0_1.1~1-2~n1-%zz", "stands for no letter"),
+    ("net=0.0_1.1~1-2~n1-a_1-b", "two names"),
+    ("net=0.0_1.1~1-2_2-1", "twice"),
+    ("net=0.0_1.1~1-1", "a wrong edge"),
+    ("net=0.0_1.1~1-3", "a wrong edge"),
+    ("net=0.0_1.1~0-1", "none of its 2 nodes"),
+    ("net=0.0_1.1~\u0661-\u0662", "none of its 2 nodes"),
+    ("net=\u0660.0_1.1~1-2", "a place is X.Y"),
+    ("net=1e5.0", "a place is X.Y"),
+    ("net=9999999.0", "a place is X.Y"),
+    ("net=x", "a place is X.Y"),
+    ("net=0.0%5F1.1~1-2", "a place is X.Y"),
+    ("example=../x", "no example"),
+    ("example=path\0", "no example"),
+    ("example=path&net=0.0", "one of them"),
+    ("example=path&example=two", "two networks"),
+    (f"{TWO}&dare=apart&dare=wrong", "dare (it is there twice)"),
+    (f"{TWO}&dare=apart&steps", ""),
+    (f"{TWO}&Dare=apart", "Dare=apart (an address has no such name)"),
+    (f"{TWO}&__proto__=1", "no such name"),
+    (f"{TWO}&dare=constructor", "dare=constructor"),
+    (f"{TWO}&program=layers&root=3", "there is no node 3"),
+    (f"{TWO}&root=0", "there is no node 0"),
+    (f"{TWO}&root=-1", "no whole number"),
+    (f"{TWO}&root=\u0661", "no whole number"),
+    (f"{TWO}&root={'9' * 5000}", "no whole number"),
+    (f"{TWO}&program=recolouring&passes=65", "1 to 64"),
+    (f"{TWO}&passes=0", "1 to 64"),
+    (f"{TWO}&program=x.py", "there are colouring"),
+    (f"{TWO}&at=1e3", "a number from 0"),
+    (f"{TWO}&at=NaN", "a number from 0"),
+    (f"{TWO}&forest=1", "a number from 0 to 0"),
+    (f"{TWO}&steps=1-2_x", "`x` is no step"),
+    (f"{TWO}&steps=\u0661", "is no step"),
+    (f"{TWO}&steps=1-2-3-4", "is no step"),
+    (f"{TWO}&steps={'1_' * 6001}", "6,001 steps"),
+    (f"{TWO}&without=fifo,fifo", "a rule is there twice"),
+    (f"{TWO}&without=toString", "there is no rule toString"),
+    (f"{TWO}&broken=bars", "there is no rule bars"),
+    (f"{TWO}&program=recolouring&broken=bars", ""),
+    (f"{TWO}&slow=1-3", "there is no link 1-3"),
+    (f"{TWO}&plan=1_2_3", "3 channels, and there are 2 nodes"),
+    (f"{TWO}&plan=10000", "0 to 9,999"),
+    (f"{TWO}&seed=%", "stands for no letter"),
+    (f"{TWO}&seed=", ""),
+    (f"{TWO}&other=newest.1.5", ""),
+    (f"{TWO}&other=oldests.1", "there are random"),
+    (f"{TWO}&lesson=9", "1 to 8"),
+    (f"{TWO}&node=1.5&tab=rounds", "`1.5` is no whole number"),
+    (f"{TWO}&tab=check&plan=1-2", "`1-2` is no whole number"),
+    (f"{TWO}&tab=pictures&kind=x", "there are plan"),
+    ("lesson=0x1", "`0x1` is no whole number"),
+    ("lesson=1&step=-1", "`-1` is no whole number"),
+    ("lecture=1e0", "`1e0` is no whole number"),
+    ("net=0.0_1.1~1.5-2", "none of its 2 nodes"),
+    ("net=0.0_1.1~1-2-9", "a wrong edge"),
+    (f"net={'_'.join(['0.0'] * 401)}", "at most 400 nodes, and here are 401"),
+    (f"{TWO}&lesson=9&tab=draw", "1 to 8"),
+    ("x=" * 2_000_000, "at most 2,097,152 letters"),
+    ("&".join(f"x{n}=1" for n in range(99)), "and 94 more"),
+)
 
 
 def stored():
@@ -168,7 +261,15 @@ def read_back(place):
     return found[0], {name: value for name, value in found[1].items() if name != "net"}
 
 
-class Addresses(Case):
+def spoiled(source, place):
+    """An address in which some letters are others, or are gone."""
+    for _ in range(source.randint(1, 3)):
+        at = source.randrange(len(place) + 1)
+        place = place[:at] + source.choice(("", *SPOILS)) + place[at + source.randint(0, 2) :]
+    return place
+
+
+class Writes(Case):
     def written(self, states):
         """(address, network's code) of each, by the page's own module."""
         need(self, "node")
@@ -179,6 +280,8 @@ class Addresses(Case):
         self.same("node writes them", (status, errors), (0, b""))
         return json.loads(out)
 
+
+class Addresses(Writes):
     def test_written_and_read(self):
         """Random states are written by the page's module and read back: every name that the page can write."""
         source = random.Random(SEED)
@@ -220,70 +323,7 @@ class Addresses(Case):
 
     def test_refused(self):
         """What no page writes is refused with the reason, however it is written."""
-        for place, said in (
-            ("net=0.0_1.1~1-2~i1-1x7~b1-zz", "the identifier of node 1 is `1x7`"),
-            ("net=0.0_1.1~1-2~b1-zz", "`zz` is barred"),
-            ("net=0.0_1.1~1-2~b1-0", "`0` is barred"),
-            ("net=0.0_1.1~1-2~b1-2049", "`2049` is barred"),
-            ("net=0.0_1.1~1-2~b1--3", "`-3` is barred"),
-            ("net=0.0_1.1~1-2~i1-7_1-8", "node 1 has two identifiers"),
-            ("net=0.0_1.1~1-2~i1-7~i2-8", "are there twice"),
-            ("net=0.0_1.1~1-2~x1-7", "mean nothing"),
-            ("net=0.0_1.1~1-2~", "mean nothing"),
-            ("net=0.0_1.1~1-2~b1-3_1-3", "barred twice"),
-            ("net=0.0_1.1~1-2~n1-%E0", "stands for no letter"),
-            ("net=0.0_1.1~1-2~n1-%zz", "stands for no letter"),
-            ("net=0.0_1.1~1-2~n1-a_1-b", "two names"),
-            ("net=0.0_1.1~1-2_2-1", "twice"),
-            ("net=0.0_1.1~1-1", "a wrong edge"),
-            ("net=0.0_1.1~1-3", "a wrong edge"),
-            ("net=0.0_1.1~0-1", "none of its 2 nodes"),
-            ("net=0.0_1.1~\u0661-\u0662", "none of its 2 nodes"),
-            ("net=\u0660.0_1.1~1-2", "a place is X.Y"),
-            ("net=1e5.0", "a place is X.Y"),
-            ("net=9999999.0", "a place is X.Y"),
-            ("net=x", "a place is X.Y"),
-            ("net=0.0%5F1.1~1-2", "a place is X.Y"),
-            ("example=../x", "no example"),
-            ("example=path\0", "no example"),
-            ("example=path&net=0.0", "one of them"),
-            ("example=path&example=two", "two networks"),
-            (f"{TWO}&dare=apart&dare=wrong", "dare (it is there twice)"),
-            (f"{TWO}&dare=apart&steps", ""),
-            (f"{TWO}&Dare=apart", "Dare=apart (an address has no such name)"),
-            (f"{TWO}&__proto__=1", "no such name"),
-            (f"{TWO}&dare=constructor", "dare=constructor"),
-            (f"{TWO}&program=layers&root=3", "there is no node 3"),
-            (f"{TWO}&root=0", "there is no node 0"),
-            (f"{TWO}&root=-1", "no whole number"),
-            (f"{TWO}&root=\u0661", "no whole number"),
-            (f"{TWO}&root={'9' * 5000}", "no whole number"),
-            (f"{TWO}&program=recolouring&passes=65", "1 to 64"),
-            (f"{TWO}&passes=0", "1 to 64"),
-            (f"{TWO}&program=x.py", "there are colouring"),
-            (f"{TWO}&at=1e3", "a number from 0"),
-            (f"{TWO}&at=NaN", "a number from 0"),
-            (f"{TWO}&forest=1", "a number from 0 to 0"),
-            (f"{TWO}&steps=1-2_x", "`x` is no step"),
-            (f"{TWO}&steps=\u0661", "is no step"),
-            (f"{TWO}&steps=1-2-3-4", "is no step"),
-            (f"{TWO}&steps={'1_' * 6001}", "6,001 steps"),
-            (f"{TWO}&without=fifo,fifo", "a rule is there twice"),
-            (f"{TWO}&without=toString", "there is no rule toString"),
-            (f"{TWO}&broken=bars", "there is no rule bars"),
-            (f"{TWO}&program=recolouring&broken=bars", ""),
-            (f"{TWO}&slow=1-3", "there is no link 1-3"),
-            (f"{TWO}&plan=1_2_3", "3 channels, and there are 2 nodes"),
-            (f"{TWO}&plan=10000", "0 to 9,999"),
-            (f"{TWO}&seed=%", "stands for no letter"),
-            (f"{TWO}&seed=", ""),
-            (f"{TWO}&other=newest.1.5", ""),
-            (f"{TWO}&other=oldests.1", "there are random"),
-            (f"{TWO}&lesson=9", "1 to 8"),
-            (f"{TWO}&lesson=9&tab=draw", "1 to 8"),
-            ("x=" * 2_000_000, "at most 2,097,152 letters"),
-            ("&".join(f"x{n}=1" for n in range(99)), "and 94 more"),
-        ):
+        for place, said in REFUSED:
             with self.subTest(place[:100]):
                 try:
                     opened_by(place, Session()).address.refuse()
@@ -304,6 +344,53 @@ class Addresses(Case):
         self.same("a lesson's place", (values.tab, values.without), ("adversary", "safes"))
         values = opened_by(f"{TWO}&tab=check&lesson=6", Session()).address.values
         self.same("another place", (values.tab, values.without), ("check", None))
+
+
+class Recorded(Writes):
+    """A published page has no server that reads its addresses. What it reads itself is what the studio reads, and no
+    more: an address may come from anybody."""
+
+    def read(self, places):
+        """What the page says of each, in this order; None if it refuses it."""
+        need(self, "node")
+        shutil.copy(os.path.join(PAGE, "recorded_address.js"), self.file("reader.mjs", ""))
+        examples = {name: opened_by(f"example={name}", OPEN).network for name in SHOWN}
+        asked = {"places": places, "examples": examples, "hello": hello(HelloCall(), OPEN, tell)}
+        data = json.dumps(asked, default=as_object).encode()
+        status, out, errors = called(shutil.which("node"), self.file("r.mjs", READER), data=data)
+        self.same("node reads them", (status, errors), (0, b""))
+        return json.loads(out)
+
+    def wanted(self, place):
+        """What the studio's own call says of an address; None if it refuses it."""
+        try:
+            opened = opened_by(place, OPEN)
+        except Fault:
+            return None
+        is_read = not opened.address.unread
+        network = opened.network and (len(opened.network.nodes), opened.network.edges)
+        return json.loads(json.dumps([network, opened.address.values, is_read], default=as_object))
+
+    def same_as_studio(self, places):
+        for place, found in zip(places, self.read(places), strict=True):
+            if found:
+                net, values, unread = (found[name] for name in ("network", "values", "unread"))
+                self.note(f"{place[:100]!a}: one line", len(unread) < 500, unread)
+                found = [net and [len(net["nodes"]), net["edges"]], values, not unread]
+            self.same(f"{place[:100]!a}", found, self.wanted(place))
+
+    def test_refused(self):
+        """Without real threads `how=threads` isn't read, and by a row of names only the first five are named."""
+        self.same_as_studio([place for place, _ in REFUSED])
+        self.same("threads", self.read([f"{TWO}&tab=run&how=threads"])[0]["unread"], "how=threads")
+
+    def test_spoiled(self):
+        """Addresses of random states, and of the stored ones, with some letters changed."""
+        source = random.Random(SEED)
+        states = [random_state(source) for _ in range(STATES // 4)]
+        written = [place for place, _ in self.written(states)]
+        places = [spoiled(source, place) for place in written * 4]
+        self.same_as_studio([place for place in places if "threads" not in place])
 
 
 class Links(Case):
@@ -343,7 +430,7 @@ class Links(Case):
             (f"#{TWO}&dare=apart\u2028", ""),
             ("#" + "&" * 2_000_000, "it has no dare"),
             ("#net=" + "1.1_" * 500_000 + "&dare=apart", "a place is X.Y"),
-            ("#net=" + "_".join(["1.1"] * 500_000) + "&dare=apart", "more than 20000 nodes"),
+            ("#net=" + "_".join(["1.1"] * 500_000) + "&dare=apart", "at most 400 nodes"),
             ("#net=" + "_".join(["1.1"] * 401) + "~&dare=apart", "at most 400 nodes"),
             ("#net=~&dare=apart", "no node yet"),
             ("\ud800#dare=apart", "it has no network"),

@@ -1,6 +1,6 @@
 // The calls of a published page: it asks no server, since their answers were recorded (lab/studio/recording.py). They are
 // in pieces, each a script that is loaded when an answer is looked for in it. This module takes the place of api.js.
-import {netOf, opens, valuesOf} from "./recorded_address.js";
+import {opened} from "./recorded_address.js";
 import {dareOf, foundBy, played, waitedFor, withSteps} from "./recorded_runs.js";
 
 export const token = "published";
@@ -147,12 +147,10 @@ async function steps(asked) {
 // What an address opens. It is read here, as the page writes it; `lab/studio/address.py` is the command's.
 /** @param {AddressCall} asked @returns {Promise<FoundAddress>} */
 async function address({place, nodes, edges}) {
-  const {hello} = RECORDED, pairs = opens(place, hello), code = pairs.get("net");
-  const net = code === undefined ? null : netOf(code), example = pairs.get("example");
-  if (code !== undefined && !net) throw new Wrong("the network of this address can’t be read");
-  const network = example ? await call("example", {name: example}, {key: "example of an address"}) : net;
-  const here = network ? {nodes: network.nodes.length, edges: network.edges} : {nodes: nodes || 0, edges: edges || []};
-  return {network, ...valuesOf(pairs, hello, here)};
+  const found = await opened(place, RECORDED.hello, {nodes: nodes || 0, edges: edges || []},
+    name => call("example", {name}, {key: "example of an address"}));
+  if (!found) throw new Wrong("this address can’t be read: nobody has written it by this page, or it was cut");
+  return found;
 }
 // The text of a sample, if the page hasn't got it already.
 /** @param {FileCall} asked @returns {Promise<FileText>} */
