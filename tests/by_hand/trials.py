@@ -18,34 +18,36 @@ from tests.by_hand.copies import MOST_BUSY, Copy, tests_in
 # little and reach much. Before all of them come those that are called as the module that is changed.
 TESTS: dict[str, dict[str, str]] = {
     "lab": {
-        "programs": "endings sheets simulate plain_networks codes calls declared own_networks commands stated "
-        "transcripts"
+        "programs": "endings sheets simulate argument_bytes plain_networks codes calls declared own_networks commands "
+        "stated transcripts program_files"
     },
     "definitions": {
-        "programs": "sheets refused_inboxes program_files plain_networks simulate sequels own_algorithms"
+        "programs": "sheets refused_inboxes program_files events plain_networks simulate file_attacks reacting sequels "
+        "own_algorithms node_programs"
     },
     "networks": {
-        "programs": "reading codes declared sites written plain_networks addresses calls own_networks stated"
+        "programs": "reading codes declared plans sites written plain_networks addresses calls own_networks stated "
+        "written_elsewhere hostile"
     },
     "transcripts": {
-        "programs": "payloads transcript_to simulate transcripts hostile",
+        "programs": "payloads transcript_to simulate transcripts reacting hostile",
         "workshop": "transcripts",
     },
     "schedules": {
-        "programs": "refused_inboxes simulate sequels schedules own_algorithms",
+        "programs": "refused_inboxes simulate events sequels reacting schedules own_algorithms",
         "pictures": "schedules",
         "workshop": "policies",
     },
     "pictures": {
-        "pictures": "maps layout results why watch broken runs schedules film pictures",
-        "programs": "sheets studio",
+        "pictures": "maps layout marks results why watch broken runs schedules film pictures",
+        "programs": "sheets reacting studio",
         "workshop": "pictures",
     },
     "workshop": {
-        "workshop": "cases words calls policies command visible memory sandbox transcripts nodes misbehaving "
-        "skeletons grade forgers"
+        "workshop": "cases words report calls policies command visible memory sandbox transcripts nodes misbehaving "
+        "skeletons grade forgers reach attacks"
     },
-    "studio": {"programs": "addresses calls studio"},
+    "studio": {"programs": "addresses calls studio_states studio_reactions studio"},
     "python": {"programs": "in_python old_python install"},
 }
 # The first letters of the names of a module and of its tests.
