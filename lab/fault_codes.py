@@ -5,6 +5,11 @@ from enum import Enum, auto
 class Code(Enum):
     """What is wrong."""
 
+    # As `Enum` does, which looks at all codes before each one.
+    @staticmethod
+    def _generate_next_value_(name: str, start: int, count: int, last_values: list[int]) -> int:
+        return start + count
+
     # texts of networks, in the DIMACS format
     NO_LINE_OF_A_NETWORK = auto()
     SECOND_PROBLEM_LINE = auto()

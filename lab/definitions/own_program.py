@@ -30,7 +30,6 @@ import random
 import re
 import signal
 import sys
-import threading
 import traceback
 import unicodedata
 from functools import partial
@@ -150,6 +149,9 @@ def end_call(*_: object) -> None:
 @contextlib.contextmanager
 def limited() -> Iterator[None]:
     """Ends what takes too long, where a signal can do that."""
+    # Only who has a file pays for what the import takes.
+    import threading
+
     if threading.current_thread() is not threading.main_thread():
         yield
         return

@@ -2,7 +2,6 @@
 are named, and writes what it found, or one line on standard error."""
 from argparse import ArgumentParser, Namespace
 import argparse
-import json
 import sys
 from collections import Counter
 from collections.abc import Collection, Iterable, Iterator
@@ -172,7 +171,7 @@ def main(words: list[str]) -> int:
         found = networks_found(given)
     else:
         found = rounds_found(given) if asks_for_rounds(given) else schedules_found(given)
-    write(given, json.dumps(found._asdict()) + "\n" if given.json else found.words)
+    write(given, as_json(found) if given.json else found.words)
     return int(found.broken)
 
 
@@ -244,6 +243,13 @@ def networks_found(given: Namespace) -> Found:
         raise Fault(Code.NO_FUNCTION_RIGHT, program=given.program)
     is_right, words = verdict_on_many(program, given.networks, given.seed, given.connected)
     return Found(not is_right, words)
+
+
+def as_json(found: Found) -> str:
+    # Only this option pays for what the import takes.
+    import json
+
+    return json.dumps(found._asdict()) + "\n"
 
 
 # The schedules.
@@ -361,9 +367,8 @@ def whole_text(given: Namespace, name: str, space: AlphaSpace) -> str:
         if given.without
         else f"every schedule of {name}"
     )
-    schedules = (
-        "" if space.reduce or space.schedules is None else f", {rounded(space.schedules)} schedules"
-    )
+    count = None if space.reduce else space.schedules
+    schedules = "" if count is None else f", {rounded(count)} schedules"
     pulses = sum(node.pulse for node in space.nodes(space.ends[0]).values())
     rest = space.depth[space.ends[0]] - pulses
     apart = counted(space.farthest, "pulse")

@@ -54,10 +54,11 @@ Place = tuple[int, int | None]
 
 
 class Move(NamedTuple):
-    """An event that is possible: its number, the number of the node's value after it or None, the link that it takes
-    from or None, the number of what that holds then, the messages that go on links, and what goes wrong.
-    """
+    """An event that is possible: the place of its node among the vertices, its number, the number of the node's value
+    after it or None, the link that it takes from or None, the number of what that holds then, the messages that go on
+    links, and what goes wrong."""
 
+    node: int
     event: int
     value: int | None
     link: int | None
@@ -193,7 +194,8 @@ class Space(Generic[AnySearched]):
         v, node, moves = self.vertices[a], self.locals[a][i], []
         if node.may_act():
             j, gone, fault = self.act(a, i)
-            moves.append(Move(self.events.number(Event(node.own, v)), j, None, 0, gone, fault))
+            e = self.events.number(Event(node.own, v))
+            moves.append(Move(a, e, j, None, 0, gone, fault))
         for p, (w, c) in enumerate(zip(self.ports[v], arriving)):
             wires = self.contents[c]
             for place in range(len(wires) if "fifo" in self.without else min(1, len(wires))):
@@ -201,7 +203,7 @@ class Space(Generic[AnySearched]):
                 taken = Event(Kind.TAKE, v, p, self.wires[wires[place]], place)
                 e = self.events.number(taken)
                 rest = self.contents.number(wires[:place] + wires[place + 1 :])
-                moves.append(Move(e, j, self.slot[w, v], rest, gone, fault))
+                moves.append(Move(a, e, j, self.slot[w, v], rest, gone, fault))
         return moves, self.alone(moves)
 
     def alone(self, moves: list[Move]) -> Move | None:
@@ -248,10 +250,10 @@ class Space(Generic[AnySearched]):
         """The moves of a node in a state, and which is made alone."""
         return self.moves_of(a, state[a], *[state[k] for k in self.arriving[a]])
 
-    def moved(self, state: State, a: int, value: int, move: Move) -> State:
-        """The state after a move of a node, which then has a value."""
+    def moved(self, state: State, value: int, move: Move) -> State:
+        """The state after a move, whose node then has a value."""
         after = list(state)
-        after[a] = value
+        after[move.node] = value
         if move.link is not None:
             after[move.link] = move.rest
         return self.with_all(after, move.gone)
@@ -259,21 +261,21 @@ class Space(Generic[AnySearched]):
     def expand(self, s: int) -> None:
         """Notes the steps of a state, and the new states that they lead to."""
         state = self.states[s]
-        possible: list[tuple[int, Move]] = []
+        possible: list[Move] = []
         for a in range(len(self.vertices)):
             moves, alone = self.moves_in(state, a)
             if alone:
-                possible = [(a, alone)]
+                possible = [alone]
                 break
-            possible += [(a, move) for move in moves]
-        for a, move in possible:
+            possible += moves
+        for move in possible:
             if move.fault:
                 self.faults[s, len(self.target) - self.first[s]] = move.fault
             self.event_of.append(move.event)
             if move.value is None:
                 self.target.append(REFUSED)
             else:
-                after = self.moved(state, a, move.value, move)
+                after = self.moved(state, move.value, move)
                 self.target.append(self.reached(after, s, move.event))
         self.first.append(len(self.target))
         if not possible:
@@ -397,4 +399,4 @@ class Space(Generic[AnySearched]):
         """The state after an event, which stays as it is if a node refuses that; and the messages that go on links."""
         a = self.vertices.index(event.node)
         move = next(move for move in self.moves_in(state, a)[0] if self.events[move.event] == event)
-        return state if move.value is None else self.moved(state, a, move.value, move), move.gone
+        return state if move.value is None else self.moved(state, move.value, move), move.gone
