@@ -69,9 +69,7 @@ class ReactingStepwise(ByHand[ReactingNode]):
             return str(why)
         if not self.refused:
             return None
-        return (
-            f"`always` refuses the state after {counted(len(self.chosen), 'step')}: {self.refused}"
-        )
+        return refused_words(counted(len(self.chosen), "step"), self.refused)
 
     def said_by_always(self) -> str:
         """What isn't right in this state, by the file's `always`."""
@@ -96,6 +94,11 @@ class ReactingStepwise(ByHand[ReactingNode]):
             if name not in HIDDEN and name not in given:
                 where = f"`{name}` of the node of identifier {node.id}"
                 yield name, call(self.program.file.path, where, in_python, value)
+
+
+def refused_words(steps: str, why: str) -> str:
+    """What is said of a state that `always` refuses."""
+    return f"`always` refuses the state after {steps}: {why}"
 
 
 def in_python(value: object) -> str:

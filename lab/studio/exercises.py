@@ -27,6 +27,8 @@ from lab.words import counted, in_words
 Goal = Callable[[ExerciseCall, Session, Tell], ExerciseJudged]
 # Nodes of a row that is long; and in how many steps a wrong inbox is to be reached: no list has fewer (lesson 6).
 LONG, FEWEST = 100, 5
+# What is said of a run without rounds that isn't where it has to be.
+NO_END, TRUE_HERE = "something can still happen", "`always` is true here"
 
 
 def exercise_judged(call: ExerciseCall, session: Session, tell: Tell) -> ExerciseJudged:
@@ -203,23 +205,32 @@ def reactions_played(call: ExerciseCall, session: Session) -> ReactingStepwise:
     return player
 
 
-def has_results(wanted: Mapping[int, str], is_end: bool = False) -> Goal:
+@dataclass(frozen=True)
+class HasResults:
     """Results that some nodes have to have, at an end or anywhere."""
 
-    def judge(call: ExerciseCall, session: Session, _tell: Tell) -> ExerciseJudged:
+    wanted: Mapping[int, str]
+    is_end: bool = False
+
+    def __call__(self, call: ExerciseCall, session: Session, _tell: Tell) -> ExerciseJudged:
         player = reactions_played(call, session)
         results = player.results
-        lacking = [v for v, words in wanted.items() if results.get(v) != words]
+        lacking = [v for v, words in self.wanted.items() if results.get(v) != words]
         if lacking:
             v = lacking[0]
-            said = f"node {v} has {results[v]}" if v in results else f"there is no node {v}"
+            said = has_words(v, results[v]) if v in results else f"there is no node {v}"
             return ExerciseJudged(False, said)
-        if is_end and not player.is_ended:
-            return ExerciseJudged(False, "something can still happen")
-        has = in_words([f"node {v} has {words}" for v, words in wanted.items()])
-        return ExerciseJudged(True, f"{has}, after {counted(len(player.chosen), 'step')}")
+        if self.is_end and not player.is_ended:
+            return ExerciseJudged(False, NO_END)
+        return ExerciseJudged(True, self.done_words(counted(len(player.chosen), "step")))
 
-    return judge
+    def done_words(self, steps: str) -> str:
+        has = in_words([has_words(v, words) for v, words in self.wanted.items()])
+        return f"{has}, after {steps}"
+
+
+def has_words(v: int, result: str) -> str:
+    return f"node {v} has {result}"
 
 
 def refused_state(call: ExerciseCall, session: Session, _tell: Tell) -> ExerciseJudged:
@@ -227,7 +238,7 @@ def refused_state(call: ExerciseCall, session: Session, _tell: Tell) -> Exercise
     player = reactions_played(call, session)
     if player.refused:
         return ExerciseJudged(True, player.refused)
-    return ExerciseJudged(False, "`always` is true here")
+    return ExerciseJudged(False, TRUE_HERE)
 
 
 # What judges the exercises that are done in the studio, by the lesson and the name.
@@ -242,7 +253,7 @@ GOALS: dict[tuple[int, str], Goal] = {
     (6, "pulse"): first_pulse,
     (6, "apart"): Dared("apart"),
     (6, "wrong"): Dared("wrong", FEWEST),
-    (8, "tree"): has_results({1: "counts 3", 2: "counts 2"}, is_end=True),
-    (8, "later"): has_results({1: "asks", 3: "inside"}),
+    (8, "tree"): HasResults({1: "counts 3", 2: "counts 2"}, is_end=True),
+    (8, "later"): HasResults({1: "asks", 3: "inside"}),
     (8, "coins"): refused_state,
 }

@@ -21,6 +21,8 @@ OWN_DARES = {
         "reach an end with other results than if what has been possible for longest always comes first",
     ),
 }
+# How the dares that are about an end stand before it.
+NO_END = DareJudged(False, "this is no end: something can still happen")
 # The end of that order is looked for among so many entries.
 MOST_ENTRIES = 20_000
 
@@ -43,32 +45,42 @@ def own_dare_judged(
         refused = refused or player.refused
     count = counted(len(player.chosen), "step")
     if dare == "always":
-        said = f"`always` says: {refused}" if refused else "`always` is true so far"
-        return DareJudged(bool(refused), f"{said}, in {count}")
+        return DareJudged(bool(refused), always_words(refused, count))
     if not player.is_ended:
-        why = (
-            "a function of the file has failed" if player.is_over else "something can still happen"
+        return (
+            DareJudged(False, "this is no end: a function of the file has failed")
+            if player.is_over
+            else NO_END
         )
-        return DareJudged(False, f"this is no end: {why}")
+    return end_judged(network, program, player.results, dare, count)
+
+
+def always_words(refused: str, count: str) -> str:
+    said = f"`always` says: {refused}" if refused else "`always` is true so far"
+    return f"{said}, in {count}"
+
+
+def end_judged(
+    network: Network, program: Reacting, results: dict[int, str], dare: str, count: str
+) -> DareJudged:
+    """Whether an end with these results wins a dare that is about an end."""
     if dare == "right":
-        wrong = what_is_wrong(network, program.file, player.results)
+        wrong = what_is_wrong(network, program.file, results)
         said = f"`right` says: {wrong}" if wrong else "`right` is true at this end"
         return DareJudged(bool(wrong), f"{said}, in {count}")
     try:
         usual = usual_end(network, program)
     except Fault as why:
         return DareJudged(False, f"in that order there is no end: {why}")
-    return other_judged(player, usual, count)
+    return other_judged(results, usual, count)
 
 
-def other_judged(player: ReactingStepwise, usual: dict[int, str], count: str) -> DareJudged:
-    differs = [v for v, words in player.results.items() if words != usual[v]]
+def other_judged(results: dict[int, str], usual: dict[int, str], count: str) -> DareJudged:
+    differs = [v for v, words in results.items() if words != usual[v]]
     if not differs:
         return DareJudged(False, "the results are the same as in that order")
     v = differs[0]
-    return DareJudged(
-        True, f"node {v} has {player.results[v]}, and {usual[v]} in that order, in {count}"
-    )
+    return DareJudged(True, f"node {v} has {results[v]}, and {usual[v]} in that order, in {count}")
 
 
 def usual_end(network: Network, program: Reacting) -> dict[int, str]:

@@ -7,7 +7,7 @@ from collections.abc import Mapping, Sequence
 from dataclasses import dataclass, field
 
 from lab.pictures.page_data import Look
-from lab.studio.answers import BadPlan, DareJudged, ExerciseJudged, GoodPlan
+from lab.studio.answers import BadPlan, DareJudged, ExerciseJudged, FileSays, GoodPlan, Reacted
 
 # Letters that no text has.
 STEPS, MOST, SAID = "\ue000", "\ue001", "\ue002"
@@ -33,12 +33,13 @@ class LocalRow:
 
 @dataclass(frozen=True)
 class OneState:
-    """A state of a node: the number of its look, and of what it waits for; its next pulse, if it can make it; what the
-    wires lead to that come to it, by their numbers; and those that change nothing."""
+    """A state of a node: the number of its look, and of what it waits for, if it runs under the synchroniser; its own
+    next step, if it can make it; what the wires lead to that come to it, by their numbers; and those that change
+    nothing."""
 
     look: int
     waits: int
-    pulse: LocalRow | None
+    own: LocalRow | None
     takes: Mapping[int, LocalRow]
     same: Sequence[int]
 
@@ -83,6 +84,34 @@ class AllRuns:
 
 
 @dataclass(frozen=True)
+class EndSaid:
+    """An end with some results: what the file's `right` says of it, if the file has that, and how the dares stand that
+    are about an end."""
+
+    right: FileSays | None
+    dares: Mapping[str, DareJudged]
+
+
+@dataclass(frozen=True)
+class AllReactions:
+    """All runs of a network whose nodes react to messages: `always` is what the file's `always` refuses, and `ends` are
+    the ends, by the results of the nodes with a line for each. `refused` and `kept` are said of the dare of `always`,
+    and `fault` of a state that it refuses; `no_end` is how the other dares stand where something can still happen.
+    """
+
+    overtakes: bool
+    nodes: Sequence[OneNode]
+    looks: Sequence[Reacted]
+    always: Mapping[str, str] | None
+    ends: Mapping[str, EndSaid]
+    dares: Sequence[str]
+    kept: str
+    refused: str
+    fault: str
+    no_end: DareJudged
+
+
+@dataclass(frozen=True)
 class AllVerdicts:
     """The verdicts on all plans of a network, by what each is about: for each node those on its channels, and on any
     greater channel; on a node without a channel; on two neighbours alike; and on a proper plan by its greatest channel.
@@ -120,6 +149,20 @@ class StepsJudged:
 
 
 @dataclass(frozen=True)
+class ReactionsJudged:
+    """An exercise on a run of nodes that react to messages: the results that some nodes have to have, and what is said
+    of each that has another one; what is said if it has to be an end, and is none; and what is said when it is done.
+    Or, without results, that `always` has to refuse the state: what is said as long as it doesn't.
+    """
+
+    results: Mapping[int, str]
+    lacks: Mapping[int, str]
+    unfinished: str
+    done: str
+    kept: str
+
+
+@dataclass(frozen=True)
 class PlanJudged:
     """An exercise on a typed plan: what is said of a proper one with so many channels, and of so many nodes without
     one."""
@@ -144,8 +187,10 @@ class Piece:
     answers: dict[str, int] = field(default_factory=dict)
     values: list[Kept] = field(default_factory=list)
     runs: dict[str, AllRuns] = field(default_factory=dict)
+    reactions: dict[str, AllReactions] = field(default_factory=dict)
     verdicts: dict[str, AllVerdicts] = field(default_factory=dict)
     questions: dict[str, Explained] = field(default_factory=dict)
     said: dict[str, SaidJudged] = field(default_factory=dict)
     steps: dict[str, StepsJudged] = field(default_factory=dict)
+    reacted: dict[str, ReactionsJudged] = field(default_factory=dict)
     plans: dict[str, PlanJudged] = field(default_factory=dict)

@@ -13,7 +13,9 @@ from dataclasses import MISSING, dataclass, fields, is_dataclass, replace
 from itertools import combinations
 
 from lab.definitions.nodes import COLOURING
+from lab.definitions.own_program import what_is_wrong
 from lab.definitions.programs import PROGRAMS
+from lab.definitions.reacting import Reacting
 from lab.definitions.rounds import Rounds
 from lab.faults import Fault
 from lab.folders import TOP
@@ -21,23 +23,30 @@ from lab.network import Network
 from lab.networks.verdicts import Verdict
 from lab.pictures.page_data import Look, Net, NetNode, as_object
 from lab.pictures.program_rounds import ProgramRounds
-from lab.schedules.rules import OF_PROGRAMS, OF_SCHEDULES
+from lab.schedules.reacting_stepwise import refused_words
+from lab.schedules.rules import OF_LINKS, OF_PROGRAMS, OF_SCHEDULES
 from lab.studio import dares
 from lab.studio.address import pairs_of, program_named
-from lab.studio.answers import BadPlan, Broken, ExerciseJudged, GoodPlan, Values
-from lab.studio.asked import network_asked, program_asked
+from lab.studio.answers import BadPlan, Broken, ExerciseJudged, FileSays, GoodPlan, Reacted, Values
+from lab.studio.asked import either_program_asked, network_asked, program_asked
 from lab.studio.calls import CALLS
 from lab.studio.exercises import (
     GOALS,
+    NO_END,
+    TRUE_HERE,
     Dared,
+    HasResults,
     blank_words,
     exercise_judged,
     first_pulse,
     first_pulse_after,
+    has_words,
     proper,
     proper_words,
+    refused_state,
 )
 from lab.studio.lessons import LECTURE, LESSONS, SaidExercise, SeenExercise, step_place, steps_in
+from lab.studio.local_reactions import LocalReactions
 from lab.studio.local_states import OWN_STEP, LocalState, LocalStates, LocalStep, TooMany
 from lab.studio.messages import (
     BrokenCall,
@@ -53,14 +62,17 @@ from lab.studio.messages import (
     WhyCall,
 )
 from lab.studio.networks import opened_by
+from lab.studio.own_dares import NO_END as NO_END_YET, always_words, end_judged, own_dares_of
 from lab.studio.predictions import found_after, waited
 from lab.studio.recorded import (
     MOST,
     SAID,
     STEPS,
+    AllReactions,
     AllRuns,
     AllVerdicts,
     DareGoal,
+    EndSaid,
     Explained,
     Kept,
     LocalRow,
@@ -68,6 +80,7 @@ from lab.studio.recorded import (
     OneState,
     Piece,
     PlanJudged,
+    ReactionsJudged,
     SaidJudged,
     StepsJudged,
 )
@@ -181,7 +194,7 @@ class OnPage:
 
 
 class Recording:
-    """The answers, by their pieces. `missing` are the exercises that the page can't judge."""
+    """The answers, by their pieces."""
 
     def __init__(self, session: Session, places: Sequence[Spot] | None = None) -> None:
         self.session = session
@@ -189,7 +202,6 @@ class Recording:
         self.pieces: dict[str, Piece] = {}
         self.known: set[str] = set()
         self.examples: set[str] = set()
-        self.missing: list[str] = []
         self.now = Piece()
         self.numbers: dict[str, dict[str, int]] = {}
         self.name = ""
@@ -241,6 +253,9 @@ class Recording:
             self.every_tab(on)
         if on.program in self.session.own:
             self.ask(FileCall(own=on.program))
+            for count in range(len(OF_LINKS) + 1):
+                for rules in combinations(OF_LINKS, count):
+                    self.all_reactions(on, rules)
         else:
             OF_TABS[values.tab or "draw"](self, on, values)
         if spot.lesson:
@@ -355,6 +370,20 @@ class Recording:
         goals = {dare: goal_of(network, rules, dare, found) for dare in dares.DARES}
         self.now.runs[key] = all_runs_of(found, goals, dares.results_of(network, program))
 
+    def all_reactions(self, on: OnPage, rules: tuple[str, ...]) -> None:
+        """The runs of nodes that react to messages, if they are few and no function of their file fails."""
+        network = on.network()
+        key = f"steps {bare(on.text)}{on.program} {','.join(sorted(rules))}"
+        program = either_program_asked(
+            OfProgram(network=on.text, program=on.program), network, self.session
+        )
+        if not isinstance(program, Reacting) or not self.is_new(key):
+            return
+        try:
+            self.now.reactions[key] = reactions_of(LocalReactions(network, program, rules).find())
+        except TooMany:
+            return
+
     def check(self, on: OnPage, _values: Values) -> None:
         self.verdicts(on)
 
@@ -397,8 +426,16 @@ class Recording:
                 self.now.steps[key] = StepsJudged("", None, "", *said)
             elif isinstance(goal, Dared):
                 self.now.steps[key] = StepsJudged(goal.dare, goal.most, goal.enough(), None, None)
-            elif on.program in self.session.own:
-                self.missing.append(key)
+            elif isinstance(goal, HasResults):
+                self.now.reacted[key] = ReactionsJudged(
+                    goal.wanted,
+                    {v: has_words(v, MOST) for v in goal.wanted},
+                    NO_END if goal.is_end else "",
+                    goal.done_words(STEPS),
+                    "",
+                )
+            elif goal is refused_state:
+                self.now.reacted[key] = ReactionsJudged({}, {}, "", MOST, TRUE_HERE)
             else:
                 self.drawn_exercise(call, on)
 
@@ -529,6 +566,58 @@ def all_runs_of(
         results=results,
         ends=(dares.NOT_HALTED, dares.SAME_RESULTS, dares.OTHER_RESULTS),
     )
+
+
+def reactions_of(found: LocalReactions) -> AllReactions:
+    """The table of the states of nodes that react to messages."""
+    looks: dict[str, tuple[int, Reacted]] = {}
+    nodes = [one_node(found, v, looks) for v in found.network.vertices]
+    always = {by_lines(results): wrong for results, wrong in sorted(found.always.items())}
+    return AllReactions(
+        overtakes="fifo" in found.without,
+        nodes=nodes,
+        looks=[look for _, look in looks.values()],
+        always=always if "always" in found.program.file.functions else None,
+        ends={by_lines(results): end_said(found, results) for results in sorted(found.ends)},
+        dares=own_dares_of(found.program),
+        kept=always_words("", STEPS),
+        refused=always_words(MOST, STEPS),
+        fault=refused_words(STEPS, MOST),
+        no_end=NO_END_YET,
+    )
+
+
+def one_node(found: LocalReactions, v: int, looks: dict[str, tuple[int, Reacted]]) -> OneNode:
+    """A node, whose looks are added to those that are known."""
+    states = found.found[v]
+    keys = dict.fromkeys(key for one in states for key in one.rows if key != OWN_STEP)
+    numbers = {key: k for k, key in enumerate(keys)}
+    rows = []
+    for one in states:
+        words = json.dumps(one.look, default=as_object)
+        look, _ = looks.setdefault(words, (len(looks), one.look))
+        own = one.rows.get(OWN_STEP)
+        takes = {numbers[key]: row_of(row) for key, row in one.rows.items() if key != OWN_STEP}
+        rows.append(OneState(look, 0, row_of(own) if own else None, takes, ()))
+    return OneNode(found.network.neighbours[v], found.starts[v], list(numbers), rows)
+
+
+def end_said(found: LocalReactions, results: tuple[str, ...]) -> EndSaid:
+    """What is said of an end with these results."""
+    network, program = found.network, found.program
+    by_node = dict(zip(network.vertices, results))
+    wrong = what_is_wrong(network, program.file, by_node)
+    has_right = "right" in program.file.functions
+    judged = {
+        dare: end_judged(network, program, by_node, dare, STEPS)
+        for dare in own_dares_of(program)
+        if dare != "always"
+    }
+    return EndSaid(FileSays(not wrong, wrong) if has_right else None, judged)
+
+
+def by_lines(results: tuple[str, ...]) -> str:
+    return "\n".join(results)
 
 
 def row_of(row: LocalStep) -> LocalRow:

@@ -12,31 +12,37 @@ import signal
 import subprocess
 import sys
 import tempfile
+import threading
 import time
-from collections.abc import Iterator, Mapping
+from collections.abc import Iterator, Mapping, Sequence
+from functools import partial
+from http.server import SimpleHTTPRequestHandler, ThreadingHTTPServer
 from typing import Any
 from unittest import mock
 
+from lab.definitions.programs import any_program_at
+from lab.definitions.reacting import Reacting
 from lab.faults import Fault
 from lab.networks.network_text import read_network
 from lab.pictures.page_data import as_object
+from lab.schedules.reacting_stepwise import ReactingStepwise
 from lab.schedules.stepwise import Stepwise
 from lab.studio import publishing, studio
 from lab.studio.calls import CALLS
-from lab.studio.lessons import LESSONS, SeenExercise
+from lab.studio.lessons import LESSONS, SaidExercise
 from lab.studio.recording import spots, tell, text_of_page
 from lab.studio.networks import opened_by
+from lab.studio.own_dares import own_dares_of
 from lab.studio.session import Session
 from lab.studio.studio import own_programs
 from tests import TOP, browser
 from tests.cases import Case, text_in, working_in
-from tests.pages.test_studio_lessons import APART, Cards, TICKED, WRONG, steps
+from tests.pages.test_studio_lessons import APART, COINS, Cards, LATER, TICKED, TREE, WRONG, steps
 from tests.tools import need
 
 # Bytes of the page, compressed.
 MOST = 3 << 20
-# The lessons that are gone through whole on the published page: of lesson 8 it has no runs.
-WHOLE = range(1, 8)
+WHOLE = range(1, len(LESSONS) + 1)
 # Plays lessons 4 and 7 alone, and says a digest of each file.
 DIGESTS = """
 import hashlib, sys
@@ -74,6 +80,13 @@ def plain(name: str, found: Any) -> Any:
     if name != "broken" or "wrong" in found:
         return found
     return {"answer": found["answer"] | {"picture": bool(found["answer"]["picture"])}}
+
+
+class Quiet(SimpleHTTPRequestHandler):
+    """A web server that says nothing."""
+
+    def log_message(self, format: str, *args: object) -> None:
+        """Says nothing."""
 
 
 class Folder(Case):
@@ -329,8 +342,6 @@ class Published(Cards):
         self.open()
         self.go_to("lesson=1")
         for number, k, step in steps():
-            if number not in WHOLE:
-                break
             self.step_to(number, k)
             self.reads("no fault", "wrong.textContent", "")
             if step.exercise:
@@ -342,18 +353,10 @@ class Published(Cards):
         self.go_to("lesson=1")
         self.step_to(1, 1)
         ticks = self.value("Array.from(lesson.querySelectorAll('.all a'), one => one.textContent)")
-        self.same("ticks", ticks[:7], [f"{n}✓" for n in WHOLE])
+        self.same("ticks", ticks, [f"{n}✓" for n in WHOLE])
 
     def test_where_nothing_is_kept(self) -> None:
         """What the page does then is the studio's matter (test_studio_lessons.py)."""
-
-    def test_without_the_studio(self) -> None:
-        """The lesson whose runs aren't recorded says that it needs the studio, and how to start it."""
-        self.go_to("lesson=8")
-        self.step_to(8, 1)
-        self.sees("said", "wrong.textContent.includes('forestlab studio')")
-        exercises = [step.exercise for step in LESSONS[7].steps]
-        self.note("it has others", any(isinstance(one, SeenExercise) for one in exercises))
 
     def test_size(self) -> None:
         files = dict(self.files())
@@ -456,6 +459,54 @@ class Published(Cards):
             more = {"lesson": lesson, "step": step}
             got, wanted = self.asked("exercise", **asked, **more), answer("exercise", asked | more)
             self.same(f"exercise {lesson} {step}", got, wanted)
+
+    def test_reactions(self) -> None:
+        """The same of nodes that react to messages: after steps by chance, also where messages overtake others, and of
+        what a node sends next; the lists of lesson 8 do its exercises."""
+        source = random.Random("reactions")
+        own, _ = own_programs([])
+        for name, sample, rules, made in (
+            ("triangle", "echo", "", TREE),
+            ("triangle", "exclusion", "", LATER),
+            ("triangle", "exclusion", "fifo", ""),
+            ("two", "snapshot", "fifo", COINS),
+            ("two", "snapshot", "", ""),
+        ):
+            place = opened_by(f"example={name}", Session())
+            program = any_program_at(own[sample])
+            assert place.network and isinstance(program, Reacting)
+            text = text_of_page(place.network)
+            lists = [made.split("_")] if made else []
+            for _ in range(4):
+                player = ReactingStepwise(
+                    read_network(text, name), program, rules.split(",") if rules else ()
+                )
+                for _ in range(source.randrange(1, 30)):
+                    if steps := player.possible():
+                        player.follow([source.choice(steps)])
+                lists += [player.chosen, player.chosen[: len(player.chosen) // 2]]
+            for one in lists:
+                asked: dict[str, object] = {
+                    "network": text,
+                    "program": sample,
+                    "without": rules,
+                    "steps": "_".join(one),
+                }
+                self.reactions_as_in_the_studio(asked, own_dares_of(program))
+
+    def reactions_as_in_the_studio(self, asked: dict[str, object], dares: Sequence[str]) -> None:
+        for dare in ("", *dares):
+            more = asked | {"dare": dare} if dare else asked
+            got, wanted = self.asked("steps", **more), answer("steps", more)
+            self.same(f"{more}", got, wanted)
+        assert isinstance(wanted, dict)
+        for step in wanted["steps"]:
+            for said in ("nothing", "wave 3", "echo 1, wave 3"):
+                more = asked | {"step": step, "said": said}
+                self.same(f"{more}", self.asked("sends", **more), answer("sends", more))
+        for step in (2, 5, 6):
+            more = asked | {"lesson": 8, "step": step}
+            self.same(f"{more}", self.asked("exercise", **more), answer("exercise", more))
 
     def test_plans(self) -> None:
         """The verdict on a typed plan, and on the exercise, is that of the studio."""
@@ -568,6 +619,116 @@ class Published(Cards):
             self.note(
                 name, isinstance(said, dict) and "forestlab studio" in str(said.get("wrong")), said
             )
+
+    def test_with_a_finger_over_http(self) -> None:
+        """From a web server, below a path, on a phone: the first two lessons are done by taps alone, and nothing is
+        asked for that isn't there."""
+        quiet = partial(Quiet, directory=self.folder)
+        server = ThreadingHTTPServer(("127.0.0.1", 0), quiet)
+        threading.Thread(target=server.serve_forever, daemon=True).start()
+        self.addCleanup(server.server_close)
+        self.addCleanup(server.shutdown)
+        offline, usual = self.address, {
+            "latency": 0,
+            "downloadThroughput": -1,
+            "uploadThroughput": -1,
+        }
+        self.page.ask("Network.emulateNetworkConditions", offline=False, **usual)
+        self.page.size(360, 740, phone=True)
+        type(self).address = f"http://127.0.0.1:{server.server_port}/a%20folder/page/"
+        self.addCleanup(self.back_to, offline)
+        self.open()
+        self.value("localStorage.removeItem('studio-ticks')")
+        self.open()
+        self.tap_on("#welcome a.primary")
+        for number, k, step in steps():
+            if number > 2:
+                break
+            self.step_to(number, k)
+            if step.exercise:
+                self.do_with_a_finger(number, step.exercise)
+                self.ticked(f"{number} {step.exercise.name}")
+            self.tap_on("#lesson [data-way=on]")
+        self.step_to(3, 1)
+        self.reads("nothing is wider", "document.documentElement.scrollWidth", 360)
+        self.same("nothing is missing", self.page.faults, [])
+
+    def back_to(self, address: str) -> None:
+        type(self).address = address
+        self.page.size(1280, 800)
+        usual = {"latency": 0, "downloadThroughput": 0, "uploadThroughput": 0}
+        self.page.ask("Network.emulateNetworkConditions", offline=True, **usual)
+        self.open()
+
+    def tap_on(self, selector: str) -> None:
+        """Taps an element where it is seen, below the drawing that stays; what isn't seen there can't be tapped."""
+        found = f"document.querySelector({json.dumps(selector)})"
+        self.sees(selector, f"{found} && {found}.getClientRects().length", 20)
+        self.value(f"{found}.scrollIntoView({{block: 'center'}})")
+        place = self.value(
+            f"(() => {{ const b = {found}.getBoundingClientRect(), x = b.x + b.width / 2, y = b.y + b.height / 2; "
+            f"const on = document.elementFromPoint(x, y); return on && ({found}.contains(on) || on.contains({found})) "
+            "? [x, y] : null; })()"
+        )
+        self.note(f"{selector} is under the finger", place, self.value("scrollY"))
+        if place:
+            self.page.tap(*place)
+
+    def tap_node(self, v: int) -> None:
+        self.value("scrollTo(0, 0)")
+        self.page.tap(*self.at(v))
+
+    def write(self, selector: str, words: str) -> None:
+        """Taps a field, and types with the keys of the phone."""
+        self.tap_on(selector)
+        self.sees(
+            "has the focus",
+            f"document.activeElement === document.querySelector({json.dumps(selector)})",
+            20,
+        )
+        self.value("document.activeElement.select()")
+        self.page.ask("Input.insertText", text=words)
+
+    def join_by_taps(self, *pairs: tuple[int, int]) -> None:
+        for v, w in pairs:
+            before = self.value("studio.net.edges.length")
+            self.tap_node(v)
+            self.sees(f"{v} is chosen", f"studio.seen.node === {v}", 20)
+            self.tap_node(w)
+            self.sees(f"{v} and {w}", f"studio.net.edges.length !== {before}", 20)
+
+    def do_with_a_finger(self, lesson: int, exercise: object) -> None:
+        name = getattr(exercise, "name")
+        if isinstance(exercise, SaidExercise) and exercise.picks:
+            self.tap_on(
+                f"#lesson form button:nth-of-type({exercise.picks.index(exercise.right) + 1})"
+            )
+        elif isinstance(exercise, SaidExercise):
+            self.write("#lesson form input", exercise.right)
+            self.tap_on("#lesson form button")
+        elif name == "proper":
+            for v, channel in enumerate((2, 3, 1, 2, 1, 3, 2, 2, 1, 3), 1):
+                while self.value(f"studio.check.plan[{v - 1}]") != channel:
+                    self.tap_node(v)
+        elif name == "row":
+            self.value("scrollTo(0, 0)")
+            x, y, wide, high = self.value(
+                "(b => [b.x, b.y, b.width, b.height])(net.getBoundingClientRect())"
+            )
+            for k in range(1, 5):
+                self.page.tap(x + k * wide / 5, y + high * (0.3 if k % 2 else 0.6))
+                self.sees("a node", f"studio.net.nodes.length === {k}", 20)
+            self.join_by_taps((3, 1), (1, 4), (4, 2))
+        elif name == "two":
+            self.join_by_taps((1, 2), (3, 4), (1, 3), (2, 4))
+        elif name == "long":
+            self.value("make.querySelector('[name=nodes]').value = '400'")
+            self.tap_on("#make button")
+        else:
+            self.sees("the field", "document.querySelector('#chosen input[inputmode=numeric]')")
+            self.page.until("busy.hidden && studio.drawn.fresh", 20)
+            self.write("#chosen input[inputmode=numeric]", "0")
+            self.page.key("Enter", code="Enter", windowsVirtualKeyCode=13, text="\r")
 
     def test_narrow(self) -> None:
         """Nothing is wider than a phone."""

@@ -508,7 +508,7 @@ interface LocalRow {
 interface OneState {
   look: number;
   waits: number;
-  pulse: LocalRow | null;
+  own: LocalRow | null;
   takes: Record<number, LocalRow>;
   same: number[];
 }
@@ -539,6 +539,24 @@ interface AllRuns {
   ends: [DareJudged, DareJudged, DareJudged];
 }
 
+interface EndSaid {
+  right: FileSays | null;
+  dares: Record<string, DareJudged>;
+}
+
+interface AllReactions {
+  overtakes: boolean;
+  nodes: OneNode[];
+  looks: Reacted[];
+  always: Record<string, string> | null;
+  ends: Record<string, EndSaid>;
+  dares: string[];
+  kept: string;
+  refused: string;
+  fault: string;
+  no_end: DareJudged;
+}
+
 interface AllVerdicts {
   of: Record<number, BadPlan>[];
   above: BadPlan[];
@@ -563,6 +581,14 @@ interface StepsJudged {
   after: ExerciseJudged | null;
 }
 
+interface ReactionsJudged {
+  results: Record<number, string>;
+  lacks: Record<number, string>;
+  unfinished: string;
+  done: string;
+  kept: string;
+}
+
 interface PlanJudged {
   proper: string[];
   blank: string[];
@@ -577,9 +603,11 @@ interface Piece {
   answers: Record<string, number>;
   values: Kept[];
   runs: Record<string, AllRuns>;
+  reactions: Record<string, AllReactions>;
   verdicts: Record<string, AllVerdicts>;
   questions: Record<string, Explained>;
   said: Record<string, SaidJudged>;
   steps: Record<string, StepsJudged>;
+  reacted: Record<string, ReactionsJudged>;
   plans: Record<string, PlanJudged>;
 }

@@ -1,7 +1,9 @@
 // The calls of a published page: it asks no server, since their answers were recorded (lab/studio/recording.py). They are
 // in pieces, each a script that is loaded when an answer is looked for in it. This module takes the place of api.js.
 import {opened} from "./recorded_address.js";
-import {dareOf, foundBy, played, waitedFor, withSteps} from "./recorded_runs.js";
+import {exerciseOf, playedReactions, reactionsFound, sentIn} from "./recorded_reactions.js";
+import {dareOf, foundBy, played, waitedFor} from "./recorded_runs.js";
+import {withSteps} from "./recorded_steps.js";
 
 export const token = "published";
 export class Wrong extends Error {}
@@ -76,9 +78,12 @@ async function kept(name, asked) {
   return answer;
 }
 /** @param {{network: string, program?: string | null, without?: string | null}} asked */
-async function runsOf({network, program, without}) {
-  const key = `steps ${bare(network)}${program || "colouring"} ${(without || "").split(",").sort().join()}`;
-  return must(await find(piece => piece.runs[key]));
+async function runsOf(asked) { return must(await find(piece => piece.runs[keyOfRuns(asked)])); }
+/** @param {{network: string, program?: string | null, without?: string | null}} asked */
+async function reactionsOf(asked) { return must(await find(piece => piece.reactions[keyOfRuns(asked)])); }
+/** @param {{network: string, program?: string | null, without?: string | null}} asked */
+function keyOfRuns({network, program, without}) {
+  return `steps ${bare(network)}${program || "colouring"} ${(without || "").split(",").sort().join()}`;
 }
 /** @param {string | null | undefined} steps */
 function stepsIn(steps) { return (steps || "").split("_").filter(Boolean); }
@@ -100,8 +105,12 @@ async function checked({network, plan}) {
 /** @param {ExerciseCall} asked @returns {Promise<ExerciseJudged>} */
 async function exercise(asked) {
   const {lesson, step, network} = asked, key = `exercise ${lesson} ${step}`;
-  const own = await find(piece => piece.said[key] || piece.plans[key] || piece.steps[key]);
+  const own = await find(piece => piece.said[key] || piece.plans[key] || piece.steps[key] || piece.reacted[key]);
   if (!own) return /** @type {ExerciseJudged} */ (await kept("exercise", {lesson, step, network}));
+  if ("lacks" in own) {
+    const runs = await reactionsOf(asked);
+    return exerciseOf(runs, must(playedReactions(runs, stepsIn(asked.steps)) || undefined), own);
+  }
   return "right" in own ? judgedSaid(own, asked) : "blank" in own ? judgedPlan(own, asked) : judgedSteps(own, asked);
 }
 /** @param {PlanJudged} is @param {ExerciseCall} asked @returns {Promise<ExerciseJudged>} */
@@ -135,14 +144,29 @@ async function predict({network, program, vertex, pulse, forest, said}) {
 /** @param {WaitsCall} asked @returns {Promise<Predicted>} */
 async function waits(asked) {
   const runs = await runsOf(asked), at = must(played(runs, stepsIn(asked.steps)) || undefined);
-  const {found, why} = waitedFor(runs, at, asked.vertex), said = String(asked.said).split(",").map(small).filter(Boolean).sort().join(", ");
+  return judgedList(waitedFor(runs, at, asked.vertex), asked.said);
+}
+// Whether all of a list is said, with commas between; of none it is `nothing`.
+/** @param {Explained} is @param {unknown} answer @returns {Predicted} */
+function judgedList({found, why}, answer) {
+  const said = String(answer).split(",").map(small).filter(Boolean).sort().join(", ");
   return {right: said === (found || "nothing") || !found && !said, found: found || "nothing", why};
 }
-/** @param {StepsCall} asked @returns {Promise<StepsFound>} */
+/** @param {SendsCall} asked @returns {Promise<Predicted>} */
+async function sends(asked) {
+  const runs = await reactionsOf(asked), at = must(playedReactions(runs, stepsIn(asked.steps)) || undefined);
+  return judgedList(must(sentIn(runs, at, asked.step) || undefined), asked.said);
+}
+/** @param {StepsCall} asked @returns {Promise<StepsFound | ReactionsFound>} */
 async function steps(asked) {
   if (asked.list !== null && asked.list !== undefined) throw new Wrong(NO_ANSWER);
-  const runs = await runsOf(asked), at = must(played(runs, stepsIn(asked.steps)) || undefined);
-  return foundBy(runs, at, asked);
+  const {hello} = RECORDED, made = stepsIn(asked.steps);
+  if (hello.own[asked.program || ""] === "reactions") {
+    const runs = await reactionsOf(asked);
+    return reactionsFound(runs, must(playedReactions(runs, made) || undefined), asked);
+  }
+  const runs = await runsOf(asked);
+  return foundBy(runs, must(played(runs, made) || undefined), asked);
 }
 // What an address opens. It is read here, as the page writes it; `lab/studio/address.py` is the command's.
 /** @param {AddressCall} asked @returns {Promise<FoundAddress>} */
@@ -159,7 +183,7 @@ async function fileText({own, seen}) {
   return is.version === seen ? {version: is.version} : is;
 }
 /** @type {Record<string, (asked: any) => Promise<unknown>>} */
-const ANSWERS = {address, file_text: fileText, check: checked, exercise, predict, steps, waits};
+const ANSWERS = {address, file_text: fileText, check: checked, exercise, predict, sends, steps, waits};
 
 /** @type {Map<string, object>} */
 const running = new Map();

@@ -284,6 +284,8 @@ interface Drag {
   y: number;
   moved: {x: number, y: number} | null;
   key: string;
+  // Of the nodes when it began.
+  radius: number;
 }
 // What browsers have, and TypeScript 4.8 doesn't know.
 interface HTMLSelectElement { showPicker?(): void; }
@@ -326,3 +328,18 @@ interface OwnFile {
   fault: string;
 }
 interface Steps { made: string[]; found: StepsFound | ReactionsFound | null; without: string; predicts: boolean; dare: string; }
+
+// A table of runs of a published page, and a run on its way: `at` are the numbers of the nodes' states, and `wire` is what
+// was taken last.
+type TableOfRuns = AllRuns | AllReactions;
+interface Played {
+  made: string[];
+  at: number[];
+  links: Map<string, string[]>;
+  lines: string[];
+  entries: number;
+  said: string;
+  wire: string;
+  fault: string | null;
+  over: boolean;
+}
