@@ -3,8 +3,10 @@ waits for, what it keeps, and its channel. One run, or two of one network side b
 
 The page has no algorithm in it: what a node is after each entry is worked out here, by the slow definitions
 (lab/definitions/machine.py), and written into the page as rows. page/watch.js draws it."""
+import os
 from collections import deque
 from collections.abc import Iterator
+from dataclasses import replace
 from typing import NamedTuple
 
 from lab.definitions.events import Entry, Kind, Message
@@ -273,7 +275,7 @@ def draw(runs: list[Run]) -> str:
         net=net_of(network),
         last=first.last,
         pulses=pulses,
-        runs=[run.table() for run in runs],
+        runs=[replace(run.table(), name=name) for run, name in zip(runs, names_of_runs(runs))],
         same=[all(run.payloads(p) == first.payloads(p) for run in runs) for p in each],
         sent=[[(v, w, said) for v, w, said in first.payloads(p)] for p in each],
     )
@@ -299,4 +301,12 @@ def about(runs: list[Run], pulses: tuple[int, int]) -> str:
     if any(one.is_too_long for one in runs):
         said += f" A page shows at most {MOST_ENTRIES:,} entries of a run; --pulses A..B shows other pulses."
     cut = [one for one in runs if not one.is_whole and not one.is_cut]
-    return said + (f" {cut[0].name} ends before the nodes are through." if cut else "")
+    return said + (f" {names_of_runs(cut)[0]} ends before the nodes are through." if cut else "")
+
+
+def names_of_runs(runs: list[Run]) -> list[str]:
+    """What a page calls its runs: by their files, without the folders of the machine that they are on."""
+    names = [os.path.basename(run.name) for run in runs]
+    if len(set(names)) == len(names):
+        return names
+    return [f"{name} ({number})" for number, name in enumerate(names, 1)]

@@ -3,7 +3,7 @@ import {legend} from "./legend.js";
 import {ROUNDS_WORDS, RoundsFilm} from "./rounds.js";
 import {Stage} from "./stage.js";
 import {element, html} from "./marks.js";
-import {openPage} from "./time.js";
+import {followPlace, openPage} from "./time.js";
 
 const film = new RoundsFilm(D.film, D.net), stage = new Stage(element("net"), D.net);
 let forest = 0;
@@ -19,12 +19,13 @@ function show(at) {
   legend(element("legend"), [stage.svg], ROUNDS_WORDS);
   return `#pulse-${p}` + (forest ? `-forest-${forest}` : "");
 }
-function follow() {
-  const words = /^#pulse-(\d+)(?:-forest-(\d+))?$/.exec(location.hash);
+/** @param {string} place */
+function follow(place) {
+  const words = /^#pulse-(\d+)(?:-forest-(\d+))?$/.exec(place);
   if (words) forest = Math.min(+words[2] || 0, Math.max(0, film.forests - 1));
   time.set(words ? +words[1] : 0);
 }
 const time = openPage([stage], {show, follow, rate: () => 0.8, click(v) { chosen = v === chosen ? null : v; },
   step: way => time.set(way > 0 ? Math.floor(time.at + 1) : Math.ceil(time.at - 1))});
 time.range(0, film.last);
-follow();
+followPlace(time, follow);

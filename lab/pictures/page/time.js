@@ -65,6 +65,14 @@ export class Time {
     return true;
   }
 }
+// Follows the address of a page that stands alone. One that ends in `play` plays from there.
+/** @param {Time} time @param {(place: string) => unknown} follow */
+export function followPlace(time, follow) {
+  const {hash} = location, plays = /[#-]play$/.test(hash);
+  time.stop();
+  follow(hash.replace(/[#-]play$/, ""));
+  if (plays && !matchMedia("(prefers-reduced-motion: reduce)").matches) time.toggle();
+}
 // A page that stands alone: its slider, keys, clicks on nodes, and its address. `show(at)` returns the fragment.
 /** @param {Stage[]} stages @param {PageThatStandsAlone} page */
 export function openPage(stages, {show, follow, step, rate, click}) {
@@ -92,7 +100,7 @@ export function openPage(stages, {show, follow, step, rate, click}) {
     if (event.ctrlKey || event.altKey || event.metaKey || on.tagName === "SELECT") return;
     if (node && event.key === "Enter") { click(node); see(time.at); } else time.key(event);
   };
-  window.onhashchange = () => { if (location.hash !== linked) follow(); };
+  window.onhashchange = () => { if (location.hash !== linked) followPlace(time, follow); };
   new ResizeObserver(() => { stages.forEach(stage => stage.fit()); see(time.at); }).observe(element("stage"));
   return time;
 }

@@ -86,7 +86,7 @@ interface Watcher {
 }
 interface PageThatStandsAlone {
   show: (at: number) => string;
-  follow: () => void;
+  follow: (place: string) => void;
   step: (way: number) => unknown;
   rate: () => number;
   click: (v: number) => void;

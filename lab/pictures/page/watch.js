@@ -4,7 +4,7 @@ import {element, html, row} from "./marks.js";
 import {legend} from "./legend.js";
 import {RUN_WORDS, RunFilm, waitsTable} from "./run.js";
 import {Stage} from "./stage.js";
-import {openPage} from "./time.js";
+import {followPlace, openPage} from "./time.js";
 
 const films = D.runs.map(table => new RunFilm({table, last: D.last, pulses: D.pulses}, D.net)), two = films.length > 1;
 const stages = [element("net"), element("second")].slice(0, films.length).map(svg => new Stage(svg, D.net));
@@ -51,8 +51,9 @@ function step(way) {
   time.set(films[0].stepped(at, way, entry => (!only || / payload /.test(texts[entry[3]]))
     && (!chosen || entry[1] === chosen)));
 }
-function follow() {
-  const words = /^#(entry|pulse)-(\d+)(?:-node-(\d+))?$/.exec(location.hash), n = words ? +words[2] : 0;
+/** @param {string} place */
+function follow(place) {
+  const words = /^#(entry|pulse)-(\d+)(?:-node-(\d+))?$/.exec(place), n = words ? +words[2] : 0;
   const isPulse = words !== null && words[1] === "pulse", v = words ? Number(words[3] || 0) : 0;
   chosen = v <= D.net.nodes.length && v || null;
   if (two) time.set(isPulse ? n : D.pulses[0]);
@@ -74,4 +75,4 @@ const time = openPage(stages, {show, follow, step, rate: () => two ? 0.4 : 2.5,
 element("payloads").onchange = () => time.set(time.at);
 if (two) time.range(D.pulses[0], D.pulses[1] + 1);
 else time.range(...D.runs[0].stamps);
-follow();
+followPlace(time, follow);

@@ -4,7 +4,7 @@ import {legend} from "./legend.js";
 import {MESSAGES, hueOf, reactedMarks, reactedWords} from "./messages.js";
 import {firstOf, wireMark} from "./run.js";
 import {Stage, nameOf} from "./stage.js";
-import {openPage} from "./time.js";
+import {followPlace, openPage} from "./time.js";
 
 const {net, run} = D, picture = new Stage(element("net"), net);
 // Of each node its entries: how many are made before one, and the number of its look after it.
@@ -66,12 +66,13 @@ function step(way) {
   const stamp = run.rows[Math.min(next, run.rows.length) - 1][0];
   clock.set(way < 0 && at && stamp === run.rows[at - 1][0] ? stamp - 1 : stamp);
 }
-function follow() {
-  const found = /^#entry-(\d+)(?:-node-(\d+))?$/.exec(location.hash), n = found ? +found[1] : 0, v = found ? Number(found[2] || 0) : 0;
+/** @param {string} place */
+function follow(place) {
+  const found = /^#entry-(\d+)(?:-node-(\d+))?$/.exec(place), n = found ? +found[1] : 0, v = found ? Number(found[2] || 0) : 0;
   chosen = v <= net.nodes.length && v || null;
   clock.set(n && run.rows.length ? run.rows[Math.min(n, run.rows.length) - 1][0] : run.stamps[0]);
 }
 const clock = openPage([picture], {show, follow, step, rate: () => 2.5, click(v) { chosen = v === chosen ? null : v; }});
 element("second").toggleAttribute("hidden", true);
 clock.range(...run.stamps);
-follow();
+followPlace(clock, follow);
