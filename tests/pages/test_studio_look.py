@@ -1,5 +1,6 @@
 """How the studio's page looks and what it has where: its legend, its type, its head, the dark and the large mode, names
 of all controls; and what a question and a dare's card show."""
+import re
 import time
 from typing import get_args
 
@@ -25,6 +26,8 @@ DRAWN = "Array.from(new Set(Array.from(document.querySelectorAll('#net [data-mar
 NAMED = "Array.from(document.querySelectorAll('#legend [data-kind-of-mark]'), one => one.dataset.kindOfMark).sort()"
 # Two nodes, of which node 1 can make its pulse: it has taken the greeting, ack and safe of node 2.
 READY = "example=two&tab=adversary&node=1&steps=1-2_2-1_1-2_2-1_1-2"
+# One node, which has nothing to do but its pulses.
+HALTED = "net=0.0&tab=adversary&steps=" + "_".join(["1"] * 12)
 WON = "example=two&tab=adversary&without=safes&dare=wrong&steps=1-2_2-1_2-1_2_2"
 LONGER = "example=two&tab=adversary&without=safes&dare=wrong&steps=1-2_2-1_1-2_2-1_2_2"
 # Roles of what can be used.
@@ -68,6 +71,9 @@ class Look(Page):
         ):
             self.go_and_wait(place)
             self.same(place, self.value(NAMED), kinds)
+        # A message that another one comes before, or whose link waits, is dashed.
+        self.go_and_wait("example=two&tab=adversary&slow=1-2")
+        self.same("held", self.value(NAMED), ["await_ack", "held", "later", "payload", "pulse"])
         # Its height stays, so that the network stays where it is.
         heights = set()
         for at in (0, 5, 13, 48):
@@ -101,6 +107,20 @@ class Look(Page):
         self.value("predicts.click()")
         self.sees("no reason", f"{faded} === 0")
 
+    def test_before_the_lesson_that_says_why(self) -> None:
+        """In lesson 3 a chosen node has no marks of what decided its channel: lesson 4 says what these are."""
+        faded = (
+            "document.querySelectorAll('#net [data-mark=faded], #net [data-mark=ring_edge]').length"
+        )
+        place = "example=petersen&tab=rounds&at=2&forest=0&node=6"
+        self.go_and_wait(place)
+        self.sees("reasons", f"{faded} > 0 && why.getClientRects().length")
+        self.go_and_wait(place + "&lesson=3&step=1")
+        self.sees("the reasons are there", "studio.rounds.whyOf === 6")
+        self.sees("and not seen", f"{faded} === 0 && !why.getClientRects().length")
+        self.go_and_wait("lesson=4&step=3")
+        self.sees("in lesson 4 they are", "why.getClientRects().length")
+
     def test_dark(self) -> None:
         """In the dark no node is white, in any tab."""
         self.dark(True)
@@ -112,6 +132,11 @@ class Look(Page):
                 "[data-mark=blank]'), one => getComputedStyle(one).fill)"
             )
             self.note(f"{tab}: dark nodes", fills and set(fills) == {"rgb(23, 25, 28)"}, fills)
+        for place, kind in ((READY, "safe_node"), (HALTED, "done_node")):
+            self.go_and_wait(place)
+            fill = f"getComputedStyle(document.querySelector('#net [data-mark={kind}]')).fill"
+            light = max(map(int, re.findall(r"\d+", self.value(fill))))
+            self.note(f"{kind} is dark", light < 120, light)
 
     def test_phone(self) -> None:
         """A phone has the name of the page, and in a lesson more than half of it for what is read."""

@@ -97,6 +97,9 @@ def rows_of_a_look(variables: str) -> Iterator[tuple[str, str, float]]:
     del here["hair"]
     yield here["ink"], here.pop("chosen"), 4.5
     card = here.pop("card")
+    # The fills of nodes, whose rims are of ink.
+    for name in ("safe", "done"):
+        yield here["ink"], here.pop(name), 4.5
     for name in ("ink", "soft", "wrong", "good", "accent"):
         yield here[name], card, 4.5
     for name, hue in here.items():
@@ -488,6 +491,7 @@ class Drawn(Page):
         self.reads("and when it is let go", DRAWN, True)
         self.page.key("z", code="KeyZ", modifiers=2, windowsVirtualKeyCode=90)
         self.reads("undo takes a drag back in one step", place, before)
+        self.dropped_on_another()
         self.click_on("#zoomfit")
         self.click((3, 4))
         self.reads("an edge is chosen", "studio.seen.edge", [3, 4])
@@ -497,6 +501,22 @@ class Drawn(Page):
         self.page.go("about:blank")
         self.page.go(address)
         self.sees("a link shows the network", "window.studio && studio.net.edges.length === 4")
+
+    def dropped_on_another(self):
+        """A node that is let go on another one goes aside, and the drawing stays as large as it is."""
+        radius = self.value("studio.stage.radius")
+        here, there, before = self.at(1), self.at(3), self.value("studio.net.nodes[0].x")
+        self.page.mouse("mousePressed", *here)
+        for part in (0.3, 0.7, 1):
+            self.page.mouse("mouseMoved", *(a + part * (b - a) for a, b in zip(here, there)))
+        # Longer than it takes until it is asked how the network is drawn.
+        time.sleep(0.4)
+        self.page.mouse("mouseReleased", *there)
+        self.sees("as large as before", f"studio.stage.radius > {radius} - 1", 10)
+        away = "Math.hypot(studio.stage.X(1) - studio.stage.X(3), studio.stage.Y(1) - studio.stage.Y(3))"
+        self.sees("beside the other one", f"{away} > 2 * {radius}", 10)
+        self.value("document.getElementById('undo').click()")
+        self.sees("one step back", f"studio.net.nodes[0].x === {before}", 10)
 
     def test_rounds(self):
         self.go_to("example=petersen&tab=rounds&at=4&forest=0")

@@ -1,5 +1,5 @@
 // A run without a clock: rows that lab/pictures/watch_page.py has worked out of a transcript.
-import {PALE, INK, WIRES} from "./hues.js";
+import {WIRES} from "./hues.js";
 import {FADED, channelCircle, html, mark, pill, pillWidth, resultWords, row, words} from "./marks.js";
 import {nameOf} from "./stage.js";
 
@@ -41,17 +41,17 @@ export function queueMarks(stage, v, w, wires, look, of = OF_ALPHA) {
   const apart = Math.min(1 / Math.max(1, wires.length - 1), wide);
   return wires.map((said, place) => {
     const {free, ...more} = look(place);
-    return wireMark(stage, v, w, 1 - place * apart, said, isLong, {...more, opacity: free ? null : 0.6},
+    return wireMark(stage, v, w, 1 - place * apart, said, isLong, {...more, ...free ? {} : {opacity: 0.6, "data-mark": "later"}},
       {...of.look(said), "stroke-dasharray": free ? null : "3 2", "stroke-width": free ? 2 : 1.2}, of.shown(said, isLong));
   }).reverse();
 }
 // A node under the synchroniser: its pulse, what it awaits of whom and what it keeps, and what it has found.
 /** @param {Stage} stage @param {Look} is @param {number} v @param {number} x @param {number} y @param {number} r */
 export function alphaMarks(stage, is, v, x, y, r) {
-  const [fill, kind] = stageOf(is), ink = fill ? INK : "var(--ink)";
+  const [fill, kind] = stageOf(is);
   /** @type {Marks} */
-  const parts = [mark("circle", {cx: x, cy: y, r, fill: fill || "var(--paper)", stroke: "var(--ink)", "stroke-width": 1.6, "data-mark": kind}),
-    words(x, y, r * 0.9, ink, is.pulse, {"font-weight": "bold"})];
+  const parts = [mark("circle", {cx: x, cy: y, r, fill, stroke: "var(--ink)", "stroke-width": 1.6, "data-mark": kind}),
+    words(x, y, r * 0.9, "var(--ink)", is.pulse, {"font-weight": "bold"})];
   parts.push(...portMarks(stage, is, v, x, y, r));
   if (typeof is.found === "string") parts.push(...resultWords(x, y + r + 10, 11, is.found, stage.least));
   else if (is.found) parts.push(...channelCircle(x + 0.95 * r, y + 0.75 * r, Math.max(6, r * 0.5), is.found));
@@ -69,9 +69,9 @@ function portMarks(stage, is, v, x, y, r) {
       fill: isKept ? hue : "var(--paper)", stroke: hue, "stroke-width": 2, "data-mark": kind});
   });
 }
-// The fill of a node by its stage, or nothing, and which kind of mark that is.
+// The fill of a node by its stage, and which kind of mark that is.
 /** @param {Look} is @returns {[string, string]} */
-function stageOf(is) { return is.done ? [PALE.close, "done_node"] : is.safe ? [PALE.safe, "safe_node"] : ["", "pulse"]; }
+function stageOf(is) { return is.done ? ["var(--done)", "done_node"] : is.safe ? ["var(--safe)", "safe_node"] : ["var(--paper)", "pulse"]; }
 /** @param {OfNeighbour[]} list @returns {Map<number, string>} */
 function byNeighbour(list) { return new Map(list.map(([what, w]) => [w, what])); }
 /** @param {OfNeighbour[]} list */

@@ -128,6 +128,26 @@ export class Stage {
   /** @param {number} v @returns {number[]} */
   near(v) { return this.close[v - 1] || []; }
 
+  // Where a node that is let go on another one has room beside it, in the network: all nodes are as small as the two that
+  // are nearest to each other need. `radius` was that of the nodes before. Null if it has room where it is.
+  /** @param {number} v @param {number} radius @returns {{x: number, y: number} | null} */
+  roomBeside(v, radius) {
+    const near = 2 * radius + 8, x = this.X(v), y = this.Y(v), others = this.net.nodes.map((_, k) => k + 1).filter(w => w !== v);
+    /** @type {(x: number, y: number, far: number) => number | undefined} */
+    const onWhich = (x_, y_, far) => others.find(w => Math.hypot(this.X(w) - x_, this.Y(w) - y_) < far);
+    const w = onWhich(x, y, near);
+    if (w === undefined) return null;
+    const begin = Math.atan2(y - this.Y(w), x - this.X(w));
+    for (let k = 0; k < 48; k++) {
+      // To the left and to the right of where it came from, and then farther away.
+      const turn = Math.ceil((k % 12) / 2) * (k % 2 ? 1 : -1) * Math.PI / 6, far = this.apart * radius * (1.05 + Math.floor(k / 12));
+      const at = [this.X(w) + far * Math.cos(begin + turn), this.Y(w) + far * Math.sin(begin + turn)];
+      if (onWhich(at[0], at[1], this.apart * radius) === undefined) {
+        return {x: Math.round((at[0] - this.to.x) / this.to.scale), y: Math.round((at[1] - this.to.y) / this.to.scale)};
+      }
+    }
+    return null;
+  }
   // Edges that pass a third node too near are bent, as the network's data say.
   measure() {
     const {nodes, edges, bends} = this.net;

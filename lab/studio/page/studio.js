@@ -5,7 +5,7 @@ import {all, asks, by, endsOf, hello, hooks, inputs, option, say, seen, show, st
   wrong, zoomPicture} from "./base.js";
 import {askPlan, drawn, inspect, makeForm, openFile, save} from "./draw.js";
 import {check} from "./check.js";
-import {fillMenu, look, showCard, turns} from "./lessons.js";
+import {fillMenu, showCard, turns} from "./lessons.js";
 import {enterFile, reacts, watchFile} from "./own.js";
 import {rounds} from "./rounds_tab.js";
 import {run} from "./run_tab.js";
@@ -44,7 +44,7 @@ hooks.show = () => {
   by("legend").hidden = seen.tab === "pictures";
   const words = seen.tab === "adversary" && reacts() ? {ring_good: "it may act now: click it"} : LEGENDS[seen.tab];
   legend(by("legend"), [stage.svg, by("second")].filter(one => !one.hasAttribute("hidden")), words);
-  look();
+  showCard();
   hooks.link();
 };
 // What is seen is written into the address first: a change to the place that it still says would be none.
@@ -197,7 +197,8 @@ svg.onpointerdown = event => {
   svg.setPointerCapture(event.pointerId);
   if (fingers.size > 1) { drag = null; apart = spread(); return; }
   const v = stage.nodeAt(event, event.pointerType === "touch" ? 14 : 6);
-  drag = {v, step: stepAt(event), x: event.clientX, y: event.clientY, moved: null, key: "drag " + Date.now()};
+  drag = {v, step: stepAt(event), x: event.clientX, y: event.clientY, moved: null, key: "drag " + Date.now(),
+    radius: stage.radius};
 };
 svg.onpointermove = event => {
   if (fingers.has(event.pointerId)) fingers.set(event.pointerId, event);
@@ -233,7 +234,11 @@ svg.onpointerup = event => {
   const was = drag;
   drag = null;
   apart = null;
-  if (was && was.moved) show();
+  if (was && was.moved) {
+    const {v, key, radius} = was, place = v && seen.tab === "draw" ? stage.roomBeside(v, radius) : null;
+    if (v && place) change(n => { Object.assign(n.nodes[v - 1], place); }, key, "move");
+    show();
+  }
   fingers.delete(event.pointerId);
   if (!was || was.moved) return was && hooks.link();
   if (seen.tab !== "draw" && !net.nodes.length) return;
