@@ -664,6 +664,53 @@ class Cards(Page):
         self.reads("closed", "lesson.hidden", True)
         self.sees("and not in the address", "!/lesson/.test(location.hash)")
 
+    def test_only_looked_at(self) -> None:
+        """A step that asks something of an example lets nobody change it by a click; with the card closed, and where
+        the exercise is to change it, a click does."""
+        for place in ("lesson=1", "lesson=1&step=2", "lesson=2&step=3"):
+            self.go_to(place)
+            self.sees("its card", "lesson.textContent.includes('step ')")
+            box = self.value("(b => [b.x + 12, b.y + 12])(net.getBoundingClientRect())")
+            before = self.value("[studio.net.nodes.length, studio.net.edges.length]")
+            self.page.click(*box)
+            self.click(1)
+            self.sees("it is chosen", "studio.seen.node === 1")
+            self.click(2)
+            self.sees("the other one is", "studio.seen.node === 2")
+            self.press("a")
+            now = self.value("[studio.net.nodes.length, studio.net.edges.length]")
+            self.same(f"{place}: as it was", now, before)
+            self.sees("it is said", "hint.textContent.includes('stays as it is')")
+        self.click_on("#lesson .head button")
+        self.click(1)
+        self.sees(
+            "without the card they are joined or parted", f"studio.net.edges.length !== {before[1]}"
+        )
+        self.go_to("lesson=2&step=4")
+        self.step_to(2, 4)
+        self.click(1)
+        self.sees("a step to change it", "studio.net.edges.length === 7")
+
+    def test_cleared(self) -> None:
+        """Once the step's network is cleared its card only has its title and the way back, whatever is drawn then."""
+        shown = "Boolean(lesson.querySelector('.instruction').getClientRects().length)"
+        self.go_to("lesson=1&step=2")
+        self.step_to(1, 2)
+        self.reads("the instruction", shown, True)
+        self.value("document.getElementById('clear').click()")
+        self.sees("none any more", f"!{shown}")
+        for k in range(1, 3):
+            self.press("a")
+            self.sees("drawn on", f"studio.net.nodes.length === {k} && !{shown}")
+        self.click_on("#lesson button.away")
+        self.sees("it is there again", f"{shown} && studio.net.nodes.length === 10")
+        # A step whose exercise is a drawing keeps its card.
+        self.go_to("lesson=1&step=4")
+        self.step_to(1, 4)
+        self.press("a")
+        self.value("document.getElementById('clear').click()")
+        self.sees("it stays", f"{shown} && !studio.net.nodes.length")
+
     def test_a_question_in_its_card(self) -> None:
         """The tab's question is in the card of the step that it is the exercise of, and elsewhere in its panel; ↺ goes
         back to the beginning of the step."""
@@ -671,6 +718,10 @@ class Cards(Page):
         self.go_to("lesson=3&step=2")
         self.step_to(3, 2)
         self.reads("in the card", inside, [True, False])
+        self.type_in("#question input", "2")
+        self.sees("it is answered", "question.textContent.includes('✓ Yes: 2.')")
+        # The lesson leads on, and no other question.
+        self.reads("no next question", "question.querySelectorAll('.verdict button').length", 0)
         self.click_on("#next")
         self.sees("one pulse on", "studio.time.at === 3")
         self.click_on("#lesson [aria-label='this step from its beginning']")

@@ -43,7 +43,7 @@ function facts() {
     + ` of the ${is.allowed} allowed`), html("p", `${count(net.nodes.length, "node")}, `
     + `${count(net.edges.length, "edge")}, at most ${count(is.degree, "neighbour")}${bars}. Found in the rounds `
     + `(pulses) 0 to ${is.last}, by way of ${count(is.forests, "forest")}: lessons 2 to 4. `
-    + (hello().proved ? "The plan is that of the proved program plain." : "The plan is that of the definitions.")));
+    + (hello().proved ? "The proved program plain has written this plan." : "Python has worked this plan out: tested, not proved.")));
 }
 // Asks for the plan, a moment after the last change.
 export function askPlan() {
@@ -135,6 +135,7 @@ function remove() {
 }
 /** @param {number | null} v @param {Edge | null} edge @param {MouseEvent | KeyboardEvent} event */
 function click(v, edge, event) {
+  if (isOnlyLookedAt()) return choose(v === seen.node ? null : v);
   if (v && seen.node && v !== seen.node) {
     const from = seen.node;
     if (!event.shiftKey) seen.node = null;
@@ -144,6 +145,12 @@ function click(v, edge, event) {
   if (edge) return choose(null, isEdge(...edge) ? null : edge);
   if (seen.node || seen.edge) return choose(null);
   if (event instanceof MouseEvent) change(n => n.nodes.push({...stage.placeOf(event), id: "", name: "", bars: [], label: "", side: 2}));
+}
+// Whether a lesson's step asks something of an example that stays as it is: a click chooses a node there, and changes
+// nothing.
+function isOnlyLookedAt() {
+  const of = hello().lessons.find(one => one.number === seen.lesson), step = of && of.steps[(seen.step || 1) - 1];
+  return step !== undefined && net.example !== "" && step.tab === "draw" && (!step.exercise || step.exercise.kind !== "seen");
 }
 // A node where there is room: to the right of the last one, or in the middle.
 function addByKey() {
@@ -162,13 +169,13 @@ function key(event, on) {
     if (on || edge) Object.assign(seen, {node: on, edge: edge ? endsOf(edge) : null});
     remove();
   } else if (event.key === "Escape") choose(null);
-  else if (event.key.toLowerCase() === "a") addByKey();
+  else if (event.key.toLowerCase() === "a" && !isOnlyLookedAt()) addByKey();
   else return false;
   return true;
 }
 tabs.draw = {
   click, key, show: showPlan, link: () => ({}), follow: () => 0,
-  hint: () => seen.node ? "Click another node to join the two, or to part them; an empty place lets go."
+  hint: () => isOnlyLookedAt() ? "In this step the drawing stays as it is. Click a node to choose it." : seen.node ? "Click another node to join the two, or to part them; an empty place lets go."
     : net.nodes.length > 1 ? "Click a node, then another, to join them or to part them. Drag to move."
       : "Click to add a node.",
   enter() { inspect(); facts(); show(); },

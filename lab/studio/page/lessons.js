@@ -4,7 +4,7 @@ import {all, by, capital, hello, hooks, messageOf, option, programNamed, seen, t
 import {check} from "./check.js";
 import {isKept} from "./kept.js";
 import {coded, html} from "./marks.js";
-import {text} from "./model.js";
+import {net, text} from "./model.js";
 import {steps} from "./steps_tab.js";
 import {partsOf, textOf} from "./text.js";
 import {countOf, isDone, tick} from "./ticks.js";
@@ -55,10 +55,16 @@ function homeOf(id) {
   return () => { if (parentNode) parentNode.insertBefore(by(id), nextSibling); };
 }
 const HOMES = {question: homeOf("question"), question2: homeOf("question2")};
-// Whether another tab is seen than that of the step.
+// Whether another tab is seen than that of the step, or another network than the one that it speaks of.
 function isElsewhere() {
   const step = stepSeen();
-  return step !== undefined && step.tab !== seen.tab;
+  return step !== undefined && (step.tab !== seen.tab || isOther(step));
+}
+// What is drawn after *clear* has no name. A step whose exercise is done on the drawing lets it be changed.
+/** @param {LessonStep} step */
+function isOther({exercise}) {
+  const {steps: all_} = lessonSeen() || {steps: []}, place = all_.slice(0, seen.step || 1).map(one => one.place).filter(Boolean).pop() || "";
+  return place.startsWith("example=") && net.name === "" && !(exercise && exercise.kind === "seen");
 }
 /** @param {string} words @param {string} what */
 function head(words, what) {
@@ -220,7 +226,7 @@ export function fillMenu() {
   });
 }
 // Has what the page shows judged, if that is the exercise and it is something else than before.
-export function look() {
+function look() {
   const step = stepSeen(), {lesson} = seen, is = step && step.exercise;
   if (!lesson || !is || is.kind !== "seen" || time.timer || isDone(lesson, is)) return;
   const what = {network: text(), program: programNamed(), lesson, step: seen.step || 1, plan: check.plan,

@@ -74,8 +74,10 @@ export class Question {
       this.isTold = true;
       show();
       const verdict = right ? `✓ Yes: ${found}. ` : `✗ Not ${said}: ${found}. `;
-      this.say(right ? "good" : "bad", [verdict, reason, html("span", `${score.right} of ${score.asked} at the first try. `),
-        next]);
+      // In a lesson's step the lesson leads on.
+      const isOfStep = by(this.id).closest("#lesson") !== null;
+      this.say(right ? "good" : "bad", isOfStep ? [verdict, reason]
+        : [verdict, reason, html("span", `${score.right} of ${score.asked} at the first try. `), next]);
     };
     if (is.call === "sends") return asks("sends", {...is.asked, said}, "looking for the answer", told);
     return is.call === "waits" ? asks("waits", {...is.asked, said}, "looking for the answer", told)

@@ -61,7 +61,7 @@ function showAt() {
   if (!film) return false;
   const {node} = seen;
   // What decided a channel isn't on the network as long as something is asked.
-  const why = rounds.whyOf === node && !rounds.predicts ? rounds.why : null;
+  const why = rounds.whyOf === node && !hidesWhy() ? rounds.why : null;
   rounds.forest = Math.min(rounds.forest, Math.max(0, film.forests - 1));
   const isFirst = !by("welcome").hidden, p = film.draw(stage, time.at, {forest: rounds.forest, node, why, plain: isFirst});
   const [caption, told] = film.said(p, node), said = p === film.last ? endSaid(film, p, told) : told;
@@ -79,11 +79,17 @@ function showAt() {
   if (hasFocus) all("#forests button").slice(rounds.forest, rounds.forest + 1).forEach(one => one.focus());
   // What comes is seen when it is looked at.
   question.show();
-  by("why").hidden = rounds.predicts;
+  by("why").hidden = hidesWhy();
   const [box, parts] = node && film.forests && !rounds.predicts ? film.strips(p, node) : ["0 0 350 0", []];
   hide("strips", !parts.length);
   by("strips").setAttribute("viewBox", box);
   patch(by("strips"), parts);
+}
+// Why a node has its channel isn't said as long as something is asked, nor in a lesson before the one that says what it is.
+const LESSON_OF_WHY = 4;
+function hidesWhy() {
+  const {lesson, step} = seen, of = hello().lessons.find(one => one.number === lesson);
+  return rounds.predicts || of !== undefined && of.number < LESSON_OF_WHY && of.steps[(step || 1) - 1].tab === "rounds";
 }
 // Why the chosen node has its channel.
 async function askWhy() {
