@@ -180,7 +180,7 @@ class OfMerge:
     legend = (
         "Circle: the channel so far; square: the colour in this forest, with arrows to the parents, and pale at "
         "a node without an edge in it. Nodes choose in the order of their turns: the colour in this forest, and "
-        "with all rules the colour so far, too, which is the channel less 1."
+        "with all rules the merged colour, too, which is the channel less 1."
     )
 
     def __init__(self, *both: RuledRounds) -> None:

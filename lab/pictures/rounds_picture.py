@@ -113,7 +113,7 @@ def legend(svg: Svg, y: float, has_bars: object) -> None:
     svg.note(
         452,
         y + 4,
-        "K and J say whose turn it is: colour in the forest, colour so far (channel J + 1).",
+        "K and J say whose turn it is: colour in the forest, merged colour (channel J + 1).",
     )
 
 
@@ -232,7 +232,7 @@ class Strip:
                 self.choices_of(v, before.get(v), end)
 
     def step_heads(self) -> None:
-        """Pulse numbers, and the pair (colour in this forest, colour so far) whose turn it is."""
+        """Pulse numbers, and the pair (colour in this forest, merged colour) whose turn it is."""
         svg, before = self.svg, None
         svg.note(MERGES - 6, self.top + 36, "K", 9.5, "end")
         svg.note(MERGES - 6, self.top + 50, "J", 9.5, "end")

@@ -180,8 +180,9 @@ FORESTS = LessonSteps(
                     "a ring has an even number of nodes",
                 ),
                 hint="Walk along the arrows and look at the identifiers of the nodes that you come to.",
-                answer="Each arrow leads to a higher identifier. Whoever walks along arrows comes to higher and higher "
-                "identifiers, and never back.",
+                answer="Each arrow leads to a higher identifier. In one forest at most one arrow leaves each node, so "
+                "on a ring all arrows would lead the same way round. Whoever walks along them comes to higher and "
+                "higher identifiers, and never back.",
             ),
         ),
         TableStep(
@@ -297,7 +298,7 @@ MERGE = LessonSteps(
         TableStep(
             "example=triangle&tab=rounds&at=13",
             "The forests are merged one after the other. Below a node is its pair: the square is its colour in the "
-            "forest that is merged, and the number beside it is its colour so far, at first 0. The pairs have their "
+            "forest that is merged, and the number beside it is its *merged colour*, at first 0. The pairs have their "
             "turns one after another: (0, 0), then (0, 1), and so on. When it is a pair's turn, each node that has it "
             "takes the least channel that no neighbour in this forest, or in one merged before, has taken in this "
             "merge. Press *next change* below the network to go from choice to choice.",
