@@ -52,8 +52,8 @@ class Looked(Page):
         """Opens the page at a place."""
         self.page.go("about:blank")
         self.page.go(self.address + ("#" + place if place else ""))
-        self.page.until("window.studio && studio.seen.hello && !studio.isFollowing()", 40)
-        self.page.until("busy.hidden", 20)
+        self.page.until("window.studio && studio.seen.hello && !studio.isFollowing()", 400)
+        self.page.until("busy.hidden && !document.querySelector('.old')", 400)
         if look == "large":
             self.value("large.click()")
         time.sleep(1.2)
