@@ -20,6 +20,7 @@ from http.server import SimpleHTTPRequestHandler, ThreadingHTTPServer
 from typing import Any
 from unittest import mock
 
+from lab import programs
 from lab.definitions.programs import any_program_at
 from lab.definitions.reacting import Reacting
 from lab.faults import Fault
@@ -29,6 +30,7 @@ from lab.schedules.reacting_stepwise import ReactingStepwise
 from lab.schedules.stepwise import Stepwise
 from lab.studio import publishing, studio
 from lab.studio.calls import CALLS
+from lab.studio.judges import MACHINE, PYTHON
 from lab.studio.lessons import LESSONS, SaidExercise
 from lab.studio.recording import spots, tell, text_of_page
 from lab.studio.networks import opened_by
@@ -38,6 +40,7 @@ from lab.studio.studio import own_programs
 from tests import TOP, browser
 from tests.cases import Case, text_in, working_in
 from tests.pages.test_studio_lessons import APART, COINS, Cards, LATER, TICKED, TREE, WRONG, steps
+from tests.settings import PATHS
 from tests.tools import need
 
 # Bytes of the page, compressed.
@@ -738,6 +741,36 @@ class Published(Cards):
         for place in ("lesson=1&step=4", "lesson=5&step=4", "lesson=6&step=4", "lecture=2"):
             self.go_to(place)
             self.reads(place, "document.documentElement.scrollWidth", 360)
+
+
+class ByPrograms(Case):
+    """A page that is recorded with the built programs."""
+
+    def test_says_so(self) -> None:
+        """It says that the proved program wrote its plans, and its judge of runs is the proved machine."""
+        for tool in ("forestplan", "forestplay", "a browser"):
+            need(self, tool)
+        places = [
+            spot for spot in spots() if spot.piece == "first" or (spot.lesson, spot.step) == (5, 3)
+        ]
+        own, forms = own_programs([])
+        with mock.patch.object(programs, "program_file", PATHS.__getitem__):
+            files = publishing.published(Session(own=own, forms=forms, is_proved=True), places)
+        self.note("the judge", MACHINE.encode() in files["answers/lesson5.js"])
+        self.note("and no other one", PYTHON.encode() not in files["answers/lesson5.js"])
+        folder = tempfile.mkdtemp()
+        self.addCleanup(shutil.rmtree, folder, True)
+        for name, data in files.items():
+            path = os.path.join(folder, name)
+            os.makedirs(os.path.dirname(path), exist_ok=True)
+            with open(path, "wb") as file:
+                file.write(data)
+        page = browser.Browser(browser.command())
+        self.addCleanup(page.end)
+        page.go(f"file://{folder}/index.html")
+        said = "document.querySelector('#side .recorded').textContent"
+        wanted = "The proved program wrote its plans, and the proved machine accepted its runs."
+        self.note("it is said", page.until(f"window.studio && {said}.includes('{wanted}')", 60))
 
 
 del Cards
