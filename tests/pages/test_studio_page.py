@@ -39,9 +39,15 @@ SHOWN = (
     "example=triangle&tab=adversary&slow=1-3&dare=apart",
     "example=petersen&tab=check&plan=1_1",
     "example=petersen&tab=pictures&kind=rounds",
+    "lesson=1&step=3",
+    "lesson=3&step=2",
+    "lesson=6&step=3",
+    "lesson=8",
+    "lecture=4",
 )
-# The controls above the network and below it that are cut off, or lie over another one.
-UNSEEN = """(() => { const all = Array.from(document.querySelectorAll('nav button, .tools > *, #time > *'))
+# The controls above the network, below it, and in cards that are cut off, or lie over another one.
+UNSEEN = """(() => { const all = Array.from(document.querySelectorAll(
+  'nav button, .tools > *, #time > *, #lesson :is(button, input, summary), #dared button'))
     .map(one => [one.id || one.textContent, one.getBoundingClientRect(), one]).filter(one => one[1].width > 2);
   const over = (a, b) => Math.min(a.right, b.right) - Math.max(a.left, b.left) > 1
     && Math.min(a.bottom, b.bottom) - Math.max(a.top, b.top) > 1;
