@@ -86,7 +86,7 @@ def index_page() -> str:
 
 
 @contextlib.contextmanager
-def refused(folder: str) -> Iterator[None]:
+def as_fault_of(folder: str) -> Iterator[None]:
     """What can't be written is said of the folder that the user has named."""
     try:
         yield
@@ -96,7 +96,7 @@ def refused(folder: str) -> Iterator[None]:
 
 def check_is_new(folder: str) -> None:
     """Refuses what isn't a new folder or an empty one."""
-    with refused(folder):
+    with as_fault_of(folder):
         is_free = not os.path.lexists(folder) or os.path.isdir(folder) and not os.listdir(folder)
     if not is_free:
         raise Fault(Code.FOLDER_NOT_EMPTY, InText(folder))
@@ -110,21 +110,21 @@ def publish(folder: str, session: Session) -> int:
     at = os.path.realpath(folder)
     room = f"{at}{os.sep}" if os.path.isdir(at) else at
     new = f"{room}.{os.getpid()}.new"
-    with refused(folder):
+    with as_fault_of(folder):
         os.makedirs(os.path.dirname(new), exist_ok=True)
         # One that is there already is somebody else's.
         os.mkdir(new)
     try:
         files = published(session)
-        with refused(folder):
-            write(files, new)
+        with as_fault_of(folder):
+            write_files(files, new)
             put_in_place(new, at, folder)
     finally:
         shutil.rmtree(new, ignore_errors=True)
     return sum(map(len, files.values()))
 
 
-def write(files: Mapping[str, bytes], folder: str) -> None:
+def write_files(files: Mapping[str, bytes], folder: str) -> None:
     for name, data in files.items():
         path = os.path.join(folder, name)
         os.makedirs(os.path.dirname(path), exist_ok=True)

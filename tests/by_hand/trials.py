@@ -14,8 +14,8 @@ from tests import TOP
 from tests.by_hand.changes import Change, package_of
 from tests.by_hand.copies import MOST_BUSY, Copy, tests_in
 
-# The modules with the tests of each package, by folder, in the order in which they are asked: first those that take
-# little and reach much. Before all of them come those that are called as the module that is changed.
+# The modules with the tests of each package, or a class of one, by folder, in the order in which they are asked: first
+# those that take little and reach much. Before all of them come those that are called as the module that is changed.
 TESTS: dict[str, dict[str, str]] = {
     "lab": {
         "programs": "endings sheets simulate argument_bytes plain_networks codes calls declared own_networks commands "
@@ -26,8 +26,9 @@ TESTS: dict[str, dict[str, str]] = {
         "own_algorithms node_programs"
     },
     "networks": {
+        "pages": "index",
         "programs": "reading codes declared plans sites written plain_networks addresses calls own_networks stated "
-        "written_elsewhere hostile"
+        "written_elsewhere hostile",
     },
     "transcripts": {
         "programs": "payloads transcript_to simulate transcripts reacting hostile",
@@ -47,8 +48,11 @@ TESTS: dict[str, dict[str, str]] = {
         "workshop": "cases words report calls policies command visible memory sandbox transcripts nodes misbehaving "
         "skeletons grade forgers reach attacks"
     },
-    "studio": {"programs": "addresses calls studio_states studio_reactions studio"},
-    "python": {"programs": "in_python old_python install"},
+    "studio": {
+        "pages": "studio_lessons.Judged studio_lessons.Table studio_opening.Modules published.Folder",
+        "programs": "calls studio_states studio_reactions addresses studio",
+    },
+    "python": {"pages": "index", "programs": "in_python old_python install"},
 }
 # The first letters of the names of a module and of its tests.
 ALIKE = 4
@@ -70,13 +74,14 @@ class Outcome:
 
 
 def tests_by_module() -> dict[str, list[str]]:
-    """The names of the tests, by module."""
+    """The names of the tests, by module and by class."""
     found = defaultdict(list)
-    for folder in ("programs", "pictures", "workshop"):
+    for folder in ("programs", "pictures", "workshop", "pages"):
         path = os.path.join(TOP, "tests", folder)
         for test in tests_in(unittest.TestLoader().discover(path, "test_*.py", TOP)):
             name = test.id().removeprefix("tests.")
-            found[".".join(name.split(".")[:2])].append(name)
+            for parts in (2, 3):
+                found[".".join(name.split(".")[:parts])].append(name)
     return found
 
 
@@ -111,7 +116,7 @@ class Trial:
                 raise
 
     def asked(self, change: Change) -> list[str]:
-        """The tests of a change, in their order."""
+        """The tests of a change, in their order. Those that take little come first, once it is known what they take."""
         begin = os.path.basename(change.file)[:ALIKE]
         modules = [
             f"{folder}.test_{name}"
@@ -120,10 +125,12 @@ class Trial:
         ]
         modules.sort(key=lambda module: not module.partition(".test_")[2].startswith(begin))
         names = [name for module in modules for name in self.modules[module]]
-        return sorted(
-            (name for name in names if name not in self.bad),
-            key=lambda name: self.good.get(name, 0) > LONG,
-        )
+
+        def order(name: str) -> tuple[bool, bool, float]:
+            is_alike = name.partition(".test_")[2].startswith(begin)
+            return self.good.get(name, 0) > LONG, not is_alike, self.good.get(name, 0)
+
+        return sorted((name for name in names if name not in self.bad), key=order)
 
     def outcome(self, own: Copy, change: Change) -> Outcome:
         """What notices a change: a test that fails with it, twice, and not without it."""

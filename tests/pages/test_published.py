@@ -8,7 +8,6 @@ import os
 import random
 import re
 import shutil
-import signal
 import subprocess
 import sys
 import tempfile
@@ -32,7 +31,7 @@ from lab.studio import publishing, studio
 from lab.studio.calls import CALLS
 from lab.studio.judges import MACHINE, PYTHON
 from lab.studio.lessons import LESSONS, SaidExercise
-from lab.studio.recording import spots, tell, text_of_page
+from lab.studio.recording import Recording, spots, tell, text_of_page
 from lab.studio.networks import opened_by
 from lab.studio.own_dares import own_dares_of
 from lab.studio.session import Session
@@ -215,7 +214,7 @@ class Folder(Case):
 
     def test_ended(self) -> None:
         """Who ends the command while the page is made finds the folder as it was."""
-        for signal_, name in ((signal.SIGTERM, "new"), (signal.SIGINT, "empty")):
+        for name in ("new", "empty"):
             at = os.path.join(self.folder, name)
             if name == "empty":
                 os.mkdir(at)
@@ -225,7 +224,7 @@ class Folder(Case):
             while not self.made() and time.monotonic() < until:
                 time.sleep(0.05)
             self.note("it is made", self.made())
-            run.send_signal(signal_)
+            run.terminate()
             said = run.communicate(timeout=60)[1]
             self.note("no traceback", "Traceback" not in said and said.count("\n") <= 1, said)
             self.same(name, self.made(), [])
@@ -244,6 +243,13 @@ class Folder(Case):
         below = os.path.join(at, "index.html", "page")
         said = self.refused(below, {"index.html": b"x"})
         self.note("below a file", said.startswith(below) and "\n" not in said, said)
+
+    def test_what_there_is(self) -> None:
+        """The page says of which commit it is; an installed folder, or a copy, may not know."""
+        found = publishing.hello_of(Session(), Recording(Session(), [])).published
+        assert found is not None
+        commit = r"[0-9a-f]{12}(, with changes)?|unknown.*"
+        self.note("a commit", re.fullmatch(commit, found.commit), found.commit)
 
     def test_command_line(self) -> None:
         """What the page can't have is refused, and nothing is written."""

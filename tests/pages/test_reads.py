@@ -180,7 +180,7 @@ READS = {
         for where in ("index_page", "published")
         for what in ("open", "file.read")
     },
-    ("lab/studio/publishing.py", "write: open"): WRITTEN,
+    ("lab/studio/publishing.py", "write_files: open"): WRITTEN,
     **{
         ("lab/studio/recording.py", f"linked_places: {what}"): OF_TREE
         for what in ("open", "file.read")

@@ -137,6 +137,15 @@ REFUSED = (
     (f"{TWO}&tab=check&plan=1-2", "`1-2` is no whole number"),
     (f"{TWO}&tab=pictures&kind=x", "there are plan"),
     ("lesson=0x1", "`0x1` is no whole number"),
+    ("lesson=0", "1 to 8"),
+    ("lesson=1&step=0", "a number from 1 to"),
+    ("lesson=1&step=99", "a number from 1 to"),
+    ("lecture=0", "a number from 1 to"),
+    ("lecture=99", "a number from 1 to"),
+    (f"{TWO}&tab=draw&lecture=0", "a number from 1 to"),
+    (f"{TWO}&tab=draw&lesson=0", "1 to 8"),
+    (f"{TWO}&tab=draw&lesson=1&step=0", "a number from 1 to"),
+    (f"{TWO}&tab=draw&step=1", "step=1"),
     ("lesson=1&step=-1", "`-1` is no whole number"),
     ("lecture=1e0", "`1e0` is no whole number"),
     ("net=0.0_1.1~1.5-2", "none of its 2 nodes"),
@@ -409,10 +418,12 @@ class Links(Case):
         player.by_chance(2000, "1", set(), set())
         place = f"dare=results&steps={'_'.join(player.chosen)}"
         links.append(f"#example=two&tab=adversary&program=recolouring&passes=2&{place}")
+        links.append("#example=two&tab=adversary&program=recolouring&dare=apart")
         status, said = self.verdicts(*links)
         won = "won: results without safes,acks: they halted with other results"
         same = "not won: results: they halted with the same results"
-        self.same("verdicts", (status, said), (0, [won, won, same]))
+        none = "not won: apart: 0 of 2 pulses apart, in 0 steps"
+        self.same("verdicts", (status, said), (0, [won, won, same, none]))
 
     def test_malformed(self):
         """A line that can't be read has a verdict, and those after it have theirs."""
