@@ -4,6 +4,7 @@
 A pulse p is 0 to R, a vertex v from 1, a forest f and a colour from 0."""
 from collections.abc import Iterable, Iterator
 from dataclasses import dataclass, field
+from functools import cached_property
 from operator import itemgetter
 
 from lab.definitions.colours import Colours, text_of
@@ -11,7 +12,7 @@ from lab.definitions.nodes import Colouring, last_pulse
 from lab.definitions.program import Slot, pulses_of
 from lab.fault_codes import Code
 from lab.faults import Fault
-from lab.network import Network
+from lab.network import Edge, Network
 
 # A payload that is sent: from, to, and its words.
 Put = tuple[int, int, str, int]
@@ -93,47 +94,80 @@ class Pulse:
 
 
 class Rounds:
-    """The synchronous run of the colouring: `pulses` are those from 0 to `last`. `parents[v, f]` is v's parent in
-    forest f, and `forest_of[v, w]` the forest of an edge. `colours[f][p]` are the colours in forest f after pulse p, 2
-    to 12, and `merged[f]` the merged colours once the forests below f are merged; `first`, which is `merged[0]`, are
-    the least colours that aren't barred. `turns[f, v]` is the pulse of the merge of forest f at which v chooses.
+    """The synchronous run of the colouring, played once it is asked for: `pulses` are those from 0 to `last`.
+    `parents[v, f]` is v's parent in forest f, and `forest_of[v, w]` the forest of an edge. `colours[f][p]` are the
+    colours in forest f after pulse p, 2 to 12, and `merged[f]` the merged colours once the forests below f are merged;
+    `first`, which is `merged[0]`, are the least colours that aren't barred. `turns[f, v]` is the pulse of the merge of
+    forest f at which v chooses.
+
+    >>> rounds = Rounds(Network(2, [(1, 2)]))
+    >>> rounds.parents, rounds.turns, rounds.merged[-1]
+    ({(1, 0): 2}, {(0, 1): 13, (0, 2): 15}, {1: 0, 2: 1})
     """
 
     def __init__(self, network: Network) -> None:
         self.network = network
         self.forests = network.forest_count
         self.width = network.channels
-        self.parents = {(v, f): w for v, ws in network.higher.items() for f, w in enumerate(ws)}
-        self.forest_of = {
-            pair: f for (v, f), w in self.parents.items() for pair in ((v, w), (w, v))
-        }
         self.last = last_pulse(network)
-        self.colours: list[dict[int, Colours]] = [{} for _ in range(self.forests)]
-        self.merged: list[Colours] = []
-        self.turns: dict[tuple[int, int], int] = {}
-        nodes = {v: Colouring(network, v) for v in network.vertices}
-        self.pulses = [
-            self.pulse(p, nodes, puts_of(network, sent))
-            for p, nodes, _, sent in pulses_of(network, nodes, self.last)
+
+    @cached_property
+    def parents(self) -> dict[tuple[int, int], int]:
+        return {(v, f): w for v, ws in self.network.higher.items() for f, w in enumerate(ws)}
+
+    @cached_property
+    def forest_of(self) -> dict[Edge, int]:
+        return {pair: f for (v, f), w in self.parents.items() for pair in ((v, w), (w, v))}
+
+    @cached_property
+    def pulses(self) -> list[Pulse]:
+        nodes = {v: Colouring(self.network, v) for v in self.network.vertices}
+        return [
+            self.pulse(p, nodes, puts_of(self.network, sent))
+            for p, nodes, _, sent in pulses_of(self.network, nodes, self.last)
         ]
-        self.first = self.merged[0]
 
     def pulse(self, p: int, nodes: dict[int, Colouring], puts: list[Put]) -> Pulse:
         """What all nodes have done in a pulse, after which they are these nodes."""
-        merged, step = divmod(p - LAST_COLOUR, 3 * self.width)
-        if merged >= 0 and step == 0:
-            self.merged.append({v: node.merged for v, node in nodes.items()})
         if p >= FIRST_MERGE:
             turn = merge_step(self.network, p)
             chosen = {v: node.merged for v, node in nodes.items() if node.has_turn(turn)}
-            self.turns |= {(turn[0], v): p for v in chosen}
             return Pulse(p, puts, "merge", turn, chosen=chosen)
         colours = {}
         if p >= SEED:
             colours = {(v, f): c for v, node in nodes.items() for f, c in enumerate(node.colours)}
-        for (v, f), colour in colours.items():
-            self.colours[f].setdefault(p, {})[v] = colour
         return Pulse(p, puts, phase_words(self.network, p), colours=colours)
+
+    @cached_property
+    def colours(self) -> list[dict[int, Colours]]:
+        found: list[dict[int, Colours]] = [{} for _ in range(self.forests)]
+        for pulse in self.pulses:
+            for (v, f), colour in pulse.colours.items():
+                found[f].setdefault(pulse.number, {})[v] = colour
+        return found
+
+    @cached_property
+    def turns(self) -> dict[tuple[int, int], int]:
+        return {
+            (pulse.turn()[0], v): pulse.number
+            for pulse in self.pulses[FIRST_MERGE:]
+            for v in pulse.chosen
+        }
+
+    @cached_property
+    def merged(self) -> list[Colours]:
+        found = [{v: Colouring(self.network, v).merged for v in self.network.vertices}]
+        for f in range(self.forests):
+            first = FIRST_MERGE + 3 * self.width * f
+            now = dict(found[-1])
+            for pulse in self.pulses[first : first + 3 * self.width]:
+                now |= pulse.chosen
+            found.append(now)
+        return found
+
+    @property
+    def first(self) -> Colours:
+        return self.merged[0]
 
     def lines(self) -> Iterator[str]:
         """The text of rounds, line by line."""

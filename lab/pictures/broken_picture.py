@@ -13,7 +13,7 @@ from lab.pictures.map_picture import box_of, draw_map
 from lab.pictures.marks import Map, colour_square
 from lab.pictures.palette import INK, PAPER, SOFT, WRONG
 from lab.pictures.panel import PANEL, Panel
-from lab.pictures.program_rounds import ProgramRounds
+from lab.pictures.program_rounds import program_rounds
 from lab.pictures.results_picture import Found, draw_chosen, found_in, legend
 from lab.pictures.rounds_picture import COLUMN, LEFT, ROW, SQUARE, draw_rows, place_of
 from lab.pictures.schedules_space import left_out_words
@@ -36,7 +36,9 @@ def drawn_by(
 ) -> "BrokenPicture":
     """What draws where rounds go wrong, beside those with all rules: the end of a sequel, a forest or a merge."""
     if isinstance(rounds, RuledSequel) and isinstance(right, RuledSequel):
-        return OfEnd(rounds, right)
+        check_size(rounds)
+        both = (rounds, right)
+        return OfEnd(both, [found_in(program_rounds(one.net, one.program)) for one in both])
     if not isinstance(rounds, RuledRounds) or not isinstance(right, RuledRounds):
         raise TypeError("both rounds are of one program")
     if pulse := clash_of(rounds).pulse:
@@ -237,10 +239,11 @@ class OfMerge:
 class OfEnd:
     """Maps: what the nodes of a program have found at the end."""
 
-    def __init__(self, *both: RuledSequel) -> None:
-        check_size(both[0])
+    def __init__(
+        self, both: tuple[RuledSequel, RuledSequel], found: list[dict[int, Found]]
+    ) -> None:
         self.net, self.faults = both[0].net, [rounds.faults for rounds in both]
-        self.found = [found_in(ProgramRounds(self.net, rounds.program)) for rounds in both]
+        self.found = found
         self.box = box_of(
             self.net, [one for found in self.found for one in found.values()], LEAST_WIDTH / 2, 0
         )

@@ -50,7 +50,7 @@ from lab.pictures import (
     wrong_run,
 )
 from lab.pictures.places import unused_places
-from lab.pictures.program_rounds import ProgramRounds, is_own, least_wires, rounds_of
+from lab.pictures.program_rounds import ProgramRounds, is_own, least_wires, program_rounds, rounds_of
 from lab.pictures.transcripts import Run, ordered, window_of
 from lab.schedules.rules import (
     OF_ANY_ROUNDS,
@@ -208,7 +208,7 @@ KINDS = {
         "a filled circle is a node with a colour; of channels the number is in the circle, and beside it what it\n"
         "was before. All other results are written beside the nodes.",
         "forestlab picture results examples/petersen.col --program matching > petersen-pairs.svg",
-        lambda of: results_picture.draw(ProgramRounds(of.network, of.program)),
+        lambda of: results_picture.draw(program_rounds(of.network, of.program)),
         (400, "simulate, whose transcript ends in the same"),
         of_programs=True,
     ),

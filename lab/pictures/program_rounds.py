@@ -1,9 +1,11 @@
 """The rounds of any program as pictures need them, pulse by pulse, by its definition (lab/definitions/programs.py)."""
 from collections.abc import Iterator
+from dataclasses import dataclass
+from typing import ClassVar
 
 from lab.definitions.nodes import COLOURING
 from lab.definitions.own_program import check_repeats, what_is_wrong
-from lab.definitions.program import DrawnNode, Program, synchronous_pulses
+from lab.definitions.program import DrawnNode, Program, RoundsNode, synchronous_pulses
 from lab.definitions.rounds import Pulse, Rounds, puts_of
 from lab.fault_codes import Code
 from lab.faults import Fault, InText
@@ -13,35 +15,23 @@ from lab.network import Network
 MOST_STEPS = 2_000_000
 
 
+@dataclass(eq=False)
 class ProgramRounds:
     """A synchronous run of a program: `pulses` are those from 0 to `last`, and `nodes` the nodes after the last one. It
     has no forests. `wrong` is what the file of a program says isn't right at its end, or nothing.
     """
 
-    forests = 0
-    first: dict[int, int] = {}
+    network: Network
+    program: Program
+    pulses: list[Pulse]
+    nodes: dict[int, RoundsNode]
+    wrong: str
+    forests: ClassVar[int] = 0
+    first: ClassVar[dict[int, int]] = {}
 
-    def __init__(self, network: Network, program: Program) -> None:
-        self.network, self.program = network, program
-        self.last = program.last_pulse(network)
-        if self.last * network.nodes > MOST_STEPS:
-            raise Fault(
-                Code.TOO_MANY_PULSES, InText(network.name), last=self.last, nodes=network.nodes
-            )
-        check_repeats(network, program)
-        self.pulses, ports = [], network.neighbours
-        for p, nodes, _, sent in synchronous_pulses(network, program):
-            puts = puts_of(network, sent)
-            drawn: dict[int, tuple[int | None, int | None]] = {
-                v: (colour, None if port is None else ports[v][port])
-                for v, node in nodes.items()
-                if isinstance(node, DrawnNode)
-                for colour, port in [node.drawn()]
-            }
-            results = {v: node.result() for v, node in nodes.items()}
-            self.pulses.append(Pulse(p, puts, results=results, drawn=drawn))
-        self.nodes = nodes
-        self.wrong = what_is_wrong(network, program.file, self.pulses[-1].results)
+    @property
+    def last(self) -> int:
+        return self.pulses[-1].number
 
     def lines(self) -> Iterator[str]:
         """The text of rounds, line by line."""
@@ -50,9 +40,39 @@ class ProgramRounds:
             yield from pulse.lines("", pulse.results.items() if pulse.number == self.last else ())
 
 
+def program_rounds(network: Network, program: Program) -> ProgramRounds:
+    """The synchronous run of a program, played here. Raises `Fault` if it would take minutes."""
+    last = program.last_pulse(network)
+    if last * network.nodes > MOST_STEPS:
+        raise Fault(Code.TOO_MANY_PULSES, InText(network.name), last=last, nodes=network.nodes)
+    check_repeats(network, program)
+    pulses: list[Pulse] = []
+    nodes: dict[int, RoundsNode] = {}
+    for p, nodes, _, sent in synchronous_pulses(network, program):
+        puts = puts_of(network, sent)
+        drawn = drawn_after(network, nodes)
+        results = {v: node.result() for v, node in nodes.items()}
+        pulses.append(Pulse(p, puts, results=results, drawn=drawn))
+    wrong = what_is_wrong(network, program.file, pulses[-1].results)
+    return ProgramRounds(network, program, pulses, nodes, wrong)
+
+
+def drawn_after(
+    network: Network, nodes: dict[int, RoundsNode]
+) -> dict[int, tuple[int | None, int | None]]:
+    """Of each node that says it: a colour, and the vertex at the other end of the edge that it has chosen."""
+    ports = network.neighbours
+    return {
+        v: (colour, None if port is None else ports[v][port])
+        for v, node in nodes.items()
+        if isinstance(node, DrawnNode)
+        for colour, port in [node.drawn()]
+    }
+
+
 def rounds_of(network: Network, program: Program) -> Rounds | ProgramRounds:
     """The rounds of any program."""
-    return Rounds(network) if program == COLOURING else ProgramRounds(network, program)
+    return Rounds(network) if program == COLOURING else program_rounds(network, program)
 
 
 def least_wires(network: Network, program: Program) -> int:

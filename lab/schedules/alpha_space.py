@@ -26,7 +26,7 @@ from lab.definitions.nodes import COLOURING, Colouring
 from lab.definitions.own_program import UnderWay
 from lab.definitions.program import Program
 from lab.network import Network
-from lab.schedules.ruled_node import Rounds, RuledNode
+from lab.schedules.ruled_node import Rounds, RuledNode, synchronous_rounds
 from lab.schedules.space import REFUSED, Move, Progress, Space, State
 
 
@@ -61,7 +61,7 @@ class AlphaSpace(Space[RuledNode]):
         self.last = program.last_pulse(net)
 
     def search(self, progress: Progress | None = None) -> "AlphaSpace":
-        self.rounds = Rounds(self.net, self.program)
+        self.rounds = synchronous_rounds(self.net, self.program)
         super().search(progress)
         return self
 

@@ -6,6 +6,7 @@ isn't due, and a missing one that is (docs/claim/DEFINITIONS.md, refusals of the
 program of one's own goes on with any."""
 from collections.abc import Callable, Collection, Hashable
 import copy
+from dataclasses import dataclass
 from typing import TypeVar
 
 from lab.definitions.events import Message, ack
@@ -136,14 +137,12 @@ def kept(function: Callable[[RoundsNode], Made], node: RoundsNode) -> Made:
         raise Fault(Code.CANT_BE_COPIED, InText(node.of_file.path), why=why) from None
 
 
+@dataclass(eq=False)
 class Rounds:
     """The synchronous run of a program: `inbox[v, p]` of each vertex and pulse from 1."""
 
-    def __init__(self, net: Network, program: Program = COLOURING) -> None:
-        self.ports = net.neighbours
-        self.inbox: dict[tuple[int, int], list[Slot]] = {}
-        for p, _, inboxes, _ in synchronous_pulses(net, program):
-            self.inbox |= {(v, p): inbox for v, inbox in inboxes.items()}
+    ports: dict[int, list[int]]
+    inbox: dict[tuple[int, int], list[Slot]]
 
     def fault(self, v: int, p: int, inbox: list[Slot]) -> str | None:
         """How an inbox differs from the round's, at the first port at which it does; None if it doesn't."""
@@ -154,6 +153,14 @@ class Rounds:
                 instead = f", not with `{due}`" if due else ", which is of another round"
                 return f"node {v} makes pulse {p} with `{got}` from {w}{instead}"
         return None
+
+
+def synchronous_rounds(net: Network, program: Program = COLOURING) -> Rounds:
+    """The synchronous run of a program, played here."""
+    inbox: dict[tuple[int, int], list[Slot]] = {}
+    for p, _, inboxes, _ in synchronous_pulses(net, program):
+        inbox |= {(v, p): slots for v, slots in inboxes.items()}
+    return Rounds(net.neighbours, inbox)
 
 
 def inbox_refused(node: RoundsNode, pulse: int, inbox: list[Slot]) -> bool:

@@ -11,6 +11,7 @@ import copy
 import itertools
 from collections.abc import Callable, Collection, Iterator
 from dataclasses import replace
+from functools import cached_property
 from typing import NamedTuple
 
 from lab.definitions.colours import (
@@ -47,8 +48,9 @@ class Clash(NamedTuple):
 
 
 class RuledRounds:
-    """`colours[f]` are the lists of a forest from pulse 2 on, up to the first clash; `merged` those after each merge,
-    and `plan` the last of these, if the rounds get that far; `clash` is the first one, or None."""
+    """The rounds of the colouring without rules, once `work_out` was called. `colours[f]` are the lists of a forest
+    from pulse 2 on, up to the first clash; `merged` those after each merge, and `plan` the last of these, if the rounds
+    get that far; `clash` is the first one, or None."""
 
     def __init__(self, net: Network, without: Collection[str]) -> None:
         self.net = net
@@ -57,18 +59,21 @@ class RuledRounds:
         self.merged = [first_colours(net)]
         self.plan: Colours | None = None
         self.clash: Clash | None = None
+
+    def work_out(self) -> "RuledRounds":
         for pulse in range(3, 13):
             for f, lists in enumerate(self.colours):
                 lists.append(self.next_colours(pulse, f))
             if self.clash is None:
                 self.clash = next(self.forest_clashes(pulse), None)
             if self.clash and pulse < 12:
-                return
-        for f in range(net.forest_count):
+                return self
+        for f in range(self.net.forest_count):
             self.merged.append(self.next_merged(f))
             if self.clash is None:
                 self.clash = next(self.merge_clashes(f), None)
         self.plan = self.merged[-1]
+        return self
 
     def next_colours(self, pulse: int, f: int) -> Colours:
         """A bit step, twice the place and the digit there; a shift; or a drop of 5, 4 or 3."""
@@ -262,14 +267,25 @@ def without_rules(program: Program, without: Collection[str]) -> Program:
 
 
 class RuledSequel:
-    """`faults` are what isn't right at the end, and `clash` is the first of them, or None."""
+    """The rounds of a program that goes on where the colouring ends, without rules, played once they are asked for:
+    `nodes` after the last pulse, `faults`, what isn't right there, and `clash`, the first of them, or None.
+    """
 
     def __init__(self, net: Network, without: Collection[str], program: Program) -> None:
         self.net = net
         self.program = without_rules(program, without)
-        self.nodes = synchronous_run(net, self.program)
-        self.faults = list(RULED[program.name].faults(net, self.nodes))
-        self.clash = self.faults[0] if self.faults else None
+
+    @cached_property
+    def nodes(self) -> dict[int, RoundsNode]:
+        return synchronous_run(self.net, self.program)
+
+    @cached_property
+    def faults(self) -> list[WrongResult]:
+        return list(RULED[self.program.name].faults(self.net, self.nodes))
+
+    @property
+    def clash(self) -> WrongResult | None:
+        return self.faults[0] if self.faults else None
 
     def words(self) -> str:
         """What goes wrong, in a sentence; nothing if nothing does."""
@@ -281,7 +297,7 @@ class RuledSequel:
 def ruled(program: Program, net: Network, without: Collection[str]) -> RuledRounds | RuledSequel:
     """The rounds of a program on a network without rules."""
     if program == COLOURING:
-        return RuledRounds(net, without)
+        return RuledRounds(net, without).work_out()
     return RuledSequel(net, without, program)
 
 

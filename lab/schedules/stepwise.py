@@ -6,6 +6,7 @@ takes the wire that overtakes four others, without the rule `fifo`."""
 import random
 import re
 from collections.abc import Collection, Iterable
+from functools import cached_property
 
 from lab.definitions.events import PULSE, PUT, TAKE, Event, Kind
 from lab.definitions.machine import AnyNode, NetState, Refused
@@ -15,7 +16,7 @@ from lab.fault_codes import Code
 from lab.faults import Fault, InText
 from lab.network import Edge, Network
 from lab.schedules.policies import Step
-from lab.schedules.ruled_node import Rounds, RuledNode
+from lab.schedules.ruled_node import Rounds, RuledNode, synchronous_rounds
 from lab.schedules.simulate import Player, events_of, start_without
 
 
@@ -174,7 +175,13 @@ class Stepwise(ByHand[AlphaNode]):
         self, net: Network, program: Program = COLOURING, without: Collection[str] = ()
     ) -> None:
         super().__init__(start_without(net, program, without), without)
-        self.rounds = Rounds(net, program) if without else None
+        self.net = net
+        self.program = program
+
+    @cached_property
+    def rounds(self) -> Rounds:
+        """The rounds that the nodes simulate."""
+        return synchronous_rounds(self.net, self.program)
 
     def own_step_words(self, v: int) -> str:
         return f"node {v} makes pulse {self.state.nodes[v].pulse_number + 1}"
@@ -182,7 +189,7 @@ class Stepwise(ByHand[AlphaNode]):
     def fault_of_own_step(self, v: int) -> str | None:
         """What is wrong with the next pulse of a node, if something is; all is over if its program refuses it."""
         node, fault = self.state.nodes[v], None
-        if self.rounds and isinstance(node, RuledNode):
+        if isinstance(node, RuledNode):
             fault, self.is_over = node.fault_of_pulse(v, self.rounds)
         return fault
 

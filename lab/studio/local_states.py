@@ -7,6 +7,7 @@ neighbours ever put. With all rules it leaves out what no run has: a pulse with 
 is proved not to happen. Without a rule a wire that a state has no row for is one that the node refuses."""
 from collections.abc import Collection
 from dataclasses import dataclass, field
+from functools import cached_property
 
 from lab.definitions.events import Message
 from lab.definitions.machine import NetState, Refused
@@ -14,7 +15,7 @@ from lab.definitions.program import Program
 from lab.network import Network
 from lab.pictures.page_data import Look
 from lab.pictures.watch_page import look_of
-from lab.schedules.ruled_node import Rounds, RuledNode
+from lab.schedules.ruled_node import Rounds, RuledNode, synchronous_rounds
 
 # States of all nodes together: more are no small table.
 MOST_STATES = 60_000
@@ -50,7 +51,6 @@ class LocalStates:
 
     def __init__(self, network: Network, program: Program, without: Collection[str]) -> None:
         self.network, self.program, self.without = network, program, frozenset(without)
-        self.rounds = Rounds(network, program)
         self.state: NetState[RuledNode] = NetState(
             network, lambda net, v: RuledNode(net, v, without, program)
         )
@@ -64,6 +64,11 @@ class LocalStates:
             (v, w): [] for v, ws in network.neighbours.items() for w in ws
         }
         self.todo: list[tuple[int, int]] = []
+
+    @cached_property
+    def rounds(self) -> Rounds:
+        """The rounds that the nodes simulate."""
+        return synchronous_rounds(self.network, self.program)
 
     def find(self) -> "LocalStates":
         for v in self.network.vertices:

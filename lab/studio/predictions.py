@@ -10,7 +10,7 @@ from lab.definitions.rounds import Rounds, SEED
 from lab.fault_codes import Code
 from lab.faults import Fault
 from lab.pictures.player_page import SAY
-from lab.pictures.program_rounds import ProgramRounds
+from lab.pictures.program_rounds import ProgramRounds, program_rounds
 from lab.pictures.watch_page import waits_of
 from lab.pictures.why_picture import Cone, choice_lines
 from lab.schedules.reacting_stepwise import ReactingStepwise
@@ -47,7 +47,7 @@ def predict(call: PredictCall, session: Session, _tell: Tell) -> Predicted:
         raise Fault(Code.NO_PULSE, pulse=pulse, last=last)
     rounds: Rounds | ProgramRounds = Rounds(network)
     if program != COLOURING:
-        rounds = ProgramRounds(network, program)
+        rounds = program_rounds(network, program)
     found, why = found_after(rounds, v, pulse, call.forest)
     return Predicted(words(call.said) == words(found), found, why)
 

@@ -22,7 +22,7 @@ from lab.folders import TOP
 from lab.network import Network
 from lab.networks.verdicts import Verdict
 from lab.pictures.page_data import Look, Net, NetNode, as_object
-from lab.pictures.program_rounds import ProgramRounds
+from lab.pictures.program_rounds import ProgramRounds, program_rounds
 from lab.schedules.reacting_stepwise import refused_words
 from lab.schedules.rules import OF_LINKS, OF_PROGRAMS, OF_SCHEDULES
 from lab.studio import dares
@@ -296,7 +296,7 @@ class Recording:
             program = program_asked(
                 OfProgram(network=on.text, program=on.program), network, self.session
             )
-            return self.questions(on, ProgramRounds(network, program), 1)
+            return self.questions(on, program_rounds(network, program), 1)
         rounds = Rounds(network)
         for v in network.vertices:
             self.ask(WhyCall(network=on.text, vertex=v))

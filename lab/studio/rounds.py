@@ -14,7 +14,7 @@ from lab.pictures import broken_picture, player_page, reacting_picture, why_pict
 from lab.pictures.page_data import RoundsFound
 from lab.pictures.pages import net_of
 from lab.pictures.picture import KINDS as KINDS_OF_PICTURES, Source, Text, drawing
-from lab.pictures.program_rounds import ProgramRounds
+from lab.pictures.program_rounds import ProgramRounds, program_rounds
 from lab.pictures.transcripts import stamp_of
 from lab.schedules.reacting_stepwise import ReactingStepwise
 from lab.schedules.ruled_rounds import ruled, smallest_wrong
@@ -93,7 +93,7 @@ def rounds_asked(call: OfProgram, session: Session) -> ProgramRounds | Rounds:
     network = network_asked(call, MOST_ROUNDS)
     program = program_asked(call, network, session)
     if program != COLOURING:
-        return ProgramRounds(network, program)
+        return program_rounds(network, program)
     return rounds_of(network, call.network, session)
 
 

@@ -16,7 +16,7 @@ from lab.definitions.rounds import Rounds
 from lab.faults import Fault
 from lab.network import Network
 from lab.networks.network_text import read_network
-from lab.pictures.program_rounds import ProgramRounds
+from lab.pictures.program_rounds import program_rounds
 from lab.schedules.reacting_stepwise import ReactingStepwise
 from lab.schedules.stepwise import Stepwise
 from lab.studio import lessons as table
@@ -146,7 +146,7 @@ def answers_of_programs() -> dict[tuple[int, str], int]:
     """Those of lesson 7, from the rounds of its programs."""
     drops, petersen = example("drops"), example("petersen")
     results = {
-        name: list(ProgramRounds(net, program_at(name)).pulses[-1].results.values())
+        name: list(program_rounds(net, program_at(name)).pulses[-1].results.values())
         for name, net in (
             ("matching", petersen),
             ("independent-set", petersen),

@@ -46,7 +46,7 @@ class Broken(PictureCase):
 
     def test_broken(self):
         for name, rule in (("petersen", "pair"), ("disk100", "children"), ("queen5_5", "earlier")):
-            rounds = RuledRounds(network_of(example(name)), [rule])
+            rounds = RuledRounds(network_of(example(name)), [rule]).work_out()
             words = [f"examples/{name}.col", "--without", rule]
             self.rule_rows(f"{name} without {rule}", rounds, *words)
 

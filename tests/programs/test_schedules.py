@@ -287,7 +287,7 @@ class Schedules(Case):
 
     def test_rounds(self):
         for net in map(network_of, networks_by_chance(20, 9)):
-            rounds = ruled_rounds.RuledRounds(net, ())
+            rounds = ruled_rounds.RuledRounds(net, ()).work_out()
             self.same(
                 f"the plan of {net.edges} with all rules",
                 (rounds.clash, rounds.plan),
