@@ -44,13 +44,21 @@ CLOSE = Message("close")
 
 @cache
 def ack(pulse: int) -> Message:
-    """The wire that acknowledges the payload of a pulse; of each pulse there is one, which many links hold."""
+    """The wire that acknowledges the payload of a pulse, from 0; of each pulse there is one, which many links hold.
+
+    >>> str(ack(3))
+    'ack 3'
+    """
     return Message("ack", (pulse,))
 
 
 @cache
 def safe(pulse: int) -> Message:
-    """The wire that says that all payloads of a pulse have been acknowledged."""
+    """The wire that says that all payloads of a pulse, from 0, have been acknowledged.
+
+    >>> str(safe(3))
+    'safe 3'
+    """
     return Message("safe", (pulse,))
 
 

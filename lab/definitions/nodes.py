@@ -25,7 +25,11 @@ DROPPED = {8: 5, 10: 4, 12: 3}
 
 
 def last_pulse(net: Network) -> int:
-    """The last pulse R of every node; the pulses are 0 to R."""
+    """The last pulse R of every node of the colouring; the pulses are 0 to R.
+
+    >>> last_pulse(Network(2, [(1, 2)]))
+    18
+    """
     return 12 + 3 * net.forest_count * net.channels
 
 
@@ -158,7 +162,11 @@ class Colouring:
 
 def bit_step(own: int, parent: int | None) -> int:
     """Twice the least place in which two numbers below 2^128 differ, plus the own digit there; at a root the place is
-    0."""
+    0.
+
+    >>> bit_step(4, 6), bit_step(7, None)
+    (2, 1)
+    """
     i = 0 if parent is None else next(i for i in range(128) if (own ^ parent) >> i & 1)
     return 2 * i + (own >> i & 1)
 
@@ -341,5 +349,12 @@ def text_of_wire(wire: Message) -> str:
 
 
 def alpha_start(net: Network, program: Program = COLOURING) -> NetState[AlphaNode]:
-    """The machine at its start, whose nodes run a program under the synchroniser."""
+    """The machine at its start, whose nodes run a program under the synchroniser.
+
+    >>> state = alpha_start(Network(2, [(1, 2)]))
+    >>> [str(event) for event in state.possible()]
+    ['put 1 0', 'put 2 0']
+    >>> str(state.step(next(state.possible())))
+    'payload 0 hello 1'
+    """
     return NetState(net, partial(AlphaNode, program=program))

@@ -105,13 +105,27 @@ def pulses_of(
 def synchronous_pulses(
     net: Network, program: Program, order: Iterable[int] = ()
 ) -> Iterator[tuple[int, dict[int, RoundsNode], Slots, Slots]]:
-    """The same of the nodes of a program. They are made and called in an order, by default that of the network."""
+    """(pulse, nodes, inboxes, sent) of each pulse, from 0 to the last, of the nodes of a program. They are made and
+    called in an order, by default that of the network.
+
+    >>> from lab.definitions.leader import LEADER
+    >>> for pulse, nodes, inboxes, sent in synchronous_pulses(Network(2, [(1, 2)]), LEADER):
+    ...     print(pulse, [[str(slot) for slot in slots] for slots in sent.values()])
+    0 [['leader 1'], ['leader 2']]
+    1 [['leader 2'], ['None']]
+    2 [['None'], ['None']]
+    """
     nodes = {v: program.node(net, v) for v in order or net.neighbours}
     return pulses_of(net, nodes, program.last_pulse(net))
 
 
 def synchronous_run(net: Network, program: Program) -> dict[int, RoundsNode]:
-    """The nodes after the last pulse of the synchronous run."""
+    """The nodes of a program, by vertex, after the last pulse of the synchronous run.
+
+    >>> from lab.definitions.leader import LEADER
+    >>> {v: node.result() for v, node in synchronous_run(Network(2, [(1, 2)]), LEADER).items()}
+    {1: 'leader 2', 2: 'leader 2'}
+    """
     nodes: dict[int, RoundsNode] = {}
     for _, nodes, _, _ in synchronous_pulses(net, program):
         pass

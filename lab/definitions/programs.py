@@ -37,6 +37,11 @@ HELP = f"what the nodes run: {', '.join(PROGRAMS)}, or a file of your own, as NA
 def program_at(name: str, lots: str = "1", **options: int | None) -> Program:
     """The program by rounds of a name, or of a file whose name ends in `.py`; `lots` is the seed of its nodes' chance,
     `root` the vertex that is the root of the layers, `passes` how often recolouring chooses anew.
+
+    >>> program_at("layers", root=3).root
+    3
+
+    Raises `Fault` of a name that no program has, of an option of another program, and of what is wrong with a file.
     """
     return by_rounds(any_program_at(name, lots, **options))
 
@@ -71,7 +76,11 @@ def any_program_at(name: str, lots: str = "1", **options: int | None) -> AnyProg
 
 
 def program_words(program: Program) -> list[str]:
-    """The words with which a command runs the program of a name."""
+    """The words with which a command runs the program of a name.
+
+    >>> program_words(program_at("recolouring", passes=8))
+    ['--program', 'recolouring', '--passes', '8']
+    """
     if program == COLOURING:
         return []
     words = ["--program", program.name]

@@ -23,7 +23,11 @@ WORK_NAMES = ["step"] * 4 + ["shift", "drop"] * 3
 
 
 def rounds_text(net: Network) -> bytes:
-    """The text of a network; its identifiers may be any numbers that differ."""
+    """The text of the rounds of a network; its identifiers may be any numbers that differ.
+
+    >>> rounds_text(Network(2, [(1, 2)])).splitlines()[:3]
+    [b'rounds 1 2 1 1 18', b'pulse 0 greet', b'1 put 2 payload 0 hello 1']
+    """
     return text_of(Rounds(net).lines())
 
 
@@ -36,14 +40,23 @@ def head_of(net: Network) -> str:
 
 
 def phase_words(net: Network, p: int) -> str:
-    """What pulse p is for."""
+    """What pulse p, from 0, is for.
+
+    >>> edge = Network(2, [(1, 2)])
+    >>> [phase_words(edge, p) for p in (0, 3, 7, 8, 13)]
+    ['greet', 'step', 'shift', 'drop', 'merge 0 0 0']
+    """
     if p < FIRST_MERGE:
         return (["greet", "orient", "seed"] + WORK_NAMES)[p]
     return "merge {} {} {}".format(*merge_step(net, p))
 
 
 def merge_step(net: Network, p: int) -> tuple[int, int, int]:
-    """Forest, three-colour (0 to 2) and old colour (0 to the span) of a merge pulse, 13 to R."""
+    """Forest, three-colour (0 to 2) and old colour (0 to the span) of a merge pulse, 13 to R.
+
+    >>> merge_step(Network(2, [(1, 2)]), 16)
+    (0, 1, 1)
+    """
     forest, step = divmod(p - FIRST_MERGE, 3 * net.channels)
     three, old = divmod(step, net.span + 1)
     return forest, three, old

@@ -197,7 +197,14 @@ def played(
     program: AnyProgram = COLOURING,
 ) -> list[Entry]:
     """The entries of a run of a program on a network, in the order in which they were made; `player` may be on its
-    way."""
+    way. A policy of `policies.POLICIES` and a seed choose what happens next; what goes over the `slow` edges, and what
+    the `lazy` nodes do, waits.
+
+    >>> [str(entry.what) for entry in played(Network(2, [(1, 2)]), policy="oldest")[:3]]
+    ['payload 0 hello 1', 'payload 0 hello 2', 'payload 0 hello 1']
+
+    Raises `Fault` if a run of nodes that react to messages doesn't end.
+    """
     player = player or player_of(net, program)
     entries = player.entries(Policy(policy, net.vertices, net.edges, seed, slow, lazy))
     if isinstance(program, Reacting):
@@ -247,7 +254,13 @@ def events_of(
 
 
 def text_of_run(nodes: int, entries: Iterable[Entry], program: AnyProgram = COLOURING) -> str:
-    """The transcript with stamps of a program: its lines by stamp, and lines of one stamp by node."""
+    """The transcript with stamps of a program: its lines by stamp, and lines of one stamp by node.
+
+    >>> print(text_of_run(2, played(Network(2, [(1, 2)]), policy="oldest")[:2]), end="")
+    transcript 2 2
+    1 1 put 2 payload 0 hello 1
+    1 2 put 1 payload 0 hello 2
+    """
     lines = [
         f"{entry.stamp} {line_of(entry)}"
         for entry in sorted(entries, key=lambda one: (one.stamp, one.node))

@@ -124,8 +124,16 @@ def check_form(head: Head, program: AnyProgram) -> None:
 
 
 def whole_run(net: Network, text: bytes, program: AnyProgram = COLOURING) -> tuple[list[int], str]:
-    """The lines of the entries in an order that is a run, and the verdict on a transcript of a program on a network; or
-    `WrongEntry`, also if the end isn't right of nodes that react to messages."""
+    """The lines of the entries in an order that is a run, and the verdict on a transcript of a program on a network. A
+    network of one node makes its pulses alone.
+
+    >>> pulses = "".join(f"1 pulse {p}\\n" for p in range(1, 13))
+    >>> whole_run(Network(1, []), f"transcript 1 1\\n{pulses}".encode())[1]
+    'whole run of 1 nodes, 12 entries, 0 payloads, 0 wires'
+
+    Raises `WrongEntry` of the first entry that isn't possible, of a run that isn't whole, and of nodes that react to
+    messages if their end isn't right.
+    """
     head, entries, fault = read_to_fault(text, program.name)
     check_form(head, program)
     if head.nodes != net.nodes:
