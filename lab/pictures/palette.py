@@ -55,11 +55,20 @@ def text_on(fill: str) -> str:
 
 
 def channel_hue(channel: int) -> str:
+    """The colour of a channel, from 1; channels 9 to 16 have those of 1 to 8, and so on.
+
+    >>> channel_hue(1), channel_hue(9) == channel_hue(1)
+    ('#0072B2', True)
+    """
     return CHANNEL_HUES[(channel - 1) % len(CHANNEL_HUES)]
 
 
 def is_ring(channel: int) -> bool:
-    """Channels 9 to 16 are rings of the same hues, 17 to 24 full again, and so on."""
+    """Channels 9 to 16 are rings of the same hues, 17 to 24 full again, and so on.
+
+    >>> [is_ring(channel) for channel in (1, 8, 9, 16, 17)]
+    [False, False, True, True, False]
+    """
     return (channel - 1) // len(CHANNEL_HUES) % 2 == 1
 
 
@@ -92,7 +101,11 @@ def ring_width(radius: float) -> float:
 
 
 def digits(number: int) -> int:
-    """How many binary digits a number has."""
+    """How many binary digits a number has.
+
+    >>> digits(0), digits(6)
+    (1, 3)
+    """
     return max(1, number.bit_length())
 
 
@@ -108,7 +121,11 @@ def grey_of(binary_digits: int) -> tuple[str, str]:
 
 
 def short(number: int) -> str:
-    """A number as a square has room for: `128d` is one of 128 binary digits."""
+    """A number as a square has room for: `128d` is one of 128 binary digits.
+
+    >>> short(17), short(2**127)
+    ('17', '128d')
+    """
     return str(number) if number < 10**MOST_DIGITS else f"{digits(number)}d"
 
 

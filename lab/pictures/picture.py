@@ -438,7 +438,11 @@ def command_line() -> Parser:
 
 def drawing(kind: str, of: Source, **options: object) -> str:
     """The picture of a kind: SVG, a page or words, of a source, with those of these options that the kind has. No file
-    is read, and nothing said: a fault raises `Fault`."""
+    is read, and nothing said: a fault raises `Fault`.
+
+    >>> drawing("map", Source(Network(2, [(1, 2)], name="edge")))[:4]
+    '<svg'
+    """
     if of.network is not None:
         if of.network.nodes == 0:
             raise Fault(Code.NO_NODE_TO_DRAW, InText(of.network.name))

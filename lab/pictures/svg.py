@@ -9,7 +9,11 @@ from lab.pictures.palette import FONT, HEAD, INK, PAPER, SOFT
 
 
 def written(number: str | float) -> str:
-    """A number with at most one decimal place."""
+    """A number with at most one decimal place.
+
+    >>> written(2.0), written(0.25), written(-0.04)
+    ('2', '0.2', '0')
+    """
     if isinstance(number, str):
         return number
     text = f"{number:.1f}"
@@ -27,6 +31,11 @@ CONTROLS = dict.fromkeys(
 
 
 def escaped(text: str | float) -> str:
+    """A text between the tags of an element.
+
+    >>> escaped("1 < 2 & 3")
+    '1 &lt; 2 &amp; 3'
+    """
     return (
         str(text)
         .translate(CONTROLS)
@@ -37,7 +46,11 @@ def escaped(text: str | float) -> str:
 
 
 def quoted(text: str) -> str:
-    """A text between the quotes of an attribute."""
+    """A text between the quotes of an attribute.
+
+    >>> print(quoted('5" <'))
+    5&quot; &lt;
+    """
     return escaped(text).replace('"', "&quot;")
 
 

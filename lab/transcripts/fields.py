@@ -28,13 +28,21 @@ class NoEntry(Fault):
 
 
 def fields_of(line: bytes) -> list[bytes]:
-    """The fields of a line: blanks and tabs part them, and a carriage return at the end is dropped."""
+    """The fields of a line: blanks and tabs part them, and a carriage return at the end is dropped.
+
+    >>> fields_of(b"1  pulse\\t3\\r")
+    [b'1', b'pulse', b'3']
+    """
     return [field for field in line.removesuffix(b"\r").replace(b"\t", b" ").split(b" ") if field]
 
 
 def name_in_texts(program: str) -> str:
     """The name of a program as the first line of a transcript has it: one field that is no number, whatever its file is
-    called."""
+    called.
+
+    >>> name_in_texts("my rules.py"), name_in_texts("17")
+    ('my_rules_py', '_17')
+    """
     name = "".join(
         letter if letter.isascii() and (letter.isalnum() or letter in "-_") else "_"
         for letter in program
@@ -43,7 +51,11 @@ def name_in_texts(program: str) -> str:
 
 
 def first_line(nodes: int, program: str = COLOURING) -> str:
-    """The first line of a transcript with stamps: of edition 2, or of edition 3 if it isn't the colouring's."""
+    """The first line of a transcript with stamps: of edition 2, or of edition 3 if it isn't the colouring's.
+
+    >>> first_line(5), first_line(5, "leader")
+    ('transcript 2 5', 'transcript 3 leader 5')
+    """
     return (
         f"transcript 2 {nodes}"
         if program == COLOURING
@@ -73,6 +85,13 @@ def bound_of(program: str, word: bytes) -> int:
 
 @functools.lru_cache(maxsize=2**16)
 def number(field: bytes, what: str, bound: int = 2**32) -> int:
+    """The number of a field, from 0 and below the bound; `what` it is of is said in a refusal.
+
+    >>> number(b"0017", "pulse")
+    17
+
+    Raises `NoEntry` of a field that is none.
+    """
     digits = field.lstrip(b"0") or field[-1:]
     if not digits.isdigit() or len(digits) > MOST_DIGITS or int(digits) >= bound:
         bits = bound.bit_length() - 1
@@ -82,7 +101,13 @@ def number(field: bytes, what: str, bound: int = 2**32) -> int:
 
 @functools.lru_cache(maxsize=2**16)
 def wire_of(program: str, *fields: bytes) -> Message:
-    """A wire, with a payload of the program."""
+    """A wire, with a payload of the program.
+
+    >>> str(wire_of("leader", b"payload", b"0", b"leader", b"5"))
+    'payload 0 leader 5'
+
+    Raises `NoEntry` of fields that are no wire of the program.
+    """
     match fields:
         case [b"payload", pulse, word, of_word]:
             name = word.decode("latin-1")

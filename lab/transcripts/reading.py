@@ -80,7 +80,14 @@ def entry_of(line: int, fields: list[bytes], program: str, head: Head) -> Entry:
 
 def read(text: bytes, program: str | None = COLOURING) -> tuple[Head, list[Entry]]:
     """The first line, and the entries in the order of the text, with the payloads of the program of this name; without
-    one, of the program that the text names, or of the colouring."""
+    one, of the program that the text names, or of the colouring.
+
+    >>> head, entries = read(b"transcript 2 2\\n1 1 put 2 payload 0 hello 1\\n")
+    >>> head.edition, head.nodes, str(entries[0].what)
+    (2, 2, 'payload 0 hello 1')
+
+    Raises `WrongEntry` of the first line that is wrong.
+    """
     head, entries, fault = read_to_fault(text, program)
     if fault:
         raise fault
@@ -139,14 +146,22 @@ def code_of_head(field: bytes) -> Code:
 
 
 def line_of(entry: Entry) -> str:
-    """An entry as a transcript has it, without its stamp."""
+    """An entry as a transcript has it, without its stamp.
+
+    >>> line_of(Entry(line=2, node=1, kind=PULSE, neighbour=None, what=3))
+    '1 pulse 3'
+    """
     if entry.neighbour is None:
         return f"{entry.node} {entry.kind.value} {entry.what}"
     return f"{entry.node} {entry.kind.value} {entry.neighbour} {entry.what}"
 
 
 def words(entry: Entry) -> str:
-    """An entry in words."""
+    """An entry in words.
+
+    >>> words(Entry(line=2, node=1, kind=PULSE, neighbour=None, what=3))
+    'node 1 makes pulse 3'
+    """
     if entry.neighbour is None:
         return f"node {entry.node} makes {entry.kind.value} {entry.what}"
     way = "for" if entry.kind is PUT else "from"

@@ -11,7 +11,12 @@ from lab.transcripts.rules import Standing, rule_of, stuck_words
 
 
 class Clock:
-    """The counter of each node, and of each link the stamps of the wires that were put and not taken."""
+    """The counter of each node, and of each link the stamps of the wires that were put and not taken.
+
+    >>> clock = Clock([1, 2])
+    >>> clock.next(PULSE, 1, None), clock.next(PUT, 1, 2), clock.next(TAKE, 2, 1)
+    (1, 2, 3)
+    """
 
     def __init__(self, vertices: Iterable[int]) -> None:
         self.counters = dict.fromkeys(vertices, 0)
