@@ -19,7 +19,14 @@ class Network:
 
     `higher[v]` are the neighbours with a higher identifier, by ascending identifier: entry f is v's parent in forest f.
     `number[frozenset((v, w))]` is the forest of an edge. `span` is the greatest degree and the greatest number of bars
-    together: the colours of a plan are 0 to `span`, and `channels` is how many these are."""
+    together: the colours of a plan are 0 to `span`, and `channels` is how many these are.
+
+    >>> path = Network(3, [(2, 1), (2, 3)], given_identifiers={2: 17}, bars={1: [4]})
+    >>> path.edges, path.neighbours[2], path.channels
+    ([(1, 2), (2, 3)], [1, 3], 4)
+    >>> path.identifiers, path.higher
+    ({1: 1, 2: 17, 3: 3}, {1: [2], 2: [], 3: [2]})
+    """
 
     nodes: int
     edges: Collection[Edge]
@@ -72,12 +79,21 @@ class Network:
         return max(map(len, self.higher.values()), default=0)
 
     def parent(self, f: int, v: int) -> int | None:
-        """The parent of v in forest f; None at a root."""
+        """The parent of v in forest f, from 0; None at a root.
+
+        >>> edge = Network(2, [(1, 2)])
+        >>> edge.parent(0, 1), edge.parent(0, 2)
+        (2, None)
+        """
         return self.higher[v][f] if f < len(self.higher[v]) else None
 
 
 def order(span: int, barring: bool, sweep: int) -> list[int]:
-    """The colours in the order in which recolouring has them choose in a sweep, counted from 0, as sweeps are."""
+    """The colours in the order in which recolouring has them choose in a sweep, counted from 0, as sweeps are.
+
+    >>> order(3, barring=False, sweep=0), order(3, barring=True, sweep=1)
+    ([3, 2, 1, 0], [0, 1, 2, 3])
+    """
     down = list(range(span, -1, -1))
     if barring:
         return down[::-1] if sweep % 2 else down

@@ -50,7 +50,13 @@ from lab.pictures import (
     wrong_run,
 )
 from lab.pictures.places import unused_places
-from lab.pictures.program_rounds import ProgramRounds, is_own, least_wires, program_rounds, rounds_of
+from lab.pictures.program_rounds import (
+    ProgramRounds,
+    is_own,
+    least_wires,
+    program_rounds,
+    rounds_of,
+)
 from lab.pictures.transcripts import Run, ordered, window_of
 from lab.schedules.rules import (
     OF_ANY_ROUNDS,

@@ -42,7 +42,12 @@ class Status(NamedTuple):
 
 
 class AlphaSpace(Space[RuledNode]):
-    """The states of a network whose nodes run a program by rounds, once `search` has found them."""
+    """The states of a network whose nodes run a program by rounds, once `search` has found them.
+
+    >>> space = AlphaSpace(Network(1, []), reduce=True).search()
+    >>> space.count, space.depth[space.ends[0]], space.results(space.ends[0])
+    (13, 12, {1: 'channel 1'})
+    """
 
     rounds: Rounds
 

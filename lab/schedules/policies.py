@@ -78,7 +78,12 @@ Thing = TypeVar("Thing")
 class Policy:
     """Chooses steps by one of the POLICIES. `vertices` and `edges` (pairs, the lower vertex first) are the network's;
     `chosen` is the edge or the node that waits or comes first, or None. Whatever the policy is, what goes over a `slow`
-    edge and what a `lazy` node does waits until no other step is possible."""
+    edge and what a `lazy` node does waits until no other step is possible.
+
+    >>> steps = [Step(TAKE, 2, 1, since=5, latest=5), Step(TAKE, 1, 2, since=3, latest=7)]
+    >>> [Policy(name, [1, 2], [(1, 2)], seed="1").choose(steps).node for name in ("oldest", "newest")]
+    [1, 1]
+    """
 
     def __init__(
         self,

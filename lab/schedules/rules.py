@@ -144,7 +144,11 @@ ALL = OF_SCHEDULES | OF_ANY_ROUNDS
 
 
 def program_of(words: Collection[str]) -> str | None:
-    """The program whose rounds have all these rules, or None."""
+    """The program whose rounds have all these rules, or None.
+
+    >>> program_of(["shift"]), program_of(["shift", "no such rule"])
+    ('colouring', None)
+    """
     return next((name for name, of in OF_PROGRAMS.items() if set(words) <= set(of)), None)
 
 

@@ -167,7 +167,13 @@ class ByHand(Player[AnyNode]):
 
 
 class Stepwise(ByHand[AlphaNode]):
-    """Such a run under the synchroniser, whose list of events `forestplay events` reads."""
+    """Such a run under the synchroniser, whose list of events `forestplay events` reads.
+
+    >>> run = Stepwise(Network(2, [(1, 2)]))
+    >>> run.follow(["2-1"])
+    >>> run.lines, run.words_on(2, 1)
+    (['put 1 0', 'put 2 0', 'take 2 0', 'put 2 0'], ['payload 0 hello 2', 'ack 0'])
+    """
 
     own = PULSE
 
