@@ -16,7 +16,10 @@ LOOSE = {
         "which element has a name is said by the page, not by the browser",
     ),
     "lab/pictures/picture.py": (1, "the network of a picture that may have none"),
-    "lab/python/forestplan/interface/answers.py": (3, "a text or a property; a class of matplotlib"),
+    "lab/python/forestplan/interface/answers.py": (
+        3,
+        "a text or a property; a class of matplotlib",
+    ),
     "lab/python/forestplan/interface/calls.py": (1, "a plan has nodes of any kind"),
     "lab/python/forestplan/interface/graphs.py": (
         3,
