@@ -171,7 +171,7 @@ def main(words: list[str]) -> int:
         found = networks_found(given)
     else:
         found = rounds_found(given) if asks_for_rounds(given) else schedules_found(given)
-    write(given, as_json(found) if given.json else found.words)
+    write(given, found_as_json(found) if given.json else found.words)
     return int(found.broken)
 
 
@@ -245,7 +245,7 @@ def networks_found(given: Namespace) -> Found:
     return Found(not is_right, words)
 
 
-def as_json(found: Found) -> str:
+def found_as_json(found: Found) -> str:
     # Only this option pays for what the import takes.
     import json
 
