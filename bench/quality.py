@@ -15,7 +15,7 @@ import sys
 
 import networkx
 
-from lab import programs
+from lab import proved_programs
 from lab.network import Network
 from lab.networks import kinds
 from lab.networks.places import near
@@ -58,7 +58,7 @@ MOST = 2000
 
 def by_program(network, name, *words):
     """The channel of each node by a program, in whose lines it is the last word."""
-    rows = programs.text_of(name, words, plain_text(network).encode()).splitlines()
+    rows = proved_programs.text_of(name, words, plain_text(network).encode()).splitlines()
     return {v: int(row.split()[-1]) for v, row in zip(network.vertices, rows[-network.nodes :])}
 
 

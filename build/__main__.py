@@ -1,5 +1,5 @@
 """The door of what proves, builds and installs: `python3 build NAME [arguments]`, as the scripts call it. How a command
-ends in place of a traceback is in lab/door.py."""
+ends in place of a traceback is in lab/process_exit.py."""
 import importlib
 import os
 import sys
@@ -42,8 +42,8 @@ def main() -> int:
         return 0 if is_asked else 2
     sys.argv[:2] = sys.argv[1:2]
     module = "lab.version" if "--version" in (name, *sys.argv[1:2]) else f"build.{MODULES[name]}"
-    door = importlib.import_module("lab.door")
-    status: int = door.run(name, lambda: importlib.import_module(module).main)
+    process_exit = importlib.import_module("lab.process_exit")
+    status: int = process_exit.run(name, lambda: importlib.import_module(module).main)
     return status
 
 

@@ -13,7 +13,7 @@ from lab.pictures.run_picture import KINDS
 from lab.pictures.sheet import LESSONS
 from lab.schedules.policies import POLICIES
 from lab.schedules.rules import OF_ANY_ROUNDS, OF_SCHEDULES
-from lab.transcripts.convert import FORMS, ROUNDS
+from lab.transcripts.conversions import FORMS, ROUNDS
 from lab.transcripts.fields import PAYLOADS
 
 COMMANDS = ("forestplan", "forestplay", "forestlab")

@@ -1,5 +1,5 @@
 """Writes the types of what the pages ask and get, for the checker of their JavaScript: of the classes of
-lab/pictures/page_data.py into lab/pictures/page/data.d.ts, and of lab/studio/messages.py, answers.py and recorded.py,
+lab/pictures/page_data.py into lab/pictures/page/data.d.ts, and of lab/studio/messages.py, answers.py and recorded_answers.py,
 with the table of calls, into lab/studio/page/calls.d.ts."""
 import argparse
 import os
@@ -10,7 +10,7 @@ from typing import Annotated, Literal, Union, get_args, get_origin, get_type_hin
 
 from build.crate_lists import TOP
 from lab.pictures import page_data
-from lab.studio import answers, messages, recorded
+from lab.studio import answers, messages, recorded_answers
 from lab.studio.calls import CALLS
 from lab.studio.fields import word, words_by_name
 
@@ -53,7 +53,7 @@ def is_own(value: object) -> bool:
     return is_dataclass(value) or hasattr(value, "_fields")
 
 
-MODULES = (page_data, answers, messages, recorded)
+MODULES = (page_data, answers, messages, recorded_answers)
 NAMES = {kind: name for module in MODULES for kind, name in names_of(module).items()}
 
 
@@ -151,7 +151,7 @@ def page_types() -> dict[str, str]:
         module_types(answers),
         module_types(messages, is_asked=True),
         call_types(),
-        module_types(recorded),
+        module_types(recorded_answers),
     ]
     return {
         os.path.join("lab", "pictures", "page", "data.d.ts"): WRITTEN_BY.format(
@@ -160,7 +160,7 @@ def page_types() -> dict[str, str]:
         + "\n"
         + module_types(page_data),
         os.path.join("lab", "studio", "page", "calls.d.ts"): WRITTEN_BY.format(
-            "lab/studio/answers.py, messages.py, calls.py and recorded.py"
+            "lab/studio/answers.py, messages.py, calls.py and recorded_answers.py"
         )
         + "\n"
         + "\n".join(studio),

@@ -43,7 +43,7 @@ transcript 3 leader 5
 
 Judge a transcript: the lines of its entries in an order that is a run, and the verdict; or a fault.
 
->>> from lab.transcripts.check import whole_run
+>>> from lab.transcripts.judge import whole_run
 >>> lines, verdict = whole_run(ring, transcript.encode(), PROGRAMS["leader"])
 >>> verdict.partition(", ")[0]
 'whole run of 5 nodes'
@@ -66,11 +66,11 @@ What all packages share:
     faults          the exception `Fault`, with a code, a place and a subject
     sentences       the sentence of each code
     words           command lines: texts read and written, options that mean one thing in all commands
-    programs        calls the two proved programs
-    unbuilt         what to say of a program that isn't built
+    proved_programs calls the two proved programs
+    build_hint      what to say of a program that isn't built
     progress        what is shown of a call that takes minutes
     processors      how many processors may be used
     folders         where the package is, and what belongs to it
     version         which forestplan this is
-    door            how a command ends, whatever happens
+    process_exit    how a command ends, whatever happens
 """

@@ -1,5 +1,5 @@
 """The command `forestlab`: bin/forestlab calls `python3 -S lab COMMAND [words]`. How a command ends in place of a
-traceback is in door.py."""
+traceback is in process_exit.py."""
 import importlib
 import os
 import sys
@@ -86,10 +86,10 @@ def main() -> int:
     del sys.path[0]
     name = sys.argv[1] if len(sys.argv) > 1 else ""
     arguments = sys.argv[2:]
-    door = importlib.import_module("lab.door")
+    process_exit = importlib.import_module("lab.process_exit")
     # What a file of the user's does mustn't end this command, nor its status.
     calls_a_file = name != "studio" and any(word.endswith(".py") for word in arguments)
-    run = door.run_apart if calls_a_file else door.run
+    run = process_exit.run_apart if calls_a_file else process_exit.run
     status: int = run(
         name if name in COMMANDS else "forestlab", lambda: command_of(name, arguments)
     )

@@ -8,7 +8,7 @@ import time
 from itertools import chain, count
 
 from lab.faults import Fault
-from lab.networks.describe import Run, processor_seconds
+from lab.networks.description import Run, processor_seconds
 from lab.networks.network_text import network_of
 from lab.words import MOST_BYTES, bytes_in, duration
 

@@ -17,7 +17,7 @@ colours are numbers from 0, and channels from 1. The modules:
     events              messages, events without a clock, and entries of a transcript
     machine             the event machine: which event is possible, and what it changes
     own_program         a program of one's own by rounds, from a Python file; its limits
-    reacting            a program of one's own whose nodes react to messages, without rounds
+    reacting_program    a program of one's own whose nodes react to messages, without rounds
     file_variables      what such a file keeps outside of `me`
     values              values as keys that are equal exactly for equal values
 

@@ -12,7 +12,13 @@ from lab.definitions.matching import MATCHING
 from lab.definitions.nodes import COLOURING
 from lab.definitions.own_program import file_at, own_program
 from lab.definitions.program import Program
-from lab.definitions.reacting import AnyProgram, Reacting, reacting_program, reacts, words_taken
+from lab.definitions.reacting_program import (
+    AnyProgram,
+    Reacting,
+    reacting_program,
+    reacts,
+    words_taken,
+)
 from lab.definitions.recolouring import recolouring
 from lab.fault_codes import Code
 from lab.faults import Fault

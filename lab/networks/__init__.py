@@ -9,7 +9,7 @@
     plan_text           the plan of a text; which neighbours share a channel
     verdicts            the verdicts and states that the proved programs write, parsed
     codes               what a fault's code means, and what to do
-    describe            what a network is, how many messages a run takes, and about how long
+    description         what a network is, how many messages a run takes, and about how long
     numbering           the same network with other numbers
     search_order        an order in which neighbours are near each other
     reductions          networks that are a little smaller than another one

@@ -12,7 +12,7 @@ from lab.networks import tables
 from lab.networks.channels import channels_asked
 from lab.networks.codes import code_of, tell_code
 from lab.networks.command_line import command_line
-from lab.networks.describe import facts, warnings
+from lab.networks.description import facts, warnings
 from lab.networks.kinds import KINDS
 from lab.networks.listing import Listed
 from lab.networks.sources import network_at, network_bytes, path_of

@@ -11,7 +11,7 @@ from dataclasses import dataclass
 from inspect import signature
 from typing import Any, NamedTuple
 
-from lab import folders, programs
+from lab import folders, proved_programs
 from lab.definitions.colours import plan_text as plan_by_definition
 from lab.definitions.nodes import COLOURING
 from lab.definitions.program import Program
@@ -22,7 +22,7 @@ from lab.definitions.programs import (
     program_asked,
     program_words,
 )
-from lab.definitions.reacting import Reacting
+from lab.definitions.reacting_program import Reacting
 from lab.definitions.rounds import Rounds
 from lab.fault_codes import Code
 from lab.faults import Fault, InText, at_most
@@ -470,7 +470,7 @@ def note(what: str) -> None:
 def plan_text(network: Network, network_text: bytes) -> str:
     """The plan of the proved program; where that isn't built, of the definitions, which is said."""
     if folders.built("forestplan"):
-        return programs.text_of("forestplan", ["plain"], network_text)
+        return proved_programs.text_of("forestplan", ["plain"], network_text)
     note(
         "forestplan isn't built, so the plan is that of the definitions in Python, which no proof covers"
     )
@@ -487,9 +487,9 @@ def run_text(kind: str, network: Network, network_text: bytes, program: Program)
     if is_own(program):
         return text_of_run(network.nodes, played(network, program=program), program)
     if program == COLOURING:
-        return programs.text_of("forestplan", ["transcript"], network_text)
+        return proved_programs.text_of("forestplan", ["transcript"], network_text)
     words = ["run", "--transcript", *program_words(program)]
-    return programs.text_of("forestplay", words, network_text)
+    return proved_programs.text_of("forestplay", words, network_text)
 
 
 def reacting_run(given: Namespace, network: Network, program: Reacting) -> str:
@@ -558,7 +558,7 @@ def main(words: list[str]) -> int:
         given.refuse("--stopped is for --wrong")
     try:
         picture = drawn(given)
-    except programs.Refused as why:
+    except proved_programs.Refused as why:
         sys.stderr.write(why.words)
         return why.status
     write(given, picture)

@@ -2,7 +2,7 @@
 step of a node's own, and what a node has found, where that changes."""
 from lab.definitions.events import Entry
 from lab.definitions.machine import make
-from lab.definitions.reacting import Reacting, results_in
+from lab.definitions.reacting_program import Reacting, results_in
 from lab.faults import at_most
 from lab.network import Network
 from lab.pictures.marks import short_name

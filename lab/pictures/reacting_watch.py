@@ -6,7 +6,7 @@ from collections.abc import Iterator
 
 from lab.definitions.events import PUT, Entry, Message
 from lab.definitions.machine import NetState, make
-from lab.definitions.reacting import Reacting, ReactingNode
+from lab.definitions.reacting_program import Reacting, ReactingNode
 from lab.faults import at_most
 from lab.network import Edge, Network
 from lab.pictures.page_data import ReactedLook, ReactionsData, ReactionsTable, Row, WireRow

@@ -7,11 +7,11 @@ from typing import NamedTuple
 
 from lab.definitions.events import Entry, Kind, Message
 from lab.definitions.program import Program
-from lab.definitions.reacting import AnyProgram
+from lab.definitions.reacting_program import AnyProgram
 from lab.fault_codes import Code
 from lab.faults import Fault, InText
 from lab.network import Edge, Network
-from lab.transcripts.check import Found, check_form, find_order
+from lab.transcripts.judge import Found, check_form, find_order
 from lab.transcripts.reading import WrongEntry, read_to_fault
 
 # How many steps of time a pulse of the rounds takes.

@@ -12,7 +12,7 @@ from lab.definitions.events import Event, Kind
 from lab.definitions.own_program import OwnNode, check_repeats, has_verdict, wrong_end
 from lab.definitions.program import Program, RoundsNode
 from lab.definitions.programs import add_program, any_program_asked, program_asked
-from lab.definitions.reacting import Reacting, ReactingNode, check_reactions
+from lab.definitions.reacting_program import Reacting, ReactingNode, check_reactions
 from lab.fault_codes import Code
 from lab.faults import Fault
 from lab.network import Network

@@ -6,7 +6,7 @@ from dataclasses import replace
 from lab.definitions.events import PUT, Event, Message
 from lab.definitions.machine import NetState, Node
 from lab.definitions.own_program import asks_for_messages, what_is_wrong
-from lab.definitions.reacting import Reacting, messages_in, results_in
+from lab.definitions.reacting_program import Reacting, messages_in, results_in
 from lab.fault_codes import Code
 from lab.faults import Fault
 from lab.network import Network

@@ -2,7 +2,7 @@
 that ends with an error of the file goes wrong, as one does after which `always` isn't true."""
 from collections.abc import Collection, Hashable
 
-from lab.definitions.reacting import Reacting, ReactingNode
+from lab.definitions.reacting_program import Reacting, ReactingNode
 from lab.faults import Fault
 from lab.network import Network
 from lab.schedules.space import After, Gone, Space

@@ -6,7 +6,7 @@ from collections.abc import Collection, Iterator
 
 from lab.definitions.events import ACT, Event
 from lab.definitions.own_program import asks_for_messages, call, known, what_is_wrong
-from lab.definitions.reacting import (
+from lab.definitions.reacting_program import (
     HIDDEN,
     ON,
     Reacting,

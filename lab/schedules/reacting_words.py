@@ -5,7 +5,7 @@ from collections.abc import Callable, Iterator
 
 from lab.definitions.events import PUT, Event
 from lab.definitions.machine import NetState
-from lab.definitions.reacting import Reacting, ReactingNode, results_in
+from lab.definitions.reacting_program import Reacting, ReactingNode, results_in
 from lab.faults import Fault
 from lab.network import Network
 from lab.schedules.extent import Span, endless, extent_of

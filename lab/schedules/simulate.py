@@ -17,7 +17,7 @@ from lab.definitions.nodes import COLOURING, AlphaNode, alpha_start
 from lab.definitions.own_program import check_repeats, what_is_wrong, wrong_end
 from lab.definitions.program import Program
 from lab.definitions.programs import add_program, any_program_asked
-from lab.definitions.reacting import AnyProgram, Reacting, check_reactions, results_in
+from lab.definitions.reacting_program import AnyProgram, Reacting, check_reactions, results_in
 from lab.fault_codes import Code
 from lab.faults import Fault, InText
 from lab.network import Edge, Network

@@ -17,9 +17,9 @@ from lab.networks.fields import shown
 from lab.schedules.policies import POLICIES
 from lab.schedules.rules import OF_LINKS, OF_PROGRAMS, OF_SCHEDULES
 from lab.studio.answers import TABS, Order, PictureKind, Values, Written
-from lab.studio.asked import MOST_STEPS
+from lab.studio.call_values import MOST_STEPS
 from lab.studio.dares import DARES
-from lab.studio.drawn import decoded
+from lab.studio.drawn_network import decoded
 from lab.studio.lessons import LECTURE, LESSONS, step_place, steps_in
 from lab.studio.own_dares import OWN_DARES
 from lab.studio.session import Form

@@ -14,7 +14,7 @@ from lab.folders import TOP, built
 from lab.studio.answers import Build
 from lab.studio.messages import BuildCall, BuiltCall
 from lab.studio.session import Session
-from lab.studio.telling import Tell
+from lab.studio.call_progress import Tell
 
 PROGRAMS = ("forestplan", "forestplay")
 # Of the log its last bytes are looked at.

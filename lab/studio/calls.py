@@ -6,7 +6,7 @@ from typing import TypeVar
 from lab.studio import building, exercises, messages, networks, predictions, reactions, rounds, runs
 from lab.studio.fields import parsed_call
 from lab.studio.session import Session
-from lab.studio.telling import Tell
+from lab.studio.call_progress import Tell
 
 Asked = TypeVar("Asked")
 

@@ -5,7 +5,7 @@ from dataclasses import dataclass
 
 from lab.definitions.colours import colours
 from lab.definitions.nodes import last_pulse
-from lab.definitions.reacting import Reacting
+from lab.definitions.reacting_program import Reacting
 from lab.fault_codes import Code
 from lab.faults import Fault
 from lab.network import Network
@@ -15,12 +15,12 @@ from lab.schedules.rules import OF_LINKS, OF_SCHEDULES
 from lab.schedules.stepwise import Stepwise
 from lab.studio import dares
 from lab.studio.answers import ExerciseJudged
-from lab.studio.asked import either_program_asked, network_asked, program_asked, rules_asked
+from lab.studio.call_values import either_program_asked, network_asked, program_asked, rules_asked
 from lab.studio.lessons import LESSONS, SaidExercise, SeenExercise
 from lab.studio.messages import CheckCall, ExerciseCall
 from lab.studio.rounds import check
 from lab.studio.session import Session
-from lab.studio.telling import Tell
+from lab.studio.call_progress import Tell
 from lab.words import counted, in_words
 
 # What judges a goal.

@@ -15,11 +15,11 @@ from lab.network import Network
 from lab.networks.plan_text import clashes
 from lab.networks.verdicts import Verdict, parsed_verdict, states_of
 from lab.pictures.program_rounds import is_own
-from lab.programs import called
+from lab.proved_programs import called
 from lab.sentences import WORDS
 from lab.studio.answers import Judged, Replayed
 from lab.studio.session import Session
-from lab.transcripts.check import whole_run
+from lab.transcripts.judge import whole_run
 from lab.transcripts.reading import WrongEntry, read
 from lab.words import as_text
 

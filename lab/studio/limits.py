@@ -15,7 +15,7 @@ from collections.abc import Callable
 from dataclasses import asdict, dataclass
 from typing import Literal
 
-from lab.door import PR_SET_PDEATHSIG, STOPS, held
+from lab.process_exit import PR_SET_PDEATHSIG, STOPS, held
 from lab.faults import Fault
 
 # Seconds of the clock, seconds of processor time, and bytes.

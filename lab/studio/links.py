@@ -2,12 +2,12 @@
 from collections.abc import Iterator
 from functools import partial
 
-from lab.definitions.reacting import Reacting
+from lab.definitions.reacting_program import Reacting
 from lab.fault_codes import Code
 from lab.faults import Fault
 from lab.networks.fields import shown
 from lab.studio.address import program_named
-from lab.studio.asked import either_program_asked, network_asked
+from lab.studio.call_values import either_program_asked, network_asked
 from lab.studio.dares import judged
 from lab.studio.limits import apart
 from lab.studio.messages import OfProgram

@@ -7,7 +7,7 @@ from dataclasses import dataclass, field
 
 from lab.definitions.events import PUT, Message
 from lab.definitions.own_program import asks_for_messages, what_is_wrong
-from lab.definitions.reacting import Reacting, ReactingNode
+from lab.definitions.reacting_program import Reacting, ReactingNode
 from lab.faults import Fault
 from lab.network import Network
 from lab.schedules.reacting_stepwise import ReactingStepwise

@@ -35,9 +35,9 @@ from lab.studio.answers import (
     RuleSaid,
     RulesSaid,
 )
-from lab.studio.asked import MOST_DRAWN, network_asked
+from lab.studio.call_values import MOST_DRAWN, network_asked
 from lab.studio.dares import DARES
-from lab.studio.drawn import drawn_of
+from lab.studio.drawn_network import drawn_of
 from lab.studio.lessons import LECTURE, lessons
 from lab.studio.messages import (
     AddressCall,
@@ -50,7 +50,7 @@ from lab.studio.messages import (
 )
 from lab.studio.own_dares import OWN_DARES
 from lab.studio.session import SAMPLES, Session
-from lab.studio.telling import Tell
+from lab.studio.call_progress import Tell
 
 # How many letters of a file's name are shown.
 MOST_NAME = 80

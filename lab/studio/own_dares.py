@@ -3,7 +3,7 @@ is proved of a file, so whether a dare can be won isn't known; `forestlab explor
 from collections.abc import Collection, Iterable, Sequence
 
 from lab.definitions.own_program import what_is_wrong
-from lab.definitions.reacting import Reacting, results_in
+from lab.definitions.reacting_program import Reacting, results_in
 from lab.fault_codes import Code
 from lab.faults import Fault
 from lab.network import Network

@@ -5,7 +5,7 @@ from collections.abc import Collection
 from lab.definitions.events import PUT, Entry, Message
 from lab.definitions.machine import NetState
 from lab.definitions.nodes import COLOURING, AlphaNode
-from lab.definitions.reacting import Reacting
+from lab.definitions.reacting_program import Reacting
 from lab.definitions.rounds import Rounds, SEED
 from lab.fault_codes import Code
 from lab.faults import Fault
@@ -16,7 +16,7 @@ from lab.pictures.why_picture import Cone, choice_lines
 from lab.schedules.reacting_stepwise import ReactingStepwise
 from lab.schedules.rules import OF_LINKS, OF_SCHEDULES
 from lab.schedules.stepwise import Stepwise
-from lab.studio.asked import (
+from lab.studio.call_values import (
     MOST_ROUNDS,
     MOST_RUN,
     either_program_asked,
@@ -28,7 +28,7 @@ from lab.studio.asked import (
 from lab.studio.answers import Predicted
 from lab.studio.messages import PredictCall, SendsCall, WaitsCall
 from lab.studio.session import Session
-from lab.studio.telling import Tell
+from lab.studio.call_progress import Tell
 from lab.words import in_words
 
 # What a node's next pulse needs, by the rule that has it wait; and what it doesn't wait for without the rule.

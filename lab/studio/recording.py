@@ -15,7 +15,7 @@ from itertools import combinations
 from lab.definitions.nodes import COLOURING
 from lab.definitions.own_program import what_is_wrong
 from lab.definitions.programs import PROGRAMS
-from lab.definitions.reacting import Reacting
+from lab.definitions.reacting_program import Reacting
 from lab.definitions.rounds import Rounds
 from lab.faults import Fault
 from lab.folders import TOP
@@ -28,7 +28,7 @@ from lab.schedules.rules import OF_LINKS, OF_PROGRAMS, OF_SCHEDULES
 from lab.studio import dares
 from lab.studio.address import pairs_of, program_named
 from lab.studio.answers import BadPlan, Broken, ExerciseJudged, FileSays, GoodPlan, Reacted, Values
-from lab.studio.asked import either_program_asked, network_asked, program_asked
+from lab.studio.call_values import either_program_asked, network_asked, program_asked
 from lab.studio.calls import CALLS
 from lab.studio.exercises import (
     GOALS,
@@ -64,7 +64,7 @@ from lab.studio.messages import (
 from lab.studio.networks import opened_by
 from lab.studio.own_dares import NO_END as NO_END_YET, always_words, end_judged, own_dares_of
 from lab.studio.predictions import found_after, waited
-from lab.studio.recorded import (
+from lab.studio.recorded_answers import (
     MOST,
     SAID,
     STEPS,

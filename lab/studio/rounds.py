@@ -2,7 +2,7 @@
 goes wrong without a rule, and pictures."""
 
 from lab.definitions.nodes import COLOURING, last_pulse
-from lab.definitions.reacting import Reacting
+from lab.definitions.reacting_program import Reacting
 from lab.definitions.rounds import Rounds
 from lab.fault_codes import Code
 from lab.faults import Fault
@@ -20,7 +20,7 @@ from lab.schedules.reacting_stepwise import ReactingStepwise
 from lab.schedules.ruled_rounds import ruled, smallest_wrong
 from lab.schedules.rules import OF_PROGRAMS
 from lab.studio.answers import BadPlan, Broken, GoodPlan, PlanFound, WhyFound
-from lab.studio.asked import (
+from lab.studio.call_values import (
     MOST_ROUNDS,
     MOST_RUN,
     either_program_asked,
@@ -41,7 +41,7 @@ from lab.studio.messages import (
     WhyCall,
 )
 from lab.studio.session import Session
-from lab.studio.telling import Tell
+from lab.studio.call_progress import Tell
 
 
 def plan(call: PlanCall, session: Session, _tell: Tell) -> PlanFound:

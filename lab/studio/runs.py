@@ -10,7 +10,7 @@ from lab.definitions.machine import AnyNode
 from lab.definitions.nodes import COLOURING
 from lab.definitions.program import Program
 from lab.definitions.programs import program_words
-from lab.definitions.reacting import Reacting
+from lab.definitions.reacting_program import Reacting
 from lab.fault_codes import Code
 from lab.faults import Fault
 from lab.network import Edge, Network
@@ -30,7 +30,7 @@ from lab.studio.answers import (
     StepsFound,
     WholeRun,
 )
-from lab.studio.asked import (
+from lab.studio.call_values import (
     MOST_DRAWN,
     MOST_RUN,
     MOST_STEPS,
@@ -44,7 +44,7 @@ from lab.studio.judges import PYTHON, beginning_judged, by_definitions, judged, 
 from lab.studio.messages import Held, JudgeCall, ReplayCall, RunCall, RunPageCall, StepsCall
 from lab.studio.reactions import reactions_found
 from lab.studio.session import Session
-from lab.studio.telling import Tell
+from lab.studio.call_progress import Tell
 from lab.transcripts.reading import line_of
 
 # More wires than this are played by threads alone: the slow definitions would take minutes.

@@ -16,12 +16,12 @@ from lab.networks.sources import network_bytes
 from lab.networks.options import commands_for
 from lab.networks.reading import form_read, read_any
 from lab.networks.forms import Stated, Unsaid
-from lab.studio.asked import form_of_program
+from lab.studio.call_values import form_of_program
 from lab.studio.building import are_built
 from lab.studio.links import judge
 from lab.studio.networks import shown
 from lab.studio.publishing import PAGE, publish
-from lab.studio.serving import Server
+from lab.studio.server import Server
 from lab.studio.session import SAMPLES, Form, Session
 from lab.words import Parser, one_line, parser_of, text_at, text_name
 

@@ -2,18 +2,18 @@
 
     reading             the lines of a transcript: its first line and its entries, or the first fault
     fields              the fields of a line: numbers within their bounds, words of payloads
-    check               the judge: whether the entries are a whole run; an order of entries without stamps
+    judge               the judge: whether the entries are a whole run; an order of entries without stamps
     stamps              Lamport's clock; why an entry isn't possible, and what a run that ends early lacks
     rules               the rules of the four wires in words
     proved_judge        the verdict of the proved program, `forestplay replay`
-    convert             a transcript as JSON, for ShiViz, or by rounds
+    conversions         a transcript as JSON, for ShiViz, or by rounds
     transcript          the command `forestlab transcript`
 
 Judge a transcript, and change it so that it is refused:
 
 >>> from lab.network import Network
 >>> from lab.schedules.simulate import played, text_of_run
->>> from lab.transcripts.check import whole_run
+>>> from lab.transcripts.judge import whole_run
 >>> edge = Network(2, [(1, 2)])
 >>> text = text_of_run(2, played(edge))
 >>> lines, verdict = whole_run(edge, text.encode())

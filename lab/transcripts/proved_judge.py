@@ -4,7 +4,7 @@ from dataclasses import replace
 from lab.fault_codes import Code
 from lab.faults import Fault
 from lab.networks.verdicts import Verdict, parsed_verdict
-from lab.programs import called
+from lab.proved_programs import called
 
 
 def verdict_on_run(network: str, transcript: str, words: list[str]) -> Verdict:

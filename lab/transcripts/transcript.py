@@ -4,18 +4,18 @@ import gc
 import json
 import sys
 
-from lab import programs
+from lab import proved_programs
 from lab.definitions.own_program import wrong_end
 from lab.definitions.program import Program
 from lab.definitions.programs import PROGRAMS, add_program, any_program_asked, program_words
-from lab.definitions.reacting import AnyProgram, Reacting
+from lab.definitions.reacting_program import AnyProgram, Reacting
 from lab.fault_codes import Code
 from lab.faults import Fault
 from lab.network import Network
 from lab.networks.sources import network_bytes
 from lab.networks.network_text import network_of
-from lab.transcripts.check import in_order, not_right, whole_run
-from lab.transcripts.convert import FORMS, ROUNDS, as_rounds, entries_of
+from lab.transcripts.judge import in_order, not_right, whole_run
+from lab.transcripts.conversions import FORMS, ROUNDS, as_rounds, entries_of
 from lab.transcripts.reading import WrongEntry
 from lab.words import (
     MOST_OF_TRANSCRIPT,
@@ -187,7 +187,7 @@ def replayed(given: Namespace) -> str:
         raise Fault(Code.NO_PROVED_PROGRAM, name=program.name)
     made, _ = whole_run(net, text, program)
     # The network may not end in a line feed.
-    return programs.text_of(
+    return proved_programs.text_of(
         "forestplay", ["replay", *program_words(program)], network + b"\n" + in_order(made, text)
     )
 
@@ -217,7 +217,7 @@ def main(words: list[str]) -> int:
         else:
             print(wrong, file=sys.stderr)
         return 1
-    except programs.Refused as why:
+    except proved_programs.Refused as why:
         sys.stderr.write(why.words)
         return why.status
     return 0

@@ -3,7 +3,7 @@
     workshop        the command `forestlab workshop`: plays the runs, reports them, keeps a case
     options         its command line
     cases           the runs of an assignment: network, identifiers, bars and policy of each, by seed
-    playing         plays cases one after the other, and then smaller ones in which the same is wrong
+    player          plays cases one after the other, and then smaller ones in which the same is wrong
     clock_run       a run with a clock, judged pulse by pulse; a free run, of which only the plan is judged
     alpha_run       a run without a clock, whose transcript the proved program judges
     alpha_verdict   the verdict on it in words
@@ -21,7 +21,7 @@
     submissions     what is submitted, and the points
     parts           plays the parts of submissions, several at a time
     sandbox         the container in which a submission is graded
-    visible         which files it sees
+    visible_files   which files it sees
     calls           which calls of the system it may make
     compiling       compiles a source in Java
     class_files     the folder of a class: what students may see

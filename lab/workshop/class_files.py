@@ -8,10 +8,10 @@ import tempfile
 from collections.abc import Callable, Collection, Iterator
 
 from lab import version
-from lab.door import held
+from lab.process_exit import held
 from lab.folders import PACKAGE, TOP
-from lab.programs import SCRIPT, program_file
-from lab.unbuilt import FIRST
+from lab.proved_programs import SCRIPT, program_file
+from lab.build_hint import FIRST
 from lab.words import parser_of
 
 # Files and whole folders, each at the path that it has here; a folder means all files below it.
@@ -31,8 +31,8 @@ COPIED = (
     "examples",
     "lab/__init__.py",
     "lab/__main__.py",
-    "lab/door.py",
-    "lab/door.sh",
+    "lab/process_exit.py",
+    "lab/launcher.sh",
     "lab/definitions/__init__.py",
     "lab/definitions/events.py",
     "lab/folders.py",
@@ -40,8 +40,8 @@ COPIED = (
     "lab/limits.py",
     "lab/network.py",
     "lab/processors.py",
-    "lab/programs.py",
-    "lab/unbuilt.py",
+    "lab/proved_programs.py",
+    "lab/build_hint.py",
     "lab/progress.py",
     "lab/python",
     "lab/version.py",

@@ -20,7 +20,7 @@ from lab.workshop.report import aligned
 from lab.workshop.right_rounds import ask
 from lab.workshop.sandbox import USERS
 from lab.workshop.submissions import EACH, POINTS, RUNS, RUNS_EACH, Part, clean, submissions_of
-from lab.workshop.visible import meets
+from lab.workshop.visible_files import meets
 
 SECONDS = 600
 EDITION = 1

@@ -3,7 +3,7 @@ import time
 from collections.abc import Callable
 from typing import ParamSpec, TypeVar
 
-from lab.door import held
+from lab.process_exit import held
 from lab.workshop.findings import NoAnswer
 from lab.workshop.guard import Guard, Limits
 from lab.workshop.leftovers import end_all, is_reaper

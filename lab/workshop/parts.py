@@ -13,7 +13,7 @@ import time
 from multiprocessing.context import ForkProcess
 from multiprocessing.connection import Connection, wait
 
-from lab.door import held
+from lab.process_exit import held
 from lab.faults import Fault
 from lab.folders import PACKAGE, TOP
 from lab.workshop.cases import cases_of
@@ -21,11 +21,11 @@ from lab.workshop.compiling import compiled
 from lab.workshop.guard import Guard, Unguarded
 from lab.workshop.leftovers import PARENT_DEATH_SIGNAL, control, end_all, shut
 from lab.workshop.options import parsed
-from lab.workshop.playing import Player
+from lab.workshop.player import Player
 from lab.workshop.report import as_json, report
 from lab.workshop.sandbox import Sandbox
 from lab.workshop.submissions import RUNS, Graded, Part, clean
-from lab.workshop.visible import on_the_path
+from lab.workshop.visible_files import on_the_path
 
 GRACE = 60  # seconds beside those of --seconds, in which a part ends
 # All second plays together take at most so many times the seconds of one part.

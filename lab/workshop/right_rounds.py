@@ -4,7 +4,7 @@ from lab.fault_codes import Code
 from lab.faults import Fault
 from lab.network import Network
 from lab.networks.texts import plain_text
-from lab.programs import called
+from lab.proved_programs import called
 from lab.workshop.protocol import COLOURING, SEQUELS
 
 

@@ -2,7 +2,7 @@
 messages, the host's name and the network, and a list of what is in it.
 
 - A program sees the system's programs and libraries, what is on the PATH, a few files of /etc, and its submission, and
-  can't write there (visible.py). /proc has itself and its children alone; three files of it that languages read say the
+  can't write there (visible_files.py). /proc has itself and its children alone; three files of it that languages read say the
   same on each machine, but for the number of processors.
 - It writes into rooms in memory alone, its HOME and TMPDIR (/tmp) and /dev/shm, of a stated size; nothing of them is
   there once it has ended, and its limit of memory counts them. It begins in /tmp, which has a link to each entry of its
@@ -24,7 +24,7 @@ from functools import cached_property
 
 from lab.fault_codes import Code
 from lab.faults import Fault
-from lab.workshop import visible
+from lab.workshop import visible_files
 from lab.workshop.calls import filters_of_calls
 from lab.workshop.findings import NoAnswer
 from lab.workshop.guard import MEGABYTE, Guard, Limits, Start
@@ -83,9 +83,9 @@ class Sandbox(Guard):
         words += ["--dev", "/dev", "--proc", "/proc", *self.told()]
         words += ["--size", str(ROOM_BYTES), "--tmpfs", ROOM]
         # The submission becomes its user's own once it is copied.
-        shown = [*filter(self.reaches, [*visible.system(), *self.needed]), self.folder]
+        shown = [*filter(self.reaches, [*visible_files.system(), *self.needed]), self.folder]
         closed = {os.path.realpath(path) for path in self.hidden} - {ROOM}
-        empty = [*filter(os.path.isdir, closed), *visible.copies_in(shown)]
+        empty = [*filter(os.path.isdir, closed), *visible_files.copies_in(shown)]
         words += words_of_files(shown, {path for path in empty if self.reaches(path)})
         return [*words, "--size", str(SHARED_BYTES), "--tmpfs", SHARED, "--chdir", ROOM]
 
@@ -101,7 +101,7 @@ class Sandbox(Guard):
         """/proc without what it says of the machine, and who the program's user is. Each file and folder is covered."""
         words: list[str] = ["--tmpfs", "/dev/pts", "--remount-ro", "/dev/pts"]
         texts = {path: text.encode() for path, text in self.texts().items()}
-        for path in visible.covered_in_proc():
+        for path in visible_files.covered_in_proc():
             if path in texts:
                 continue
             if os.path.isdir(path):
@@ -130,7 +130,7 @@ class Sandbox(Guard):
 
     def reaches(self, path: str) -> bool:
         """Whether the programs' user may pass all folders above a path; what it can't reach can't be shown to it."""
-        return visible.reaches(path, self.user)
+        return visible_files.reaches(path, self.user)
 
     def words(self, command: list[str]) -> list[str]:
         """The command in a container of its own, with a link to each entry of the folder."""
@@ -182,11 +182,11 @@ def words_of_files(shown: list[str], empty: set[str]) -> list[str]:
     """What is seen, and what of that is empty; what is further in comes later, and is on top. A folder is shut once all
     below it is made."""
     words = []
-    covers = {path for path in empty if visible.is_below(path, shown)}
+    covers = {path for path in empty if visible_files.is_below(path, shown)}
     for path in sorted({*shown, *covers}):
         if path in covers:
             words += ["--tmpfs", path]
-        elif visible.deepest(path, covers) >= visible.deepest(path, shown):
+        elif visible_files.deepest(path, covers) >= visible.deepest(path, shown):
             words += shown_as(path)
     for path in (*sorted(covers), "/dev", "/"):
         words += ["--remount-ro", path]

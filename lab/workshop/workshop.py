@@ -15,7 +15,7 @@ from lab.workshop import class_files, grade
 from lab.workshop.cases import Case, cases_of
 from lab.workshop.leftovers import shut
 from lab.workshop.options import parsed
-from lab.workshop.playing import Player
+from lab.workshop.player import Player
 from lab.workshop.report import as_json, described, report
 from lab.workshop.right_rounds import words_of
 
@@ -76,7 +76,7 @@ def keep(case: Case, folder: str, program: str) -> None:
         f"  {command.format(**given)}"
         for command in REPEAT[case.played_run.kept]
         if "transcript check" not in command
-        or os.path.exists(os.path.join(PACKAGE, "transcripts", "check.py"))
+        or os.path.exists(os.path.join(PACKAGE, "transcripts", "judge.py"))
     ]
     words = described(case) if case.finding else [f"case   {case.number}: right"]
     words += ["", "The same without the workshop:", *commands, ""]

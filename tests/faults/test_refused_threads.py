@@ -6,7 +6,7 @@ from itertools import product
 
 from lab.definitions.colours import plan_text
 from lab.networks.network_text import network_of
-from lab.transcripts.check import whole_run
+from lab.transcripts.judge import whole_run
 from lab.transcripts.reading import WrongEntry
 from tests.cases import Case, example, text
 from tests.commands import EDGE

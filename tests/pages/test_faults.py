@@ -25,7 +25,7 @@ PATTERNS = set("match search fullmatch findall finditer sub split".split())
 SAYING = {"called", "said_by", "ask", "asked", "replayed"}
 # Places that look into a sentence all the same, with the reason.
 ALLOWED: dict[tuple[str, str], str] = {
-    ("lab/door.py", "run"): "puts what Python says of a mistake of our own into one line",
+    ("lab/process_exit.py", "run"): "puts what Python says of a mistake of our own into one line",
     (
         "lab/python/forestplan/interface/calls.py",
         "_called",

@@ -21,7 +21,7 @@ from unittest import mock
 
 from lab import programs
 from lab.definitions.programs import any_program_at
-from lab.definitions.reacting import Reacting
+from lab.definitions.reacting_program import Reacting
 from lab.faults import Fault
 from lab.networks.network_text import read_network
 from lab.pictures.page_data import as_object

@@ -127,11 +127,11 @@ READS = {
     ): "the report of a process of our own, on at most 120 runs",
     # What a browser says.
     (
-        "lab/studio/serving.py",
+        "lab/studio/server.py",
         "Handler.do_POST: self.rfile.read",
     ): "8 MiB: `MOST_ASKED`, looked at before",
-    ("lab/studio/serving.py", "has_hung_up: connection.recv"): "one byte, which is left there",
-    ("lab/studio/serving.py", "Handler.refuse: self.connection.recv"): "64 KiB, which aren't kept",
+    ("lab/studio/server.py", "has_hung_up: connection.recv"): "one byte, which is left there",
+    ("lab/studio/server.py", "Handler.refuse: self.connection.recv"): "64 KiB, which aren't kept",
     ("lab/studio/connections.py", "Connections.take: one.socket.recv"): "64 KiB: `MOST_HEAD`",
     (
         "lab/studio/connections.py",
@@ -147,9 +147,9 @@ READS = {
     ("lab/workshop/memory.py", "text_of: file.read"): "the same",
     ("lab/workshop/calls.py", "Filter.program: os.pread"): "the filter that this process has made",
     ("lab/workshop/sandbox.py", "Sandbox.enter: os.open"): "nothing is read of it here",
-    ("lab/door.py", "status_of: os.read"): "one byte",
+    ("lab/process_exit.py", "status_of: os.read"): "one byte",
     # What programs of this folder, or of the system, say.
-    ("lab/programs.py", "called: subprocess.run"): OF_PROGRAM,
+    ("lab/proved_programs.py", "called: subprocess.run"): OF_PROGRAM,
     ("lab/python/forestplan/interface/programs.py", "called: subprocess.run"): OF_PROGRAM,
     ("lab/workshop/workshop.py", "draw: subprocess.run"): "a line of `forestlab picture`",
     (
@@ -194,8 +194,8 @@ READS = {
     ("lab/studio/lessons.py", "page_text: file.read"): OF_TREE,
     ("lab/studio/networks.py", "example_text: open"): OF_TREE,
     ("lab/studio/networks.py", "example_text: file.read"): OF_TREE,
-    ("lab/studio/serving.py", "Handler.do_GET: open"): OF_TREE,
-    ("lab/studio/serving.py", "Handler.do_GET: file.read"): OF_TREE,
+    ("lab/studio/server.py", "Handler.do_GET: open"): OF_TREE,
+    ("lab/studio/server.py", "Handler.do_GET: file.read"): OF_TREE,
     ("lab/workshop/class_files.py", "write_sums: open"): OF_TREE,
     ("lab/workshop/class_files.py", "write_sums: file.read"): OF_TREE,
     ("lab/workshop/class_files.py", "copy_class: open"): OF_TREE,
@@ -215,7 +215,7 @@ READS = {
     # What is written.
     ("lab/words.py", "write: open"): WRITTEN,
     ("lab/words.py", "write_apart: open"): WRITTEN,
-    ("lab/door.py", "run: os.open"): WRITTEN,
+    ("lab/process_exit.py", "run: os.open"): WRITTEN,
     ("lab/studio/building.py", "Building.look: open"): WRITTEN,
     ("lab/studio/limits.py", "begin: open"): WRITTEN,
     ("lab/studio/studio.py", "open_browser: open"): WRITTEN,

@@ -11,7 +11,7 @@ from unittest import mock
 
 from lab.definitions.colours import bit
 from lab.definitions.programs import any_program_at, program_at
-from lab.definitions.reacting import Reacting
+from lab.definitions.reacting_program import Reacting
 from lab.definitions.rounds import Rounds
 from lab.faults import Fault
 from lab.network import Network

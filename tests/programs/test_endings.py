@@ -1,5 +1,5 @@
 """Tests of how the commands that are written in Python end: with one line, and never with a traceback, if the output is
-closed or full, the input can't be read, or someone presses Ctrl-C. All go through one door (lab/door.py), and read what
+closed or full, the input can't be read, or someone presses Ctrl-C. All go through one door (lab/process_exit.py), and read what
 they are given by one function (lab/words.py)."""
 import os
 import re
@@ -149,7 +149,7 @@ class Endings(Case):
             ("[].pop()", 70, f"{own}IndexError: "),
             ("bytearray(1 << 62)", 1, "some: out of memory\n"),
         ):
-            script = f"import sys; from lab import door; sys.exit(door.run('some', lambda: lambda: {fault}))"
+            script = f"import sys; from lab import process_exit; sys.exit(process_exit.run('some', lambda: lambda: {fault}))"
             done = subprocess.run(
                 [sys.executable, "-c", script], capture_output=True, text=True, cwd=TOP
             )

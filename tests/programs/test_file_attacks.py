@@ -4,12 +4,12 @@ import sys
 import unittest.mock
 
 from lab.definitions.programs import any_program_at
-from lab.definitions.reacting import Reacting
+from lab.definitions.reacting_program import Reacting
 from lab.fault_codes import Code
 from lab.faults import Fault
 from lab.networks.sources import network_at
 from lab.schedules import reacting_runs, simulate
-from lab.transcripts.check import whole_run
+from lab.transcripts.judge import whole_run
 from tests import TOP
 from tests.cases import Case, called, said_by
 
@@ -222,10 +222,10 @@ class FileAttacks(Case):
         path = self.file("caught.py", PING.format(head="", does=does))
         code = (
             f"import sys; sys.path.insert(0, {TOP!r})\n"
-            "from lab import door\nfrom lab.definitions import own_program\nfrom lab.schedules import simulate\n"
+            "from lab import process_exit\nfrom lab.definitions import own_program\nfrom lab.schedules import simulate\n"
             "own_program.LONGEST, own_program.LONGER = 1, 1\n"
             f"words = ['path2', '--program', {path!r}]\n"
-            "sys.exit(door.run_apart('simulate', lambda: lambda: simulate.main(words)))\n"
+            "sys.exit(process_exit.run_apart('simulate', lambda: lambda: simulate.main(words)))\n"
         )
         status, out, fault = called(sys.executable, "-c", code, limit=60)
         said = "a call of a function of the program's file doesn't end, and the file catches what ends it"

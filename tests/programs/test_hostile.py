@@ -15,7 +15,7 @@ from lab.definitions.programs import PROGRAMS
 from lab.networks.network_text import network_of
 from lab.schedules.simulate import played, text_of_run
 from lab.transcripts import fields
-from lab.transcripts.check import whole_run
+from lab.transcripts.judge import whole_run
 from lab.transcripts.reading import WrongEntry, read
 from tests.cases import Case
 from tests.faults.test_refused_memory import build_front

@@ -11,7 +11,7 @@ import re
 
 from lab.definitions.nodes import last_pulse
 from lab.networks import network
-from lab.networks.describe import most_payloads
+from lab.networks.description import most_payloads
 from lab.networks.network_text import network_of
 from lab.words import duration
 from tests.cases import Case, called, example, forestlab, in_process

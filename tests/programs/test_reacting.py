@@ -14,7 +14,7 @@ from lab.definitions.events import PUT, TAKE, Event
 from lab.definitions.leader import LEADER
 from lab.definitions.machine import NetState
 from lab.definitions.programs import any_program_at
-from lab.definitions.reacting import Reacting, ReactingNode, results_in
+from lab.definitions.reacting_program import Reacting, ReactingNode, results_in
 from lab.faults import Fault
 from lab.networks.network_text import network_of
 from lab.networks.sources import network_at
@@ -24,7 +24,7 @@ from lab.schedules.extent import endless, extent_of
 from lab.schedules.policies import POLICIES
 from lab.schedules.reacting_space import ReactingSpace
 from lab.schedules.simulate import played, text_of_run
-from lab.transcripts.check import whole_run
+from lab.transcripts.judge import whole_run
 from tests import TOP
 from tests.cases import Case, called, example, said_by, text_in
 from tests.pictures.marks import data_of, marks, parsed, title, titles

@@ -12,7 +12,7 @@ from lab.definitions.nodes import alpha_start
 from lab.networks.network_text import network_of
 from lab.schedules.policies import POLICIES
 from lab.schedules.simulate import AlphaPlayer, played
-from lab.transcripts.check import whole_run
+from lab.transcripts.judge import whole_run
 from tests.cases import Case, called, example, forestlab
 from tests.settings import PLAY
 from tests.tools import needs

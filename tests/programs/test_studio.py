@@ -156,10 +156,10 @@ class Refusals(Server):
         for path in ("/call/nothing", "/call/__class__", "/frame/hello", "/call/", "/", "/x/y/z"):
             self.note(f"no call {path}", self.ask(path)[0] in (403, 404), self.ask(path))
         for path in (
-            "/../asked.py",
-            "/asked.py",
-            "/page/../../asked.py",
-            "/%2e%2e/asked.py",
+            "/../call_values.py",
+            "/call_values.py",
+            "/page/../../call_values.py",
+            "/%2e%2e/call_values.py",
             "//etc/passwd",
         ):
             self.same(f"no file {path}", self.get(path)[0], 404)
@@ -174,7 +174,7 @@ class Refusals(Server):
 
     def test_no_files(self):
         """No call reads a file that it names, or runs a program that the command line hasn't given."""
-        for name in ("../lab/door", "/etc/passwd", "petersen.col", "../examples/petersen"):
+        for name in ("../lab/process_exit", "/etc/passwd", "petersen.col", "../examples/petersen"):
             self.refuses(f"example {name}", "no example", "example", name=name)
         for name in ("/x.py", "x.py", "examples/algorithms/independent_set.py", "?"):
             for call in ("run", "steps", "rounds"):

@@ -10,7 +10,7 @@ from unittest import mock
 from lab.definitions.events import PUT, TAKE
 from lab.definitions.machine import NetState
 from lab.definitions.programs import any_program_at
-from lab.definitions.reacting import Reacting, ReactingNode
+from lab.definitions.reacting_program import Reacting, ReactingNode
 from lab.faults import Fault
 from lab.networks.network_text import network_of
 from lab.pictures.page_data import as_object

@@ -14,7 +14,7 @@ import time
 from lab.definitions.nodes import COLOURING
 from lab.networks.network_text import network_of
 from lab.schedules.simulate import played, text_of_run
-from lab.transcripts.check import find_order, whole_run
+from lab.transcripts.judge import find_order, whole_run
 from lab.transcripts.reading import WrongEntry, read
 from tests import FORESTLAB, TOP
 from tests.cases import Case, called, forestlab, text, text_in, wait_until

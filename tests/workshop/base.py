@@ -11,7 +11,7 @@ from types import SimpleNamespace
 
 from lab.workshop.cases import Case, network_of
 from lab.workshop.options import parsed
-from lab.workshop.playing import Player
+from lab.workshop.player import Player
 from tests import FORESTLAB, TOP
 from tests.cases import Case as Rows
 from tests.tools import lack_of

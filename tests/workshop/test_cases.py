@@ -8,7 +8,7 @@ from lab.workshop import cases as runs
 from lab.workshop.cases import KEPT, NETWORKS, cases_of, network_of, varied
 from lab.workshop.clock_run import OpenRun
 from lab.workshop.findings import Finding
-from lab.workshop.playing import Player
+from lab.workshop.player import Player
 from tests.cases import Case
 from tests.workshop.base import options_of
 

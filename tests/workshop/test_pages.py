@@ -143,7 +143,7 @@ class ClassFolder(FolderCase):
     def test_it_has_no_solution(self):
         for path in (
             "lab/pictures",
-            "lab/transcripts/check.py",
+            "lab/transcripts/judge.py",
             "lab/schedules/ruled_node.py",
             "examples/workshop/python",
             "examples/workshop/c",

@@ -11,7 +11,7 @@ from lab.workshop.findings import NoAnswer
 from lab.workshop.guard import Limits
 from lab.workshop.processes import Process
 from lab.workshop.sandbox import USERS, Sandbox
-from lab.workshop.visible import copies_in, on_the_path
+from lab.workshop.visible_files import copies_in, on_the_path
 from tests.cases import Case, contents
 from tests.tools import need
 from tests.workshop.base import EXAMPLES, compiled

@@ -5,7 +5,7 @@ import io
 from unittest import mock
 
 from lab.network import Network
-from lab.workshop.playing import PROGRESS_SECONDS, Player
+from lab.workshop.player import PROGRESS_SECONDS, Player
 from lab.workshop.processes import last_errors
 from lab.workshop.right_rounds import RightRounds
 from lab.workshop.why import Why

@@ -1,4 +1,4 @@
-// Written by `python3 build page-types` from lab/studio/answers.py, messages.py, calls.py and recorded.py.
+// Written by `python3 build page-types` from lab/studio/answers.py, messages.py, calls.py and recorded_answers.py.
 
 type Form = "rounds" | "reactions";
 

@@ -28,8 +28,8 @@ def program_at(name: str) -> str:
     folders = of_lab("folders")
     found: str | None = folders.built(name)
     if found is None:
-        unbuilt = of_lab("unbuilt")
-        how = unbuilt.how_to_build(name)
+        build_hint = of_lab("build_hint")
+        how = build_hint.how_to_build(name)
         raise FileNotFoundError(f"{name} isn't built in {home()}: {how}")
     return found
 

@@ -6,7 +6,7 @@ from typing import Protocol
 from lab.definitions.nodes import COLOURING
 from lab.definitions.program import Program
 from lab.definitions.programs import PROGRAMS, any_program_at
-from lab.definitions.reacting import AnyProgram, Reacting, words_taken
+from lab.definitions.reacting_program import AnyProgram, Reacting, words_taken
 from lab.fault_codes import Code
 from lab.faults import Fault, InText
 from lab.limits import MAX_PASSES

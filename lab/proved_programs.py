@@ -9,7 +9,7 @@ from collections.abc import Iterable
 from lab.fault_codes import Code
 from lab.faults import Fault
 from lab.folders import built
-from lab.unbuilt import how_to_build
+from lab.build_hint import how_to_build
 
 # What the C library is asked for, unless the caller says something else: large pages for what is allocated.
 TUNABLES = "glibc.malloc.hugetlb=1"
@@ -21,7 +21,7 @@ SCRIPT = """\
 self=${BASH_SOURCE[0]}
 [[ $self == */* && ! -L $self ]] || self=$(readlink -f "$self") || exit 4
 top=${self%/*}/.. name=${self##*/}
-source "$top/lab/door.sh" || exit 4
+source "$top/lab/launcher.sh" || exit 4
 say_known "$name" "$@"
 run_program "$top/lib/$name" "$name" "$@"
 """

@@ -50,7 +50,7 @@ def run(name: str, load: Load) -> int:
         ):  # as `nohup` has it, and a shell in the background
             signal.signal(number, stop)
     try:
-        # The script that started this has kept Ctrl-C waiting (door.sh).
+        # The script that started this has kept Ctrl-C waiting (launcher.sh).
         signal.pthread_sigmask(signal.SIG_UNBLOCK, {signal.SIGINT})
         try:
             return load()()

@@ -11,7 +11,7 @@ from lab.definitions.machine import Refused, make
 from lab.definitions.nodes import COLOURING
 from lab.definitions.own_program import what_is_wrong
 from lab.definitions.program import Program
-from lab.definitions.reacting import AnyProgram, Reacting, results_in, start_of
+from lab.definitions.reacting_program import AnyProgram, Reacting, results_in, start_of
 from lab.fault_codes import Code
 from lab.network import Network
 from lab.transcripts.fields import fields_of

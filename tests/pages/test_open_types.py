@@ -31,7 +31,7 @@ LOOSE = {
     "lab/studio/page/draw.js": (1, "fields and menus, which the browser's types keep apart"),
     "lab/studio/page/recorded.js": (1, "each call asks with fields of its own"),
     "lab/studio/page/recorded_address.js": (1, "the values of an address, each of its own type"),
-    "lab/studio/serving.py": (2, "a request and an address, as socketserver has them"),
+    "lab/studio/server.py": (2, "a request and an address, as socketserver has them"),
     "tests/pages/test_published.py": (
         4,
         "recorded answers of all kinds; an example is always read, so it has a network",
