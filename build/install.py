@@ -9,7 +9,7 @@ from build import kit, program
 from build.completion import COMMANDS, completion, manual
 from build.crate_lists import PROGRAMS, TOP
 from lab import version
-from lab.words import parser_of
+from lab.parsers import parser_of
 from lab.workshop.class_files import is_free, make_folder, write, write_scripts, write_sums
 
 # What is copied, each at the path that it has here.

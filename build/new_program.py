@@ -8,7 +8,7 @@ from build.crate_lists import TOP, lines_of
 from build.kit import PARTS
 from lab.fault_codes import Code
 from lab.faults import Fault, InText
-from lab.words import parser_of
+from lab.parsers import parser_of
 from lab.workshop.class_files import write
 
 # What a crate is called as a crate, as a type, and as a name in texts.

@@ -1,6 +1,6 @@
 """Writes the types of what the pages ask and get, for the checker of their JavaScript: of the classes of
-lab/pictures/page_data.py into lab/pictures/page/data.d.ts, and of lab/studio/messages.py, answers.py and recorded_answers.py,
-with the table of calls, into lab/studio/page/calls.d.ts."""
+lab/pictures/page_data.py into lab/pictures/page/data.d.ts, and of lab/studio/messages.py, answers.py and
+recorded_answers.py, with the table of calls, into lab/studio/page/calls.d.ts."""
 import argparse
 import os
 from collections.abc import Collection, Iterator, Mapping, Sequence

@@ -30,7 +30,7 @@ from build import gate, kit
 from build.crate_lists import TOP, listed
 from lab.fault_codes import Code
 from lab.faults import Fault
-from lab.words import parser_of
+from lab.parsers import parser_of
 
 # What the kit says of a refusal for a name alone.
 NAME_ALONE = "only because a proof file names"

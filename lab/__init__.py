@@ -65,7 +65,9 @@ What all packages share:
     fault_codes     the codes of all faults
     faults          the exception `Fault`, with a code, a place and a subject
     sentences       the sentence of each code
-    words           command lines: texts read and written, options that mean one thing in all commands
+    files           texts, read with a limit and written
+    parsers         the parsers of the command lines, and options that mean one thing in all commands
+    wording         numbers, lists and lines put into words
     proved_programs calls the two proved programs
     build_hint      what to say of a program that isn't built
     progress        what is shown of a call that takes minutes

@@ -24,8 +24,8 @@ begin() {
   within_limits 1 "out of memory" "stack size=262144" "address space=33554432" "data size=16777216"
   local held=() options=(-S -X utf8)
   [[ ! -e $package/../VERSION ]] || options+=(-B)
-  # Ctrl-C waits until process_exit.py takes it: while Python itself begins, it would print a traceback. Of few processes none is
-  # asked whether `env` can have it wait.
+  # Ctrl-C waits until process_exit.py takes it: while Python itself begins, it would print a traceback. Of few
+  # processes none is asked whether `env` can have it wait.
   trap 'exit 130' INT
   [[ $limits =~ processes\ +[0-9]{1,3}\  ]] || ! env --block-signal=INT true 2>/dev/null || held=(env --block-signal=INT)
   exec "${held[@]}" python3 "${options[@]}" "$@"

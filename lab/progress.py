@@ -8,9 +8,10 @@ import time
 from itertools import chain, count
 
 from lab.faults import Fault
+from lab.files import MOST_BYTES, bytes_in
 from lab.networks.description import Run, processor_seconds
 from lab.networks.network_text import network_of
-from lab.words import MOST_BYTES, bytes_in, duration
+from lab.wording import duration
 
 # Seconds after which a line is written, and then every half hour.
 MOMENTS = chain((10, 30, 60, 120, 300, 600, 1200), count(1800, 1800))

@@ -6,10 +6,10 @@ import subprocess
 import sys
 from collections.abc import Iterable
 
+from lab.build_hint import how_to_build
 from lab.fault_codes import Code
 from lab.faults import Fault
 from lab.folders import built
-from lab.build_hint import how_to_build
 
 # What the C library is asked for, unless the caller says something else: large pages for what is allocated.
 TUNABLES = "glibc.malloc.hugetlb=1"

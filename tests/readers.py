@@ -20,8 +20,8 @@ from lab.studio.fields import object_of
 from lab.studio.networks import opened_by
 from lab.studio.session import Session
 from lab.transcripts import transcript
-from lab.workshop.protocol import END, fields_of, forms_of, lines_of
 from lab.workshop.findings import NoAnswer
+from lab.workshop.protocol import END, fields_of, forms_of, lines_of
 from lab.workshop.submissions import said_command
 from tests import TOP
 

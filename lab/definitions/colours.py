@@ -7,7 +7,7 @@ once."""
 from typing import Iterable
 
 from lab.network import Network
-from lab.words import as_text
+from lab.wording import as_text
 
 Colours = dict[int, int]
 

@@ -14,7 +14,7 @@ from lab.definitions.machine import NetState, Node, Outgoing, Refused
 from lab.definitions.program import Payload, Program, RoundsNode, Slot
 from lab.fault_codes import Code
 from lab.network import Network
-from lab.words import in_words
+from lab.wording import in_words
 
 # Up to the parent or down to a child, and the forest.
 Role = tuple[str, int]

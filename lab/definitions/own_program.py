@@ -40,8 +40,9 @@ from lab.definitions.program import Payload, Program, ProgramFile, Slot, pulses_
 from lab.definitions.values import by_name, frozen
 from lab.fault_codes import Code
 from lab.faults import Fault, InText
+from lab.files import bytes_at
 from lab.network import Network
-from lab.words import bytes_at, one_line
+from lab.wording import one_line
 
 # A function that is needed, by the names that it may have.
 NEEDED = (("greet",), ("step", "next"), ("result",))

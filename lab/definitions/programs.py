@@ -24,7 +24,8 @@ from lab.fault_codes import Code
 from lab.faults import Fault
 from lab.limits import MAX_PASSES
 from lab.network import Network
-from lab.words import as_utf8, count
+from lab.parsers import count
+from lab.wording import as_utf8
 
 # Those that `forestplay` runs.
 PROGRAMS: dict[str, Program] = {

@@ -44,7 +44,7 @@ from lab.definitions.values import by_name, frozen
 from lab.fault_codes import Code
 from lab.faults import Fault, InText
 from lab.network import Network
-from lab.words import counted
+from lab.wording import counted
 
 ON = "on_"
 # In one call. Nobody's node has as many ports.

@@ -6,13 +6,15 @@ from argparse import ArgumentParser, Namespace
 
 from lab.fault_codes import Code
 from lab.faults import Fault, InText
+from lab.files import bytes_at, text_at, write
 from lab.limits import MAX_CHANNEL
 from lab.networks.fields import shown
+from lab.networks.forms import Unsaid, decoded
 from lab.networks.options import add_stated, commands_for, stated_by
 from lab.networks.plan_text import PlanRow, rows_of
-from lab.networks.forms import Unsaid, decoded
 from lab.networks.tables import MOST_DIGITS, licence_of
-from lab.words import add_output, bytes_at, one_line, parser_of, text_at, write
+from lab.parsers import add_output, parser_of
+from lab.wording import one_line
 
 HELP = """\
 Replaces a plan's channels by real channel numbers, or the other way round.

@@ -3,7 +3,7 @@ from argparse import ArgumentParser
 
 from lab.networks.kinds import KINDS, NetworkKind
 from lab.networks.options import add_form, add_stated
-from lab.words import add_command, add_commands, add_output, add_seed, parser_of
+from lab.parsers import add_command, add_commands, add_output, add_seed, parser_of
 
 HELP = """\
 Makes networks, reads them in other forms, and says what they are.

@@ -6,7 +6,7 @@ from typing import TYPE_CHECKING
 
 from lab.network import Network
 from lab.networks.network_text import Reading
-from lab.words import counted, duration
+from lab.wording import counted, duration
 
 if TYPE_CHECKING:
     from lab.definitions.rounds import Rounds

@@ -2,7 +2,7 @@
 import re
 from functools import lru_cache
 
-from lab.words import one_line
+from lab.wording import one_line
 
 # More digits than any number has that a text of ours may hold.
 MOST_DIGITS = 40

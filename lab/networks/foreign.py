@@ -17,13 +17,13 @@ from lab.fault_codes import Code
 from lab.faults import Fault, InText
 from lab.networks.cross_check import Declared, in_json, in_xml
 from lab.networks.fields import shown
+from lab.networks.forms import Stated, decoded
 from lab.networks.gml import in_gml, with_multigraph
 from lab.networks.letters import from_graph6, in_graph6, in_sparse6
 from lab.networks.listing import Listed, Where, name_of, not_read
 from lab.networks.networkx_graph import Attributes, Graph
-from lab.networks.forms import Stated, decoded
 from lab.networks.table import FARTHEST
-from lab.words import one_line
+from lab.wording import one_line
 
 PACKAGE = "apt install python3-networkx, or pip install networkx"
 # How much of the words of networkx is said.

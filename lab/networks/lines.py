@@ -7,7 +7,7 @@ from lab.faults import Fault, InText
 from lab.networks.fields import shown
 from lab.networks.listing import Listed, Where, name_of
 from lab.networks.table import NUMBER, TITLES
-from lab.words import counted
+from lab.wording import counted
 
 NO_NAME = re.compile('[,;"]|^#')
 COMMENT = re.compile("#( .*)?")

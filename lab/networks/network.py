@@ -7,24 +7,26 @@ import sys
 
 from lab.fault_codes import Code
 from lab.faults import Fault
+from lab.files import text_at, write
 from lab.network import Network
 from lab.networks import tables
 from lab.networks.channels import channels_asked
 from lab.networks.codes import code_of, tell_code
 from lab.networks.command_line import command_line
 from lab.networks.description import facts, warnings
+from lab.networks.forms import Unsaid, decoded
 from lab.networks.kinds import KINDS
 from lab.networks.listing import Listed
-from lab.networks.sources import network_at, network_bytes, path_of
 from lab.networks.network_text import reading_of
 from lab.networks.numbering import near_each_other, renumbered
 from lab.networks.options import commands_for, stated_by
 from lab.networks.plan_text import rows_of
 from lab.networks.reading import form_read, listed_of, made_of
-from lab.networks.forms import Unsaid, decoded
+from lab.networks.sources import network_at, network_bytes, path_of
 from lab.networks.tables import MOST_DIGITS
 from lab.networks.texts import text_of
-from lab.words import as_text, one_line, source_of, text_at, write
+from lab.parsers import source_of
+from lab.wording import as_text, one_line
 
 # Kilometres: less than the first no two sites are apart, and numbers of places have no such digits; no two places on
 # the earth are much more than the second apart.

@@ -6,9 +6,9 @@ from dataclasses import replace
 from typing import TypeVar
 
 from lab.network import Network
-from lab.networks.search_order import LARGE, near_order
 from lab.networks.network_text import checked
 from lab.networks.random_networks import shuffled
+from lab.networks.search_order import LARGE, near_order
 
 Value = TypeVar("Value")
 

@@ -7,7 +7,7 @@ from lab.fault_codes import Code
 from lab.faults import Fault
 from lab.networks.forms import ENDINGS, Stated, Unsaid
 from lab.networks.table import TITLES
-from lab.words import as_text
+from lab.wording import as_text
 
 
 def titles_of(words: str) -> list[tuple[str, str]]:

@@ -4,11 +4,11 @@ from lab.faults import Fault, InText
 from lab.network import Edge, Network
 from lab.networks import foreign, lines, tables
 from lab.networks.fields import whole
-from lab.networks.listing import Listed
-from lab.networks.sources import path_of
-from lab.networks.network_text import checked, network_of, read_network, stem
 from lab.networks.forms import Stated, decoded, form_of, letters_of
-from lab.words import counted, one_line
+from lab.networks.listing import Listed
+from lab.networks.network_text import checked, network_of, read_network, stem
+from lab.networks.sources import path_of
+from lab.wording import counted, one_line
 
 
 def listed_of(data: bytes, name: str, form: str, stated: Stated) -> Listed:

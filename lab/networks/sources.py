@@ -4,12 +4,12 @@ import re
 
 from lab.fault_codes import Code
 from lab.faults import Fault, InText
+from lab.files import bytes_at, text_name
 from lab.folders import TOP
 from lab.network import Network
 from lab.networks.kinds import KINDS
 from lab.networks.network_text import network_of
 from lab.networks.texts import text_of
-from lab.words import bytes_at, text_name
 
 # Why no file of a network is longer than `MOST_BYTES`.
 TOO_LONG = "and no network within the limits is so long"

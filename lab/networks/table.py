@@ -9,9 +9,9 @@ from itertools import islice
 from lab.fault_codes import Code
 from lab.faults import Fault, InText
 from lab.networks.fields import shown
-from lab.networks.listing import not_read
 from lab.networks.forms import Stated, Unsaid
-from lab.words import in_words
+from lab.networks.listing import not_read
+from lab.wording import in_words
 
 # The standard titles of each column, in small letters. A column of places has its unit in its title.
 TITLES = {

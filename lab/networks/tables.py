@@ -5,12 +5,12 @@ from lab.fault_codes import Code
 from lab.faults import Fault, InText
 from lab.limits import MAX_BARS, MAX_CHANNEL, MAX_EDGES, MAX_NODES
 from lab.networks.fields import shown, whole
+from lab.networks.forms import Stated
 from lab.networks.listing import Listed, Where, check_known, name_of
 from lab.networks.network_text import IDENTIFIERS
 from lab.networks.places import Place, across_of, near, on_ground, on_map
-from lab.networks.forms import Stated
 from lab.networks.table import Table
-from lab.words import counted
+from lab.wording import counted
 
 # How many digits a real number of a channel has at most, as a frequency in kHz.
 MOST_DIGITS = 12

@@ -2,7 +2,7 @@
 from collections.abc import Iterable
 
 from lab.network import Network
-from lab.words import as_text
+from lab.wording import as_text
 
 
 def decimal(number: float) -> str:

@@ -6,7 +6,7 @@ from lab.faults import Fault, InText
 from lab.pictures.marks import colour_square
 from lab.pictures.palette import INK, PAPER, digits
 from lab.pictures.svg import Svg
-from lab.words import counted
+from lab.wording import counted
 
 RING = "#D55E00"
 FIRST, LAST = 2, 6

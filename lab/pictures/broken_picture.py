@@ -26,7 +26,7 @@ from lab.schedules.ruled_rounds import (
     looked_at,
     ruled,
 )
-from lab.words import in_words
+from lab.wording import in_words
 
 MOST_DRAWN, OVER, LEAST_WIDTH = 40, 48, 620
 

@@ -13,7 +13,7 @@ from lab.pictures.palette import INK, PAPER, WIRES
 from lab.pictures.places import Point
 from lab.pictures.player_page import caption
 from lab.pictures.svg import Svg, text_width, wrapped
-from lab.words import counted
+from lab.wording import counted
 
 # Seconds of a round, and of the end; the part of a round after which its messages have arrived.
 ROUND, END, ARRIVED = 1.6, 5.0, 0.8

@@ -16,7 +16,7 @@ from lab.pictures.marks import (
 from lab.pictures.palette import INK, PAPER, SOFT, text_on
 from lab.pictures.places import Point, box_height, places_of
 from lab.pictures.svg import Svg, text_width
-from lab.words import counted
+from lab.wording import counted
 
 MARGIN, BAR, GAP = 48, 9, 3
 # The colour and the width of an edge.

@@ -7,9 +7,9 @@ import unicodedata
 from collections.abc import Collection, Sequence
 
 from lab.network import Edge, Network
+from lab.pictures import palette
 from lab.pictures.marks import cut_name
 from lab.pictures.page_data import Net, NetNode, PlainNode, as_object
-from lab.pictures import palette
 from lab.pictures.places import (
     LITTLE,
     MOST_LOOKED_AT,

@@ -26,10 +26,12 @@ from lab.definitions.reacting_program import Reacting
 from lab.definitions.rounds import Rounds
 from lab.fault_codes import Code
 from lab.faults import Fault, InText, at_most
+from lab.files import MOST_OF_TRANSCRIPT, text_at, text_name, write
 from lab.network import Network
-from lab.networks.sources import network_bytes
 from lab.networks.network_text import network_of, stem
 from lab.networks.plan_text import read_plan
+from lab.networks.sources import network_bytes
+from lab.parsers import Parser, add_command, add_commands, add_output, parser_of, some_of
 from lab.pictures import (
     bits_picture,
     broken_picture,
@@ -65,18 +67,6 @@ from lab.schedules.rules import (
     unknown_to,
 )
 from lab.schedules.simulate import played, text_of_run
-from lab.words import (
-    MOST_OF_TRANSCRIPT,
-    Parser,
-    add_command,
-    add_commands,
-    add_output,
-    parser_of,
-    some_of,
-    text_at,
-    text_name,
-    write,
-)
 
 
 # A run of more wires has too long a text to be asked for.

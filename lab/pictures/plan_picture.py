@@ -5,7 +5,7 @@ from lab.network import Network
 from lab.networks.plan_text import clashes
 from lab.pictures.map_picture import Vertex, begun, draw_map
 from lab.pictures.marks import SMALL, short_name
-from lab.words import counted
+from lab.wording import counted
 
 LARGEST_NUMBERED = 100
 

@@ -12,7 +12,7 @@ from lab.pictures.page_data import (
 from lab.pictures.pages import net_of, page
 from lab.pictures.program_picture import is_new
 from lab.pictures.program_rounds import ProgramRounds
-from lab.words import counted
+from lab.wording import counted
 
 # In a newcomer's words, and then the term.
 SAY = {

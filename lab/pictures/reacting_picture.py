@@ -10,7 +10,7 @@ from lab.pictures.palette import CHANNEL_HUES, INK
 from lab.pictures.run_picture import BOLD
 from lab.pictures.svg import Svg, text_width
 from lab.pictures.transcripts import Wire, stamp_of, wires_of
-from lab.words import counted
+from lab.wording import counted
 
 TOP, ROW, SCALE, LEFT, WIDEST = 112, 78, 40, 64, 1214
 MOST_STEPS = 200

@@ -14,7 +14,7 @@ from lab.pictures.pages import net_of, page
 from lab.pictures.transcripts import stamp_of
 from lab.pictures.watch_page import MOST_ENTRIES, ORDER
 from lab.transcripts.reading import words
-from lab.words import counted
+from lab.wording import counted
 
 
 def reacted_look(node: ReactingNode) -> ReactedLook:

@@ -10,7 +10,7 @@ from lab.pictures.marks import Map, short_name
 from lab.pictures.palette import INK, channel_hue
 from lab.pictures.program_rounds import ProgramRounds
 from lab.pictures.svg import Svg
-from lab.words import counted
+from lab.wording import counted
 
 # Programs whose colours are channels: in the circle is the channel, and the node's number beside it; and those of which
 # the marks show all.

@@ -14,7 +14,7 @@ from lab.pictures.places import Point
 from lab.pictures.svg import Svg, text_width, wrapped
 from lab.pictures.transcripts import Run, Wire
 from lab.pictures.wrong_run import draw_wrong, said_of
-from lab.words import counted
+from lab.wording import counted
 
 LEFT, TOP, WIDTH = 64, 136, 1214
 KINDS = ("payload", "ack", "safe", "close")

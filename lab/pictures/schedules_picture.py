@@ -12,8 +12,8 @@ from lab.pictures.palette import BAND, BORDER, INK, PAPER, PULSE, WIRES, WRONG
 from lab.pictures.schedules_space import fault_words, left_out_words
 from lab.pictures.svg import Svg, text_width, wrapped
 from lab.pictures.transcripts import window_of
-from lab.schedules.explore import events_words, rounded
 from lab.schedules.alpha_space import AlphaSpace, Status
+from lab.schedules.explore import events_words, rounded
 
 # Where a step ends: at a state, or at (state, number of the step) if it is refused there.
 End = int | tuple[int, int]

@@ -12,13 +12,14 @@ from lab.definitions.colours import at_parent, colours, drop, shift
 from lab.definitions.events import Event
 from lab.definitions.nodes import alpha_start, last_pulse
 from lab.definitions.rounds import LAST_COLOUR, Rounds
+from lab.files import write
 from lab.network import Network
 from lab.networks.random_networks import alike_edges
 from lab.networks.texts import plain_text
+from lab.parsers import Parser, add_output, add_seed, count, parser_of
 from lab.pictures.map_picture import EDGE, Vertex, draw_map
 from lab.pictures.pages import filled, text_of
 from lab.pictures.svg import Svg, escaped
-from lab.words import Parser, add_output, add_seed, count, parser_of, write
 
 LESSONS = (1, 2, 3, 4, 5)
 MOST_SHEETS = 200

@@ -12,7 +12,7 @@ from lab.fault_codes import Code
 from lab.faults import Fault, at_most
 from lab.pictures.layout import distances
 from lab.pictures.rounds_picture import MOST_ROWS, draw_strips
-from lab.words import as_text, counted, in_words
+from lab.wording import as_text, counted, in_words
 
 
 # A kind, and the numbers that it is of.

@@ -15,8 +15,10 @@ from lab.definitions.programs import add_program, any_program_asked, program_ask
 from lab.definitions.reacting_program import Reacting, ReactingNode, check_reactions
 from lab.fault_codes import Code
 from lab.faults import Fault
+from lab.files import write
 from lab.network import Network
 from lab.networks.sources import network_at
+from lab.parsers import add_output, add_seed, count, parser_of
 from lab.schedules import reacting_words
 from lab.schedules.alpha_space import AlphaSpace, Status
 from lab.schedules.own_rounds import verdict_of, verdict_on_many
@@ -25,7 +27,7 @@ from lab.schedules.reacting_space import MOST_KEPT, ReactingSpace
 from lab.schedules.ruled_rounds import looked_at
 from lab.schedules.rules import ALL, OF_SCHEDULES, program_of, table, unknown_to
 from lab.schedules.space import AnySearched, Space
-from lab.words import add_output, add_seed, as_text, count, counted, parser_of, write
+from lab.wording import as_text, counted
 
 MOST_NODES, LIMIT, BYTES_A_STATE = 4, 1_000_000, 420
 # The most networks by chance.

@@ -12,7 +12,7 @@ from lab.definitions.program import Payload, Program, Slot, synchronous_pulses
 from lab.network import Network
 from lab.networks.reductions import smaller
 from lab.networks.texts import plain_text
-from lab.words import as_text, counted, in_words
+from lab.wording import as_text, counted, in_words
 
 # The most nodes of a network by chance, and how many smaller networks are tried in place of one that is wrong.
 MOST_NODES, MOST_TRIED = 12, 2000

@@ -18,7 +18,7 @@ from lab.definitions.reacting_program import (
 from lab.faults import Fault
 from lab.network import Network
 from lab.schedules.stepwise import ByHand
-from lab.words import counted
+from lab.wording import counted
 
 # Letters of a value that a node keeps.
 MOST_LETTERS = 120

@@ -11,7 +11,7 @@ from lab.network import Network
 from lab.schedules.extent import Span, endless, extent_of
 from lab.schedules.reacting_runs import Runs
 from lab.schedules.reacting_space import ReactingSpace
-from lab.words import counted
+from lab.wording import counted
 
 # So many ends are written out.
 MOST_ENDS = 6

@@ -20,16 +20,18 @@ from lab.definitions.programs import add_program, any_program_asked
 from lab.definitions.reacting_program import AnyProgram, Reacting, check_reactions, results_in
 from lab.fault_codes import Code
 from lab.faults import Fault, InText
+from lab.files import text_at, text_name, write
 from lab.network import Edge, Network
 from lab.networks.fields import shown
 from lab.networks.sources import network_at
+from lab.parsers import add_output, add_seed, parser_of
 from lab.schedules.policies import POLICIES, Policy, Step
 from lab.schedules.ruled_node import RuledNode
 from lab.sentences import WORDS
 from lab.transcripts.fields import first_line, first_line_of_reactions
 from lab.transcripts.reading import line_of
 from lab.transcripts.stamps import Clock, unfinished
-from lab.words import add_output, add_seed, as_text, parser_of, text_at, text_name, write
+from lab.wording import as_text
 
 HELP = """\
 Writes the transcript of a run without a clock that no thread made: step by step, a

@@ -12,9 +12,9 @@ from lab.fault_codes import Code
 from lab.faults import Fault
 from lab.folders import TOP, built
 from lab.studio.answers import Build
+from lab.studio.call_progress import Tell
 from lab.studio.messages import BuildCall, BuiltCall
 from lab.studio.session import Session
-from lab.studio.call_progress import Tell
 
 PROGRAMS = ("forestplan", "forestplay")
 # Of the log its last bytes are looked at.

@@ -4,9 +4,9 @@ from dataclasses import dataclass
 from typing import TypeVar
 
 from lab.studio import building, exercises, messages, networks, predictions, reactions, rounds, runs
+from lab.studio.call_progress import Tell
 from lab.studio.fields import parsed_call
 from lab.studio.session import Session
-from lab.studio.call_progress import Tell
 
 Asked = TypeVar("Asked")
 

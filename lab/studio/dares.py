@@ -11,7 +11,7 @@ from lab.pictures.program_rounds import is_own, rounds_of
 from lab.pictures.watch_page import look_of
 from lab.schedules.stepwise import Stepwise
 from lab.studio.answers import DareJudged, DareSaid
-from lab.words import counted
+from lab.wording import counted
 
 DARES = {
     "apart": DareSaid("neighbours two pulses apart", "bring two neighbours two pulses apart"),

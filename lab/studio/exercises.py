@@ -15,13 +15,13 @@ from lab.schedules.rules import OF_LINKS, OF_SCHEDULES
 from lab.schedules.stepwise import Stepwise
 from lab.studio import dares
 from lab.studio.answers import ExerciseJudged
+from lab.studio.call_progress import Tell
 from lab.studio.call_values import either_program_asked, network_asked, program_asked, rules_asked
 from lab.studio.lessons import LESSONS, SaidExercise, SeenExercise
 from lab.studio.messages import CheckCall, ExerciseCall
 from lab.studio.rounds import check
 from lab.studio.session import Session
-from lab.studio.call_progress import Tell
-from lab.words import counted, in_words
+from lab.wording import counted, in_words
 
 # What judges a goal.
 Goal = Callable[[ExerciseCall, Session, Tell], ExerciseJudged]

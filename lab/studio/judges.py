@@ -21,7 +21,7 @@ from lab.studio.answers import Judged, Replayed
 from lab.studio.session import Session
 from lab.transcripts.judge import whole_run
 from lab.transcripts.reading import WrongEntry, read
-from lab.words import as_text
+from lab.wording import as_text
 
 MOST_TEXT = 64 << 20
 MACHINE, PYTHON = "The proved machine", "Python (not proved)"

@@ -15,8 +15,8 @@ from collections.abc import Callable
 from dataclasses import asdict, dataclass
 from typing import Literal
 
-from lab.process_exit import PR_SET_PDEATHSIG, STOPS, held
 from lab.faults import Fault
+from lab.process_exit import PR_SET_PDEATHSIG, STOPS, held
 
 # Seconds of the clock, seconds of processor time, and bytes.
 SECONDS, PROCESSOR_SECONDS, MEMORY = 120, 110, 2 << 30

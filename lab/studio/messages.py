@@ -12,8 +12,8 @@ from lab.networks.kinds import KINDS
 from lab.schedules.policies import POLICIES
 from lab.studio.answers import PictureKind
 from lab.studio.dares import DARES
-from lab.studio.own_dares import OWN_DARES
 from lab.studio.fields import among, word, words_by_name
+from lab.studio.own_dares import OWN_DARES
 
 # A text or a number, as the field of a form has it.
 Word = Annotated[str, word]

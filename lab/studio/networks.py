@@ -12,11 +12,11 @@ from lab.faults import Fault, InText
 from lab.folders import TOP
 from lab.limits import MAX_PASSES
 from lab.network import Network
+from lab.networks.forms import BY_MARK, COMPRESSED, Unsaid, form_of
 from lab.networks.kinds import KINDS
 from lab.networks.network_text import read_network, stem
 from lab.networks.options import add_form, add_stated, stated_by
 from lab.networks.reading import read_any
-from lab.networks.forms import BY_MARK, COMPRESSED, Unsaid, form_of
 from lab.networks.texts import text_of
 from lab.pictures.page_data import Net
 from lab.pictures.pages import net_at, net_of, plain_nodes
@@ -35,6 +35,7 @@ from lab.studio.answers import (
     RuleSaid,
     RulesSaid,
 )
+from lab.studio.call_progress import Tell
 from lab.studio.call_values import MOST_DRAWN, network_asked
 from lab.studio.dares import DARES
 from lab.studio.drawn_network import drawn_of
@@ -50,7 +51,6 @@ from lab.studio.messages import (
 )
 from lab.studio.own_dares import OWN_DARES
 from lab.studio.session import SAMPLES, Session
-from lab.studio.call_progress import Tell
 
 # How many letters of a file's name are shown.
 MOST_NAME = 80

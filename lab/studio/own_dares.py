@@ -11,7 +11,7 @@ from lab.schedules.policies import Policy
 from lab.schedules.reacting_stepwise import ReactingStepwise
 from lab.schedules.simulate import Player
 from lab.studio.answers import DareJudged, DareSaid
-from lab.words import counted
+from lab.wording import counted
 
 OWN_DARES = {
     "always": DareSaid("what always refuses", "reach a state that the file’s always refuses"),

@@ -16,6 +16,8 @@ from lab.pictures.why_picture import Cone, choice_lines
 from lab.schedules.reacting_stepwise import ReactingStepwise
 from lab.schedules.rules import OF_LINKS, OF_SCHEDULES
 from lab.schedules.stepwise import Stepwise
+from lab.studio.answers import Predicted
+from lab.studio.call_progress import Tell
 from lab.studio.call_values import (
     MOST_ROUNDS,
     MOST_RUN,
@@ -25,11 +27,9 @@ from lab.studio.call_values import (
     rules_asked,
     vertex_asked,
 )
-from lab.studio.answers import Predicted
 from lab.studio.messages import PredictCall, SendsCall, WaitsCall
 from lab.studio.session import Session
-from lab.studio.call_progress import Tell
-from lab.words import in_words
+from lab.wording import in_words
 
 # What a node's next pulse needs, by the rule that has it wait; and what it doesn't wait for without the rule.
 NEEDED = {"acks": "its payloads are acknowledged", "safes": "its neighbours are safe"}

@@ -9,15 +9,15 @@ from lab.definitions.program import ProgramFile
 from lab.definitions.reacting_program import Reacting
 from lab.fault_codes import Code
 from lab.faults import Fault
+from lab.files import bytes_at
 from lab.network import Network
 from lab.schedules.reacting_stepwise import ReactingStepwise
 from lab.studio.answers import FileSays, FileText, Ran, Reacted, ReactionsFound
+from lab.studio.call_progress import Tell
 from lab.studio.call_values import own_program_now
 from lab.studio.messages import FileCall, StepsCall
 from lab.studio.own_dares import own_dare_judged, own_dares_of
 from lab.studio.session import Session
-from lab.studio.call_progress import Tell
-from lab.words import bytes_at
 
 # The version of a file that can't be read.
 UNREAD = "unread"

@@ -20,6 +20,7 @@ from lab.schedules.reacting_stepwise import ReactingStepwise
 from lab.schedules.ruled_rounds import ruled, smallest_wrong
 from lab.schedules.rules import OF_PROGRAMS
 from lab.studio.answers import BadPlan, Broken, GoodPlan, PlanFound, WhyFound
+from lab.studio.call_progress import Tell
 from lab.studio.call_values import (
     MOST_ROUNDS,
     MOST_RUN,
@@ -41,7 +42,6 @@ from lab.studio.messages import (
     WhyCall,
 )
 from lab.studio.session import Session
-from lab.studio.call_progress import Tell
 
 
 def plan(call: PlanCall, session: Session, _tell: Tell) -> PlanFound:

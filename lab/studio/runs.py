@@ -30,6 +30,7 @@ from lab.studio.answers import (
     StepsFound,
     WholeRun,
 )
+from lab.studio.call_progress import Tell
 from lab.studio.call_values import (
     MOST_DRAWN,
     MOST_RUN,
@@ -44,7 +45,6 @@ from lab.studio.judges import PYTHON, beginning_judged, by_definitions, judged, 
 from lab.studio.messages import Held, JudgeCall, ReplayCall, RunCall, RunPageCall, StepsCall
 from lab.studio.reactions import reactions_found
 from lab.studio.session import Session
-from lab.studio.call_progress import Tell
 from lab.transcripts.reading import line_of
 
 # More wires than this are played by threads alone: the slow definitions would take minutes.

@@ -11,19 +11,21 @@ from collections.abc import Iterable
 from lab.definitions.programs import PROGRAMS, any_program_at
 from lab.fault_codes import Code
 from lab.faults import Fault, InText
+from lab.files import text_at, text_name
 from lab.network import Network
-from lab.networks.sources import network_bytes
+from lab.networks.forms import Stated, Unsaid
 from lab.networks.options import commands_for
 from lab.networks.reading import form_read, read_any
-from lab.networks.forms import Stated, Unsaid
-from lab.studio.call_values import form_of_program
+from lab.networks.sources import network_bytes
+from lab.parsers import Parser, parser_of
 from lab.studio.building import are_built
+from lab.studio.call_values import form_of_program
 from lab.studio.links import judge
 from lab.studio.networks import shown
 from lab.studio.publishing import PAGE, publish
 from lab.studio.server import Server
 from lab.studio.session import SAMPLES, Form, Session
-from lab.words import Parser, one_line, parser_of, text_at, text_name
+from lab.wording import one_line
 
 PORT, NEXT_PORTS = 8321, 20
 HELP = """\

@@ -2,7 +2,7 @@
 say the same; they differ in how they name a link, by the port or by the neighbour."""
 from dataclasses import dataclass
 
-from lab.words import in_words
+from lab.wording import in_words
 
 # So many nodes are named that a run which is stuck waits for.
 MOST_OWING = 3

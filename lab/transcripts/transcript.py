@@ -11,23 +11,15 @@ from lab.definitions.programs import PROGRAMS, add_program, any_program_asked, p
 from lab.definitions.reacting_program import AnyProgram, Reacting
 from lab.fault_codes import Code
 from lab.faults import Fault
+from lab.files import MOST_OF_TRANSCRIPT, bytes_at, text_name, write
 from lab.network import Network
-from lab.networks.sources import network_bytes
 from lab.networks.network_text import network_of
-from lab.transcripts.judge import in_order, not_right, whole_run
+from lab.networks.sources import network_bytes
+from lab.parsers import add_command, add_commands, add_output, parser_of
 from lab.transcripts.conversions import FORMS, ROUNDS, as_rounds, entries_of
+from lab.transcripts.judge import in_order, not_right, whole_run
 from lab.transcripts.reading import WrongEntry
-from lab.words import (
-    MOST_OF_TRANSCRIPT,
-    add_command,
-    add_commands,
-    add_output,
-    as_text,
-    bytes_at,
-    parser_of,
-    text_name,
-    write,
-)
+from lab.wording import as_text
 
 HELP = """\
 Judges a transcript of a run without a clock, whoever wrote it.

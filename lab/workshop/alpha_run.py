@@ -9,7 +9,7 @@ from lab.networks.verdicts import Verdict
 from lab.schedules.policies import Policy, Step
 from lab.transcripts.fields import first_line
 from lab.transcripts.proved_judge import verdict_on_run
-from lab.words import as_text
+from lab.wording import as_text
 from lab.workshop.findings import NoAnswer
 from lab.workshop.nodes import PATIENCE, Nodes
 from lab.workshop.protocol import fields_of, forms_of, own_data, shown, wire_of

@@ -7,7 +7,7 @@ from lab.networks.texts import plain_text
 from lab.networks.verdicts import Verdict
 from lab.transcripts.proved_judge import verdict_on_run
 from lab.transcripts.rules import Standing, rule_of, rules_of_dues
-from lab.words import as_text
+from lab.wording import as_text
 from lab.workshop.alpha_run import OWN_DATA, AlphaRun, Entry
 from lab.workshop.findings import Finding, NoAnswer, first_of, kind_of, last_of, listed
 from lab.workshop.right_rounds import RightRounds, words_of

@@ -8,11 +8,11 @@ import tempfile
 from collections.abc import Callable, Collection, Iterator
 
 from lab import version
-from lab.process_exit import held
-from lab.folders import PACKAGE, TOP
-from lab.proved_programs import SCRIPT, program_file
 from lab.build_hint import FIRST
-from lab.words import parser_of
+from lab.folders import PACKAGE, TOP
+from lab.parsers import parser_of
+from lab.process_exit import held
+from lab.proved_programs import SCRIPT, program_file
 
 # Files and whole folders, each at the path that it has here; a folder means all files below it.
 COPIED = (
@@ -45,7 +45,9 @@ COPIED = (
     "lab/progress.py",
     "lab/python",
     "lab/version.py",
-    "lab/words.py",
+    "lab/files.py",
+    "lab/parsers.py",
+    "lab/wording.py",
     "lab/fault_codes.py",
     "lab/faults.py",
     "lab/sentences.py",

@@ -9,7 +9,7 @@ from lab.faults import Fault
 from lab.network import Network
 from lab.networks.texts import plain_text
 from lab.networks.verdicts import parsed_verdict
-from lab.words import in_words
+from lab.wording import in_words
 from lab.workshop.findings import Finding, NoAnswer, first_of, kind_of, listed
 from lab.workshop.nodes import PATIENCE, Answer, Nodes
 from lab.workshop.protocol import COLOURING, fields_of, forms_of, own_data, shown

@@ -2,7 +2,7 @@
 from collections.abc import Iterable, Sequence
 from dataclasses import dataclass, field
 
-from lab.words import in_words
+from lab.wording import in_words
 
 MOST = 8  # of a list of words
 

@@ -11,8 +11,9 @@ import tempfile
 from lab.fault_codes import Code
 from lab.faults import Fault
 from lab.folders import PACKAGE, TOP
+from lab.parsers import count, parser_of
 from lab.schedules.policies import POLICIES
-from lab.words import as_text, count, parser_of
+from lab.wording import as_text
 from lab.workshop.leftovers import shut
 from lab.workshop.options import add_limits, seconds
 from lab.workshop.parts import AGAIN, play_again, play_all, sandbox_of

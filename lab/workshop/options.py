@@ -3,11 +3,11 @@ import argparse
 import re
 from itertools import groupby
 
+from lab.parsers import add_seed, count, parser_of, some_of
 from lab.schedules.policies import POLICIES
 from lab.transcripts.fields import PAYLOADS
 from lab.workshop.cases import NETWORKS
 from lab.workshop.protocol import COLOURING
-from lab.words import add_seed, count, parser_of, some_of
 
 HELP = """\
 Runs programs that students write as the nodes of a network, and has the proved

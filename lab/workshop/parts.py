@@ -13,9 +13,9 @@ import time
 from multiprocessing.context import ForkProcess
 from multiprocessing.connection import Connection, wait
 
-from lab.process_exit import held
 from lab.faults import Fault
 from lab.folders import PACKAGE, TOP
+from lab.process_exit import held
 from lab.workshop.cases import cases_of
 from lab.workshop.compiling import compiled
 from lab.workshop.guard import Guard, Unguarded

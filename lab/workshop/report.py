@@ -1,7 +1,7 @@
 """What the workshop prints: a table of right runs, a league, the case that isn't right; or all of it for a program."""
 from argparse import Namespace
 
-from lab.words import counted
+from lab.wording import counted
 from lab.workshop.cases import Case
 from lab.workshop.findings import first_of
 

@@ -2,8 +2,8 @@
 messages, the host's name and the network, and a list of what is in it.
 
 - A program sees the system's programs and libraries, what is on the PATH, a few files of /etc, and its submission, and
-  can't write there (visible_files.py). /proc has itself and its children alone; three files of it that languages read say the
-  same on each machine, but for the number of processors.
+  can't write there (visible_files.py). /proc has itself and its children alone; three files of it that languages read
+  say the same on each machine, but for the number of processors.
 - It writes into rooms in memory alone, its HOME and TMPDIR (/tmp) and /dev/shm, of a stated size; nothing of them is
   there once it has ended, and its limit of memory counts them. It begins in /tmp, which has a link to each entry of its
   folder.
@@ -186,7 +186,7 @@ def words_of_files(shown: list[str], empty: set[str]) -> list[str]:
     for path in sorted({*shown, *covers}):
         if path in covers:
             words += ["--tmpfs", path]
-        elif visible_files.deepest(path, covers) >= visible.deepest(path, shown):
+        elif visible_files.deepest(path, covers) >= visible_files.deepest(path, shown):
             words += shown_as(path)
     for path in (*sorted(covers), "/dev", "/"):
         words += ["--remount-ro", path]

@@ -2,10 +2,10 @@
 from functools import cached_property
 
 from lab.network import order
+from lab.wording import in_words
 from lab.workshop.findings import last_of, listed
 from lab.workshop.protocol import SEQUELS
 from lab.workshop.right_rounds import RightRounds
-from lab.words import in_words
 
 NOT_COLOURED = ("leader", "layers")
 DROPPED = {8: 5, 10: 4, 12: 3}

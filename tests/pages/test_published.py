@@ -19,7 +19,7 @@ from http.server import SimpleHTTPRequestHandler, ThreadingHTTPServer
 from typing import Any
 from unittest import mock
 
-from lab import programs
+from lab import proved_programs
 from lab.definitions.programs import any_program_at
 from lab.definitions.reacting_program import Reacting
 from lab.faults import Fault
@@ -31,9 +31,9 @@ from lab.studio import publishing, studio
 from lab.studio.calls import CALLS
 from lab.studio.judges import MACHINE, PYTHON
 from lab.studio.lessons import LESSONS, SaidExercise
-from lab.studio.recording import Recording, spots, tell, text_of_page
 from lab.studio.networks import opened_by
 from lab.studio.own_dares import own_dares_of
+from lab.studio.recording import Recording, spots, tell, text_of_page
 from lab.studio.session import Session
 from lab.studio.studio import own_programs
 from tests import TOP, browser
@@ -760,7 +760,7 @@ class ByPrograms(Case):
             spot for spot in spots() if spot.piece == "first" or (spot.lesson, spot.step) == (5, 3)
         ]
         own, forms = own_programs([])
-        with mock.patch.object(programs, "program_file", PATHS.__getitem__):
+        with mock.patch.object(proved_programs, "program_file", PATHS.__getitem__):
             files = publishing.published(Session(own=own, forms=forms, is_proved=True), places)
         self.note("the judge", MACHINE.encode() in files["answers/lesson5.js"])
         self.note("and no other one", PYTHON.encode() not in files["answers/lesson5.js"])

@@ -83,12 +83,12 @@ WRITTEN = "it is opened to be written"
 # (file, place): its limit, with the reason.
 READS = {
     # What a user gives.
-    ("lab/words.py", "bytes_in: file.read"): "parts of 1 MiB up to the limit of the caller",
+    ("lab/files.py", "bytes_in: file.read"): "parts of 1 MiB up to the limit of the caller",
     (
-        "lab/words.py",
+        "lab/files.py",
         "bytes_at: sys.stdin",
     ): "256 MiB, a transcript 512 MiB: no network within the limits is longer",
-    ("lab/words.py", "bytes_at: open"): "the same",
+    ("lab/files.py", "bytes_at: open"): "the same",
     (
         "lab/progress.py",
         "about: open",
@@ -213,8 +213,8 @@ READS = {
     ): OF_TREE,
     ("lab/python/forestplan/interface/programs.py", "of_lab: spec.loader.exec_module"): OF_TREE,
     # What is written.
-    ("lab/words.py", "write: open"): WRITTEN,
-    ("lab/words.py", "write_apart: open"): WRITTEN,
+    ("lab/files.py", "write: open"): WRITTEN,
+    ("lab/files.py", "write_apart: open"): WRITTEN,
     ("lab/process_exit.py", "run: os.open"): WRITTEN,
     ("lab/studio/building.py", "Building.look: open"): WRITTEN,
     ("lab/studio/limits.py", "begin: open"): WRITTEN,

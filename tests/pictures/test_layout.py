@@ -3,8 +3,8 @@ another one. And where the vertices of a network are drawn, and their names."""
 import re
 from itertools import combinations, product
 
-from lab.networks.sources import network_bytes
 from lab.networks.network_text import network_of
+from lab.networks.sources import network_bytes
 from lab.pictures.page_data import PlainNode
 from lab.pictures.pages import net_at, net_of, page_label
 from lab.pictures.places import Places, page_bends

@@ -5,8 +5,8 @@ import re
 from lab.definitions.colours import colours
 from lab.definitions.nodes import last_pulse
 from lab.definitions.rounds import FIRST_MERGE, Rounds, merge_step
-from lab.networks.sources import network_bytes
 from lab.networks.network_text import network_of
+from lab.networks.sources import network_bytes
 from tests.cases import example, examples
 from tests.pictures.base import APART, BARRED, PictureCase
 from tests.pictures.marks import (

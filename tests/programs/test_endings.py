@@ -1,6 +1,6 @@
 """Tests of how the commands that are written in Python end: with one line, and never with a traceback, if the output is
-closed or full, the input can't be read, or someone presses Ctrl-C. All go through one door (lab/process_exit.py), and read what
-they are given by one function (lab/words.py)."""
+closed or full, the input can't be read, or someone presses Ctrl-C. All end in one module (lab/process_exit.py), and
+read what they are given by one function (lab/files.py)."""
 import os
 import re
 import signal
@@ -149,7 +149,8 @@ class Endings(Case):
             ("[].pop()", 70, f"{own}IndexError: "),
             ("bytearray(1 << 62)", 1, "some: out of memory\n"),
         ):
-            script = f"import sys; from lab import process_exit; sys.exit(process_exit.run('some', lambda: lambda: {fault}))"
+            run = f"process_exit.run('some', lambda: lambda: {fault})"
+            script = f"import sys; from lab import process_exit; sys.exit({run})"
             done = subprocess.run(
                 [sys.executable, "-c", script], capture_output=True, text=True, cwd=TOP
             )

@@ -4,7 +4,7 @@ import os
 import resource
 import unittest.mock
 
-from lab import words
+from lab import files
 from tests.cases import Case, forestlab
 
 ZERO = "/dev/zero"
@@ -53,11 +53,11 @@ class Endless(Case):
 
     def test_the_limit_is_exact(self) -> None:
         """A text as long as the limit is read, and one of a byte more isn't."""
-        with unittest.mock.patch.object(words, "PART", 3):
+        with unittest.mock.patch.object(files, "PART", 3):
             for size in range(1, 12):
                 path = self.file("text", b"x" * size)
                 for most in (2, 3, 5, 6, 8, 9):
                     with open(path, "rb") as file:
-                        found = words.bytes_in(file, most)
+                        found = files.bytes_in(file, most)
                     wanted = b"x" * size if size <= most else None
                     self.same(f"{size} bytes, at most {most}", found, wanted)

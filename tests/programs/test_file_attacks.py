@@ -222,7 +222,8 @@ class FileAttacks(Case):
         path = self.file("caught.py", PING.format(head="", does=does))
         code = (
             f"import sys; sys.path.insert(0, {TOP!r})\n"
-            "from lab import process_exit\nfrom lab.definitions import own_program\nfrom lab.schedules import simulate\n"
+            "from lab import process_exit\nfrom lab.definitions import own_program\n"
+            "from lab.schedules import simulate\n"
             "own_program.LONGEST, own_program.LONGER = 1, 1\n"
             f"words = ['path2', '--program', {path!r}]\n"
             "sys.exit(process_exit.run_apart('simulate', lambda: lambda: simulate.main(words)))\n"

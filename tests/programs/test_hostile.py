@@ -19,8 +19,8 @@ from lab.transcripts.judge import whole_run
 from lab.transcripts.reading import WrongEntry, read
 from tests.cases import Case
 from tests.faults.test_refused_memory import build_front
-from tests.programs.test_plain_networks import networks_by_chance
 from tests.programs.slow_reader import answer_to
+from tests.programs.test_plain_networks import networks_by_chance
 from tests.settings import PLAN, PLAY, setting
 from tests.tools import needs
 

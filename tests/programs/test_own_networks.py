@@ -13,7 +13,7 @@ from lab.definitions.nodes import last_pulse
 from lab.networks import network
 from lab.networks.description import most_payloads
 from lab.networks.network_text import network_of
-from lab.words import duration
+from lab.wording import duration
 from tests.cases import Case, called, example, forestlab, in_process
 from tests.programs import test_plain_networks
 from tests.programs.test_plain_networks import payloads_of, reached, some_bars

@@ -4,8 +4,8 @@ from unittest import mock
 
 from lab.faults import Fault
 from lab.networks import foreign
-from lab.networks.reading import listed_of, made_of
 from lab.networks.forms import Stated
+from lab.networks.reading import listed_of, made_of
 from tests.cases import Case
 
 

@@ -13,8 +13,8 @@ from lab.definitions.nodes import alpha_start, last_pulse
 from lab.network import Network
 from lab.networks.network_text import network_of
 from lab.schedules import ruled_rounds, rules
-from lab.schedules.explore import rounded
 from lab.schedules.alpha_space import AlphaSpace
+from lab.schedules.explore import rounded
 from tests import TOP
 from tests.cases import Case, called, found_in, said_by, text_in
 from tests.programs.test_plain_networks import networks_by_chance, payloads_of

@@ -8,8 +8,8 @@ import re
 from lab.faults import Fault
 from lab.limits import MAX_NODES
 from lab.networks import tables
-from lab.networks.network_text import network_of
 from lab.networks.forms import Stated
+from lab.networks.network_text import network_of
 from tests.cases import Case, called, example, said_by
 from tests.programs.test_own_networks import call, edges_of
 from tests.settings import PLAN

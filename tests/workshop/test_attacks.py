@@ -10,8 +10,8 @@ from lab.workshop.submissions import part_of
 from tests.cases import text_in, working_in
 from tests.tools import need, needs
 from tests.workshop.base import ALPHA, JAVA, call
-from tests.workshop.test_forgers import FORGED
 from tests.workshop.submitted import RIGHT, Submitted
+from tests.workshop.test_forgers import FORGED
 
 THIEF = "import os\nopen({loot!r}, 'w').write('x')\nraise SystemExit\n"
 # The names of modules that a command of forestlab imports, and of programs that it starts.

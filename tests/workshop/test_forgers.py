@@ -11,8 +11,8 @@ from lab.workshop.sandbox import USERS
 from tests.cases import wait_until
 from tests.tools import needs
 from tests.workshop.base import DOOR, LIMIT, call
-from tests.workshop.test_misbehaving import MARK, left, left_at_last
 from tests.workshop.contained import got, program
+from tests.workshop.test_misbehaving import MARK, left, left_at_last
 
 PYTHON = "--", "python3", "-S", "-c"
 FORGED = json.dumps({"workshop": 1, "runs": 1, "right": 1, "cases": [{"verdict": "right"}]})

@@ -17,8 +17,8 @@ from lab.workshop import grade, parts, processes, submissions
 from tests.cases import Case, text_in, tool_at, wait_until
 from tests.tools import need, needs
 from tests.workshop.base import DOOR, LIMIT, call
-from tests.workshop.submitted import MUTE, RIGHT, ZERO, Submitted
 from tests.workshop.contained import got, program
+from tests.workshop.submitted import MUTE, RIGHT, ZERO, Submitted
 from tests.workshop.test_misbehaving import MARK, left, left_at_last
 
 
