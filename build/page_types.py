@@ -168,10 +168,10 @@ def page_types() -> dict[str, str]:
 
 
 def main() -> int:
-    words = argparse.ArgumentParser(
+    parser = argparse.ArgumentParser(
         "python3 build page-types", description=HELP, formatter_class=argparse.RawTextHelpFormatter
     )
-    words.parse_args()
+    parser.parse_args()
     for path, text in page_types().items():
         with open(os.path.join(TOP, path), "w", encoding="utf-8") as file:
             file.write(text)

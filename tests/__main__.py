@@ -38,21 +38,21 @@ LONGEST = (
 
 
 def options():
-    words = argparse.ArgumentParser(
+    parser = argparse.ArgumentParser(
         prog="tests",
         usage="python3 -m tests [NAME ..] [options]",
         description=__doc__,
         epilog=MORE_HELP,
         formatter_class=argparse.RawDescriptionHelpFormatter,
     )
-    words.add_argument("names", metavar="NAME", nargs="*")
-    words.add_argument(
+    parser.add_argument("names", metavar="NAME", nargs="*")
+    parser.add_argument(
         "--list", action="store_true", help="print the names of the tests, and run none"
     )
-    words.add_argument(
+    parser.add_argument(
         "--built", action="store_true", help="run none, unless the programs are built"
     )
-    words.add_argument(
+    parser.add_argument(
         "-j",
         "--jobs",
         metavar="N",
@@ -60,7 +60,7 @@ def options():
         default=len(os.sched_getaffinity(0)),
         help="how many modules run at a time; as many as there are processors by default",
     )
-    return words
+    return parser
 
 
 def is_named(name, test):
@@ -82,7 +82,7 @@ def names_of(suite: unittest.TestSuite) -> Iterator[str]:
             yield test.id().partition("tests.")[2]
 
 
-def chosen_tests(names: list[str], words: argparse.ArgumentParser) -> dict[str, list[str]]:
+def chosen_tests(names: list[str], parser: argparse.ArgumentParser) -> dict[str, list[str]]:
     """The names of the tests to run, by module."""
     found, tests = defaultdict(list), os.path.join(TOP, "tests")
     for test in names_of(unittest.defaultTestLoader.discover(tests, "test_*.py", TOP)):
@@ -90,7 +90,7 @@ def chosen_tests(names: list[str], words: argparse.ArgumentParser) -> dict[str, 
             found[".".join(test.split(".")[:2])].append(test)
     for name in names:
         if not any(is_named(name, test) for tests in found.values() for test in tests):
-            words.error(f"no test has the name {name}; --list prints the names")
+            parser.error(f"no test has the name {name}; --list prints the names")
     return found
 
 
@@ -178,9 +178,9 @@ def main():
         sys.pycache_prefix = os.environ.setdefault(
             "PYTHONPYCACHEPREFIX", os.path.join(folder, "compiled")
         )
-        words = options()
-        given = words.parse_args()
-        chosen = chosen_tests(given.names, words)
+        parser = options()
+        given = parser.parse_args()
+        chosen = chosen_tests(given.names, parser)
         if given.list:
             print("\n".join(test for tests in chosen.values() for test in tests))
             return 0

@@ -122,22 +122,22 @@ def any_program_asked(command: str, given: Namespace, network: Network | None = 
     return program
 
 
-def add_program(words: ArgumentParser) -> None:
+def add_program(parser: ArgumentParser) -> None:
     """Adds the options to a command line."""
-    words.add_argument("--program", default=COLOURING.name, metavar="P", help=HELP)
-    words.add_argument(
+    parser.add_argument("--program", default=COLOURING.name, metavar="P", help=HELP)
+    parser.add_argument(
         "--root",
         type=int,
         metavar="V",
         help="the node that is the root of layers; default: the one of identifier 1",
     )
-    words.add_argument(
+    parser.add_argument(
         "--passes",
         type=partial(count, most=MAX_PASSES),
         metavar="N",
         help=f"how often recolouring chooses again, 1 to {MAX_PASSES}; default: once",
     )
-    words.add_argument(
+    parser.add_argument(
         "--lots",
         default="1",
         type=as_utf8,

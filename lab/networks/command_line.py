@@ -169,8 +169,8 @@ def of_kinds() -> dict[str, tuple[str, str, str, str]]:
 def command_line() -> ArgumentParser:
     titles = {name: " ".join([name, *map(str.upper, kind.sizes)]) for name, kind in KINDS.items()}
     kinds = "".join(f"  {titles[name]:<20}{kind.does}\n" for name, kind in KINDS.items())
-    words = parser_of("network", "COMMAND WORDS.. [options]", HELP.format(kinds=kinds), MORE_HELP)
-    commands = add_commands(words)
+    parser = parser_of("network", "COMMAND WORDS.. [options]", HELP.format(kinds=kinds), MORE_HELP)
+    commands = add_commands(parser)
     for name, does in (of_kinds() | COMMANDS).items():
         command = add_command(commands, f"network {name}", *does)
         if name in KINDS:
@@ -185,7 +185,7 @@ def command_line() -> ArgumentParser:
             add_stated(command)
         add_output(command)
         command.set_defaults(refuse=command.error)
-    return words
+    return parser
 
 
 def add_sizes(command: ArgumentParser, kind: NetworkKind) -> None:

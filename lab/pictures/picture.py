@@ -403,9 +403,9 @@ def add_parts(kind: ArgumentParser, name: str) -> None:
 
 
 def command_line() -> Parser:
-    words = parser_of("picture", "KIND NETWORK [options]", HELP, MORE_HELP)
-    words.set_defaults(stored=None)
-    kinds = add_commands(words, "kind")
+    parser = parser_of("picture", "KIND NETWORK [options]", HELP, MORE_HELP)
+    parser.set_defaults(stored=None)
+    kinds = add_commands(parser, "kind")
     for name, does in KINDS.items():
         usage = "[NETWORK] --without RULES" if name == "broken" else "NETWORK [options]"
         most = f"At most {does.most[0]:,} nodes. " if does.most else ""
@@ -429,7 +429,7 @@ def command_line() -> Parser:
         add_parts(kind, name)
         add_output(kind)
         kind.set_defaults(refuse=kind.error)
-    return words
+    return parser
 
 
 def drawing(kind: str, of: Source, **options: object) -> str:

@@ -248,16 +248,16 @@ def draw(seed: str, count: int, answers: bool, lessons: Collection[int]) -> str:
 
 
 def command_line() -> Parser:
-    words = parser_of("sheet", "[options]", HELP, MORE_HELP)
-    add_seed(words)
-    words.add_argument(
+    parser = parser_of("sheet", "[options]", HELP, MORE_HELP)
+    add_seed(parser)
+    parser.add_argument(
         "--sheets",
         type=partial(count, most=MOST_SHEETS),
         default=1,
         metavar="COUNT",
         help="how many sheets: WORD-1, WORD-2, ..",
     )
-    words.add_argument(
+    parser.add_argument(
         "--lesson",
         type=int,
         choices=LESSONS,
@@ -265,9 +265,9 @@ def command_line() -> Parser:
         metavar="N",
         help="only the questions of this lesson; may be given again",
     )
-    words.add_argument("--answers", action="store_true", help="with the answers")
-    add_output(words)
-    return words
+    parser.add_argument("--answers", action="store_true", help="with the answers")
+    add_output(parser)
+    return parser
 
 
 def main(words: list[str]) -> int:

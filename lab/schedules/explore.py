@@ -110,58 +110,58 @@ def rules_of(text: str) -> list[str]:
 
 
 def command_line() -> ArgumentParser:
-    words = parser_of("explore", "[NETWORK] [options]", HELP, MORE_HELP)
-    words.add_argument(
+    parser = parser_of("explore", "[NETWORK] [options]", HELP, MORE_HELP)
+    parser.add_argument(
         "network",
         metavar="NETWORK",
         nargs="?",
         help="a file, - for standard input, or a name, as triangle or path3",
     )
-    words.add_argument(
+    parser.add_argument(
         "--without",
         type=rules_of,
         default=[],
         metavar="RULES",
         help="the rules to leave out, with commas between",
     )
-    words.add_argument(
+    parser.add_argument(
         "--limit",
         type=count,
         default=LIMIT,
         metavar="STATES",
         help=f"give up after this many states; default: {LIMIT}",
     )
-    words.add_argument(
+    parser.add_argument(
         "--list",
         action="store_true",
         help="write only one list of events, as `forestplay events` reads it",
     )
-    words.add_argument(
+    parser.add_argument(
         "--reduce",
         action="store_true",
         help="if a safe or a close comes next on its link, take it at once, and try nothing else: "
         "far fewer states",
     )
-    words.add_argument("--json", action="store_true", help="write what was found for a program")
-    words.add_argument(
+    parser.add_argument("--json", action="store_true", help="write what was found for a program")
+    parser.add_argument(
         "--networks",
         type=partial(count, most=MOST_NETWORKS),
         metavar="N",
         help="play the rounds of a file on N random networks, and ask its `right`",
     )
-    words.add_argument(
+    parser.add_argument(
         "--connected", action="store_true", help="with --networks: only connected networks"
     )
-    words.add_argument(
+    parser.add_argument(
         "--runs",
         type=partial(count, most=MOST_RUNS),
         metavar="N",
         help="play N runs, and not every schedule, of a file whose nodes react to messages",
     )
-    add_seed(words, "the networks of --networks and the runs of --runs come from it")
-    add_program(words)
-    add_output(words)
-    return words
+    add_seed(parser, "the networks of --networks and the runs of --runs come from it")
+    add_program(parser)
+    add_output(parser)
+    return parser
 
 
 def main(words: list[str]) -> int:

@@ -280,21 +280,21 @@ def edge(text: str) -> Edge:
 
 
 def command_line() -> ArgumentParser:
-    words = parser_of("simulate", "NETWORK [options]", HELP, MORE_HELP)
-    words.add_argument(
+    parser = parser_of("simulate", "NETWORK [options]", HELP, MORE_HELP)
+    parser.add_argument(
         "network",
         metavar="NETWORK",
         help="a file, - for standard input, or a name, such as petersen or path5",
     )
-    add_seed(words)
-    words.add_argument(
+    add_seed(parser)
+    parser.add_argument(
         "--policy",
         choices=POLICIES,
         default="random",
         metavar="NAME",
         help="one of those below; default: random",
     )
-    words.add_argument(
+    parser.add_argument(
         "--slow",
         type=edge,
         action="append",
@@ -302,7 +302,7 @@ def command_line() -> ArgumentParser:
         metavar="V-W",
         help="what goes over this edge waits, whatever the policy is; may be given again",
     )
-    words.add_argument(
+    parser.add_argument(
         "--lazy",
         type=int,
         action="append",
@@ -310,17 +310,17 @@ def command_line() -> ArgumentParser:
         metavar="V",
         help="what this node does waits, whatever the policy is; may be given again",
     )
-    words.add_argument(
+    parser.add_argument(
         "--events", metavar="LIST", help="play this list of events, a file or - for standard input"
     )
-    words.add_argument(
+    parser.add_argument(
         "--to-the-end",
         action="store_true",
         help="after the events of LIST the policy plays the rest",
     )
-    add_program(words)
-    add_output(words)
-    return words
+    add_program(parser)
+    add_output(parser)
+    return parser
 
 
 def check_names(net: Network, given: Namespace) -> None:

@@ -71,31 +71,31 @@ Examples:
 
 
 def command_line() -> Parser:
-    words = parser_of("studio", "[NETWORK] [options]", HELP, MORE_HELP)
-    words.add_argument("network", metavar="NETWORK", nargs="?", help="the network to begin with")
-    words.add_argument(
+    parser = parser_of("studio", "[NETWORK] [options]", HELP, MORE_HELP)
+    parser.add_argument("network", metavar="NETWORK", nargs="?", help="the network to begin with")
+    parser.add_argument(
         "--port",
         type=int,
         metavar="N",
         help=f"the port, and no other; else {PORT} or one of the next",
     )
-    words.add_argument(
+    parser.add_argument(
         "--links",
         metavar="FILE",
         help="judge the links of a class, one dare on each line, and end; - for standard input",
     )
-    words.add_argument(
+    parser.add_argument(
         "--publish", metavar="DIR", help="write the lessons as a page that needs no server, and end"
     )
-    words.add_argument("--no-browser", action="store_true", help="only print the address")
-    words.add_argument(
+    parser.add_argument("--no-browser", action="store_true", help="only print the address")
+    parser.add_argument(
         "--own",
         action="append",
         default=[],
         metavar="FILE.py",
         help="a program of your own; may be given again",
     )
-    return words
+    return parser
 
 
 def own_programs(files: Iterable[str]) -> tuple[dict[str, str], dict[str, Form]]:

@@ -117,8 +117,8 @@ In ShiViz, give this as the parser of the log:
 
 
 def command_line() -> ArgumentParser:
-    words = parser_of("transcript", "COMMAND WORDS.. [options]", HELP, None)
-    commands = add_commands(words)
+    parser = parser_of("transcript", "COMMAND WORDS.. [options]", HELP, None)
+    commands = add_commands(parser)
     for name, does in COMMANDS.items():
         command = add_command(commands, f"transcript {name}", *does)
         if name == "convert":
@@ -150,7 +150,7 @@ def command_line() -> ArgumentParser:
                 "--json", action="store_true", help="write the verdict for a program"
             )
         add_output(command)
-    return words
+    return parser
 
 
 def texts_of(given: Namespace) -> tuple[Network, bytes, bytes, AnyProgram]:

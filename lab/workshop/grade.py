@@ -142,41 +142,41 @@ def remove(room: str) -> None:
 
 
 def command_line() -> argparse.ArgumentParser:
-    words = parser_of("workshop grade", "FOLDER [options] [-- WORDS ..]", HELP, MORE_HELP)
-    words.add_argument("folder", metavar="FOLDER", help="has a folder for each student")
-    words.add_argument(
+    parser = parser_of("workshop grade", "FOLDER [options] [-- WORDS ..]", HELP, MORE_HELP)
+    parser.add_argument("folder", metavar="FOLDER", help="has a folder for each student")
+    parser.add_argument(
         "--seed", metavar="S", help="of the runs; without it a random one, which is printed"
     )
-    words.add_argument(
+    parser.add_argument(
         "--runs", type=count, metavar="N", help="of each assignment, to try it; default: as above"
     )
-    words.add_argument(
+    parser.add_argument(
         "--jobs",
         type=count,
         default=len(os.sched_getaffinity(0)),
         metavar="N",
         help="how many are played at a time; default: the number of processors",
     )
-    words.add_argument(
+    parser.add_argument(
         "--seconds",
         type=seconds,
         default=SECONDS,
         metavar="S",
         help=f"for all runs of an assignment of one submission; default: {SECONDS}",
     )
-    add_limits(words)
-    words.add_argument(
+    add_limits(parser)
+    parser.add_argument(
         "--show",
         metavar="DIR",
         action="append",
         default=[],
         help="a folder that programs may read, too; more than once for several",
     )
-    words.add_argument(
+    parser.add_argument(
         "--reports", metavar="DIR", help="write what each student gets to read, DIR/STUDENT.txt"
     )
-    words.add_argument("--json", action="store_true", help="print the result for a program")
-    return words
+    parser.add_argument("--json", action="store_true", help="print the result for a program")
+    return parser
 
 
 def shown(line: argparse.ArgumentParser, path: str, closed: list[str]) -> str:

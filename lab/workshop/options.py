@@ -44,70 +44,70 @@ Examples:
 
 
 def command_line() -> argparse.ArgumentParser:
-    words = parser_of(
+    parser = parser_of(
         "workshop",
         "{rounds,alpha,open} [NETWORK ..] [options] -- COMMAND .. [-- COMMAND ..]",
         HELP,
         MORE_HELP,
     )
-    words.add_argument(
+    parser.add_argument(
         "assignment",
         choices=["rounds", "alpha", "open"],
         help="with a clock, without one, or your own algorithm",
     )
-    words.add_argument(
+    parser.add_argument(
         "networks", nargs="*", metavar="NETWORK", help=f"default: {NETWORKS.replace(',', ' ')}"
     )
-    words.add_argument(
+    parser.add_argument(
         "--program",
         metavar="P",
         choices=list(PAYLOADS),
         help=f"of rounds and alpha, what nodes do: {', '.join(PAYLOADS)}; default: {COLOURING}",
     )
-    words.add_argument(
+    parser.add_argument(
         "--runs",
         type=count,
         metavar="N",
         help="the number of runs; default: 1 for each NETWORK, or 100",
     )
-    add_seed(words)
-    words.add_argument(
+    add_seed(parser)
+    parser.add_argument(
         "--policies",
         type=some_of(*POLICIES),
         metavar="LIST",
         help=f"of alpha, with commas: {', '.join(POLICIES)}; default: all, in turn",
     )
-    words.add_argument("--case", type=int, metavar="K", help="play only run number K of these")
-    words.add_argument(
+    parser.add_argument("--case", type=int, metavar="K", help="play only run number K of these")
+    parser.add_argument(
         "--first", action="store_true", help="end with the first run that isn't right"
     )
-    add_limits(words)
-    words.add_argument(
+    add_limits(parser)
+    parser.add_argument(
         "--one-process",
         action="store_true",
         help="one process for all nodes of a command: each message begins with `to K`; not for grading",
     )
-    words.add_argument("--json", action="store_true", help="print the result for a program")
-    words.add_argument(
+    parser.add_argument("--json", action="store_true", help="print the result for a program")
+    parser.add_argument(
         "--keep", metavar="DIR", help="write network, run and verdict of the case that is shown"
     )
-    words.add_argument(
+    parser.add_argument(
         "--picture",
         metavar="FILE",
         help="of alpha: draw the run that is shown, up to what is wrong",
     )
-    return words
+    return parser
 
 
-def add_limits(words: argparse.ArgumentParser) -> None:
-    words.add_argument(
+def add_limits(parser: argparse.ArgumentParser) -> None:
+    parser.add_argument(
         "--timeout",
         type=seconds,
         default=10.0,
         metavar="S",
         help="seconds that an answer may take; default: 10",
     )
-    words.add_argument(
+    parser.add_argument(
         "--memory",
         type=count,
         default=2048,

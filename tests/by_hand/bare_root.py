@@ -159,18 +159,18 @@ class Roots:
 
 
 def options() -> argparse.Namespace:
-    words = argparse.ArgumentParser(
+    parser = argparse.ArgumentParser(
         prog="bare_root", description=__doc__, formatter_class=argparse.RawDescriptionHelpFormatter
     )
-    words.add_argument("folder", metavar="FOLDER")
-    words.add_argument("runs", metavar="RUN", nargs="*")
-    words.add_argument("--built", metavar="TREE")
-    words.add_argument("--gate", action="store_true")
-    words.add_argument("--jobs", metavar="N", type=int, default=len(os.sched_getaffinity(0)))
-    words.add_argument(
+    parser.add_argument("folder", metavar="FOLDER")
+    parser.add_argument("runs", metavar="RUN", nargs="*")
+    parser.add_argument("--built", metavar="TREE")
+    parser.add_argument("--gate", action="store_true")
+    parser.add_argument("--jobs", metavar="N", type=int, default=len(os.sched_getaffinity(0)))
+    parser.add_argument(
         "--only", metavar="NAMES", default="", help="the names of tests, in one word"
     )
-    return words.parse_args()
+    return parser.parse_args()
 
 
 def main() -> int:

@@ -17,16 +17,16 @@ MEMORY = 4 << 30
 
 
 def main() -> int:
-    words = argparse.ArgumentParser(
+    parser = argparse.ArgumentParser(
         prog="fuzz", description=__doc__, formatter_class=argparse.RawDescriptionHelpFormatter
     )
-    words.add_argument("readers", metavar="READER", nargs="*", help="all by default")
-    words.add_argument("--seconds", type=float, default=180, help="of processor time for each")
-    words.add_argument("--seed", type=int, default=2026)
-    given = words.parse_args()
+    parser.add_argument("readers", metavar="READER", nargs="*", help="all by default")
+    parser.add_argument("--seconds", type=float, default=180, help="of processor time for each")
+    parser.add_argument("--seed", type=int, default=2026)
+    given = parser.parse_args()
     unknown = set(given.readers) - {reader.name for reader in READERS}
     if unknown:
-        words.error(f"there is no reader {', '.join(unknown)}")
+        parser.error(f"there is no reader {', '.join(unknown)}")
     if not is_installed("hypothesis"):
         raise SystemExit("fuzz: hypothesis isn't installed: apt install python3-hypothesis")
     from tests.fuzzing import tried

@@ -17,12 +17,12 @@ LEAST = 0.05
 
 
 def main() -> int:
-    words = argparse.ArgumentParser(
+    parser = argparse.ArgumentParser(
         prog="growth", description=__doc__, formatter_class=argparse.RawDescriptionHelpFormatter
     )
-    words.add_argument("readers", metavar="READER", nargs="*", help="all by default")
-    words.add_argument("--size", type=int, default=1_000_000, help="bytes of the smaller text")
-    given = words.parse_args()
+    parser.add_argument("readers", metavar="READER", nargs="*", help="all by default")
+    parser.add_argument("--size", type=int, default=1_000_000, help="bytes of the smaller text")
+    given = parser.parse_args()
     shapes = wrong = 0
     for reader in READERS:
         if given.readers and reader.name not in given.readers:

@@ -191,19 +191,19 @@ def try_nodes() -> None:
 
 
 def main() -> None:
-    words = argparse.ArgumentParser(
+    parser = argparse.ArgumentParser(
         prog="mutants", description=__doc__, formatter_class=argparse.RawDescriptionHelpFormatter
     )
-    words.add_argument("what", choices=("nodes", "lab"))
-    words.add_argument("--seed", default="2026")
-    words.add_argument("--count", type=int, default=300)
-    words.add_argument("--package", action="append", default=[])
-    words.add_argument("--jobs", type=int, default=2)
-    words.add_argument("--seconds", type=float, default=3)
-    words.add_argument("--minutes", type=float, default=600)
-    words.add_argument("--named", metavar="FILE")
-    words.add_argument("--list", action="store_true")
-    given = words.parse_args()
+    parser.add_argument("what", choices=("nodes", "lab"))
+    parser.add_argument("--seed", default="2026")
+    parser.add_argument("--count", type=int, default=300)
+    parser.add_argument("--package", action="append", default=[])
+    parser.add_argument("--jobs", type=int, default=2)
+    parser.add_argument("--seconds", type=float, default=3)
+    parser.add_argument("--minutes", type=float, default=600)
+    parser.add_argument("--named", metavar="FILE")
+    parser.add_argument("--list", action="store_true")
+    given = parser.parse_args()
     # What is ended ends what it has started.
     signal.signal(signal.SIGTERM, lambda *_: sys.exit(143))
     if given.what == "lab":
