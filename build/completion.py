@@ -85,46 +85,46 @@ fi
 """
 
 
-def commands_in(words: tuple[str, ...], text: str) -> list[str]:
+def commands_in(arguments: tuple[str, ...], text: str) -> list[str]:
     """The commands that the help text of some words lists."""
     listed = re.search(r"^Commands:\n((?:  .*\n)+)", text, re.M)
     if listed:
         return re.findall(r"^  ([a-z]+) ", listed.group(1), re.M)
-    if words == ("forestlab", "workshop"):
+    if arguments == ("forestlab", "workshop"):
         return OF_WORKSHOP
-    if words[0] != "forestlab" or words[1:] not in WITH_COMMANDS:
+    if arguments[0] != "forestlab" or arguments[1:] not in WITH_COMMANDS:
         return []
     before = re.split("positional arguments:|^Example", text, flags=re.M)[0]
     return re.findall(r"^  ([a-z]+) (?:[A-Z]+ )* *[a-z]", before, re.M)
 
 
 @functools.cache
-def helps(folder: str, *words: str) -> list[Help]:
+def helps(folder: str, *arguments: str) -> list[Help]:
     """The help of a command in a folder, and then of each below it."""
     text = subprocess.run(
-        [os.path.join(folder, words[0]), *words[1:], "--help"],
+        [os.path.join(folder, arguments[0]), *arguments[1:], "--help"],
         stdin=subprocess.DEVNULL,
         check=True,
         stdout=subprocess.PIPE,
         text=True,
         env=dict(os.environ, COLUMNS="80", PYTHONDONTWRITEBYTECODE="1"),
     ).stdout
-    below = commands_in(words, text)
+    below = commands_in(arguments, text)
     return [
-        (words, text, below),
-        *(found for name in below for found in helps(folder, *words, name)),
+        (arguments, text, below),
+        *(found for name in below for found in helps(folder, *arguments, name)),
     ]
 
 
-def cases_of(words: tuple[str, ...], text: str, below: list[str]) -> Iterator[str]:
+def cases_of(arguments: tuple[str, ...], text: str, below: list[str]) -> Iterator[str]:
     """The lines of the shell for some words: which options there are, what else may come, and what after an option."""
     options = sorted(set(re.findall(r"^ +(?:-\w(?: [A-Z.]+)?, )?(--[a-z-]+)", text, re.M)))
     # A path may be before the command's name, and more words after all of them.
-    pattern = "*" + "".join(f"{word}\\ " for word in words) + "*"
-    first = " ".join([*below, *ARGUMENTS.get(words[-1], ())])
+    pattern = "*" + "".join(f"{word}\\ " for word in arguments) + "*"
+    first = " ".join([*below, *ARGUMENTS.get(arguments[-1], ())])
     yield f'    {pattern}) options="{" ".join(options)}" found="{first}"\n      case $2 in\n'
     for option in options:
-        values = VALUES.get(f"{words[-1]} {option}", VALUES.get(option))
+        values = VALUES.get(f"{arguments[-1]} {option}", VALUES.get(option))
         if values:
             yield f'        {option}) found="{" ".join(values)}" ;;\n'
     yield "      esac ;;\n"

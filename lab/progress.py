@@ -42,11 +42,11 @@ def about(process: int, command: str) -> str:
         return ""
 
 
-def main(words: list[str]) -> int:
+def main(arguments: list[str]) -> int:
     """Watches a process until it ends: PROCESS NAME COMMAND."""
-    process = int(words[0])
-    name = words[1]
-    command = words[2]
+    process = int(arguments[0])
+    name = arguments[1]
+    command = arguments[2]
     start = time.monotonic()
     reckons = None
     for moment in MOMENTS:

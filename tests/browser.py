@@ -19,7 +19,7 @@ class Browser:
 
     def __init__(self, program):
         self.folder, (given, writing), (reading, back) = tempfile.mkdtemp(), os.pipe(), os.pipe()
-        words = [
+        arguments = [
             program,
             "--headless",
             "--no-sandbox",
@@ -31,7 +31,7 @@ class Browser:
         ]
         self.process = subprocess.Popen(
             # Not sh, since Debian's takes no number of two digits for a file that is open.
-            ["bash", "-c", f'exec "$@" 3<&{given} 4>&{back}', "bash", *words],
+            ["bash", "-c", f'exec "$@" 3<&{given} 4>&{back}', "bash", *arguments],
             pass_fds=(given, back),
             stderr=subprocess.DEVNULL,
             stdout=subprocess.DEVNULL,
@@ -57,9 +57,9 @@ class Browser:
         for domain in ("Page", "Runtime", "Log"):
             self.ask(domain + ".enable")
 
-    def ask(self, method, **words):
+    def ask(self, method, **fields):
         self.number += 1
-        asked = {"id": self.number, "method": method, "params": words} | self.session
+        asked = {"id": self.number, "method": method, "params": fields} | self.session
         os.write(self.writing, json.dumps(asked).encode() + b"\0")
         while True:
             told = self.told()

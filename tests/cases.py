@@ -225,9 +225,9 @@ def tool_at(name: str) -> str:
     return path
 
 
-def called(path, *words, data=b"", limit=300, **streams):
+def called(path, *arguments, data=b"", limit=300, **streams):
     """The status and both outputs of a program with this standard input; a stream may be another one."""
-    line = [path, *(word if isinstance(word, bytes) else str(word) for word in words)]
+    line = [path, *(word if isinstance(word, bytes) else str(word) for word in arguments)]
     given = {"input": data} if "stdin" not in streams else {}
     streams = {"stdout": subprocess.PIPE, "stderr": subprocess.PIPE} | streams
     done = subprocess.run(line, timeout=limit, **given, **streams)
@@ -244,18 +244,18 @@ def wait_until(what, limit, moment=0.02):
     return True
 
 
-def forestlab(*words, **more):
+def forestlab(*arguments, **more):
     """The same of a command of forestlab."""
-    return called(FORESTLAB, *words, **more)
+    return called(FORESTLAB, *arguments, **more)
 
 
-def said_by(*words, **more):
+def said_by(*arguments, **more):
     """The same as texts."""
-    status, out, errors = forestlab(*words, **more)
+    status, out, errors = forestlab(*arguments, **more)
     return status, out.decode(), errors.decode()
 
 
-def in_process(name, main, *words, data=b""):
+def in_process(name, main, *arguments, data=b""):
     """The same of a command of forestlab, whose `main` is called in this process; how a process ends is for
     tests/programs/test_endings.py."""
     written, complained = io.BytesIO(), io.BytesIO()
@@ -270,7 +270,7 @@ def in_process(name, main, *words, data=b""):
         contextlib.redirect_stderr(errors),
     ):
         try:
-            status = main(list(map(str, words)))
+            status = main(list(map(str, arguments)))
         except SystemExit as ended:
             status = ended.code
         except (Fault, OSError) as why:

@@ -42,12 +42,12 @@ class Command:
     # The options that it has, each with a number.
     options: tuple[str, ...] = ()
     # Further words: with them it has threads, and the answer is the same each time.
-    words: tuple[str, ...] = ()
+    arguments: tuple[str, ...] = ()
 
     @property
     def line(self):
         """The words of a call."""
-        return [self.name, *self.words]
+        return [self.name, *self.arguments]
 
     @property
     def line_of_one(self):
@@ -70,7 +70,7 @@ COMMANDS = (
         TRIANGLE,
         "plan|1 2|2 3|3 1|",
         options=("workers", "capacity", "turns"),
-        words=("--workers", "2"),
+        arguments=("--workers", "2"),
     ),
     Command(
         "forestplan",
@@ -78,7 +78,7 @@ COMMANDS = (
         APART,
         "transcript 2 2|" + "".join(f"{p} {v} pulse {p}|" for p in PULSES for v in (1, 2)),
         options=("workers", "capacity", "turns", "edition"),
-        words=("--workers", "2"),
+        arguments=("--workers", "2"),
     ),
     Command("forestplan", "check", EDGE + "plan|1 2|2 1|", "proper 2|"),
     Command(
@@ -108,7 +108,7 @@ COMMANDS = (
         TRIANGLE,
         ENDS,
         options=("root", "passes", "workers", "capacity", "turns"),
-        words=("--workers", "2"),
+        arguments=("--workers", "2"),
     ),
     Command("forestplay", "alone", TRIANGLE, ENDS, options=("root", "passes")),
     Command("forestplay", "ends", TRIANGLE, ENDS, options=("root", "passes")),
@@ -132,14 +132,14 @@ class Script:
     name: str
     # The words of a call, its standard input, and a pattern of all that it prints. FILE is a network of two nodes that
     # don't interfere.
-    words: tuple[str, ...]
+    arguments: tuple[str, ...]
     data: str
     answer: str
 
     @property
     def line(self):
         """The words of a call of it."""
-        return ["forestlab", *self.name.split(), *self.words]
+        return ["forestlab", *self.name.split(), *self.arguments]
 
 
 ENDED = "transcript 1 2|" + "".join(f"{v} pulse {p}|" for v in (1, 2) for p in PULSES)

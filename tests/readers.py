@@ -80,7 +80,7 @@ class Reader:
 
     name: str
     main: Main
-    words: tuple[str, ...]
+    arguments: tuple[str, ...]
     good: tuple[bytes, ...]
     pieces: tuple[bytes, ...] = ()
     # A comment, and what begins a list in a list, each with what comes before all of them.
@@ -98,8 +98,8 @@ class Reader:
         for path, text in ((file, data), (beside, self.beside)):
             with open(path, "wb") as to:
                 to.write(text)
-        words = [{FILE: file, BESIDE: beside}.get(word, word) for word in self.words]
-        stdin = self.given if FILE in self.words else data
+        words = [{FILE: file, BESIDE: beside}.get(word, word) for word in self.arguments]
+        stdin = self.given if FILE in self.arguments else data
         with streams(stdin):
             try:
                 return self.main(words)
@@ -137,26 +137,26 @@ def parsers_kept() -> Iterator[None]:
 # What no command names, as such a function.
 
 
-def program(words: list[str]) -> int:
+def program(arguments: list[str]) -> int:
     """A program of one's own, up to its first line."""
-    code_of(words[0])
+    code_of(arguments[0])
     return 0
 
 
-def commands(words: list[str]) -> int:
+def commands(arguments: list[str]) -> int:
     """The file `commands` of a submission."""
-    os.replace(words[0], os.path.join(os.path.dirname(words[0]), "commands"))
-    said_command(os.path.dirname(words[0]), "rounds")
+    os.replace(arguments[0], os.path.join(os.path.dirname(arguments[0]), "commands"))
+    said_command(os.path.dirname(arguments[0]), "rounds")
     return 0
 
 
-def answer(words: list[str]) -> int:
+def answer(arguments: list[str]) -> int:
     """An answer of a student's node."""
     got = sys.stdin.buffer.read()
     try:
         end = END.search(got)
         for line in lines_of(got[: end.start()] if end else got):
-            fields_of(line, forms_of(words[0], "colouring"), 2)
+            fields_of(line, forms_of(arguments[0], "colouring"), 2)
     except NoAnswer:
         return 1
     return 0
@@ -177,20 +177,20 @@ def address(_words: list[str]) -> int:
 def words_of(main: Main) -> Main:
     """The same command with the text of its standard input as a word in the place of `{text}`."""
 
-    def with_words(words: list[str]) -> int:
+    def with_words(arguments: list[str]) -> int:
         text = os.fsdecode(sys.stdin.buffer.read().replace(b"\0", b""))
-        return main([text if word == "{text}" else word for word in words])
+        return main([text if word == "{text}" else word for word in arguments])
 
     return with_words
 
 
-def with_encoding(words: list[str]) -> int:
+def with_encoding(arguments: list[str]) -> int:
     """A table in the encoding that its first line names."""
-    with open(words[1], "rb") as file:
+    with open(arguments[1], "rb") as file:
         first, _, rest = file.read().partition(b"\n")
-    with open(words[1], "wb") as file:
+    with open(arguments[1], "wb") as file:
         file.write(rest)
-    return network.main([*words, "--encoding", os.fsdecode(first.replace(b"\0", b""))])
+    return network.main([*arguments, "--encoding", os.fsdecode(first.replace(b"\0", b""))])
 
 
 def read_as(form: str, good: tuple[bytes, ...], pieces: bytes, **more) -> Reader:

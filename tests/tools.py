@@ -73,8 +73,10 @@ def is_installed(tool: str) -> bool:
 
 def has_compiler() -> bool:
     """Whether there is a C compiler with the headers of the C library."""
-    words = ["cc", "-E", "-include", "stdio.h", "-x", "c", os.devnull]
-    return bool(shutil.which("cc")) and not subprocess.run(words, capture_output=True).returncode
+    arguments = ["cc", "-E", "-include", "stdio.h", "-x", "c", os.devnull]
+    return (
+        bool(shutil.which("cc")) and not subprocess.run(arguments, capture_output=True).returncode
+    )
 
 
 def has_seccomp() -> bool:

@@ -90,12 +90,12 @@ def program_words(program: Program) -> list[str]:
     """
     if program == COLOURING:
         return []
-    words = ["--program", program.name]
+    arguments = ["--program", program.name]
     if program.root is not None:
-        words += ["--root", str(program.root)]
+        arguments += ["--root", str(program.root)]
     if program.passes != 1:
-        words += ["--passes", str(program.passes)]
-    return words
+        arguments += ["--passes", str(program.passes)]
+    return arguments
 
 
 def program_asked(command: str, given: Namespace, network: Network | None = None) -> Program:

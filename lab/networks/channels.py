@@ -45,20 +45,20 @@ Examples:
 """
 
 
-def file_in(words: list[str]) -> str | None:
+def file_in(arguments: list[str]) -> str | None:
     """The file that words name; what has digits and what is between them alone is no file."""
-    is_file = len(words) == 1 and re.search("[^0-9\\s,;/-]", words[0])
-    return words[0] if is_file and os.path.isfile(words[0]) else None
+    is_file = len(arguments) == 1 and re.search("[^0-9\\s,;/-]", arguments[0])
+    return arguments[0] if is_file and os.path.isfile(arguments[0]) else None
 
 
-def channels_asked(given: Namespace, words: list[str], command: str) -> list[int] | None:
+def channels_asked(given: Namespace, arguments: list[str], command: str) -> list[int] | None:
     """The table of real channel numbers that words of a command name, or a file; None without words.
 
     Its first number is channel 1 of the plan, and none comes twice.
     """
-    if not words:
+    if not arguments:
         return None
-    path = file_in(words)
+    path = file_in(arguments)
     if path is not None:
         name = one_line(path)
         text = decoded(bytes_at(path), name, given.stated.encoding)
@@ -67,7 +67,7 @@ def channels_asked(given: Namespace, words: list[str], command: str) -> list[int
             print(f"{command}: {name}: {note}", file=sys.stderr)
         return each_once(numbers, InText(name))
     try:
-        return each_once(numbers_of(words))
+        return each_once(numbers_of(arguments))
     except Fault as why:
         given.refuse(str(why))
         raise
@@ -79,10 +79,10 @@ def each_once(numbers: list[int], place: InText | None = None) -> list[int]:
     return numbers
 
 
-def numbers_of(words: list[str]) -> list[int]:
+def numbers_of(arguments: list[str]) -> list[int]:
     """The numbers of words, each a number or a range."""
     found: list[int] = []
-    for word in re.split(r"[\s,;]+", " ".join(words).strip(" ,;")):
+    for word in re.split(r"[\s,;]+", " ".join(arguments).strip(" ,;")):
         found += range_of(word)
     return found
 
@@ -174,15 +174,15 @@ def refuse_words(given: Namespace) -> None:
         given.refuse("a run has no real channels, so --back and --run can't be together")
 
 
-def main(words: list[str]) -> int:
-    given = command_line().parse_args(words)
+def main(arguments: list[str]) -> int:
+    given = command_line().parse_args(arguments)
     given.stated = stated_by(given)
     refuse_words(given)
     try:
         table = channels_asked(given, given.table, "channels")
         given.stated.check_found()
     except Unsaid as why:
-        raise commands_for(why, ["channels"], words) from None
+        raise commands_for(why, ["channels"], arguments) from None
     text = text_at("-")
     if given.run:
         rows = rows_of_run(text, "the run")

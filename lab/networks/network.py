@@ -44,8 +44,8 @@ def made(given: Namespace) -> str:
     """A network of a kind, with the words that make it again."""
     kind = KINDS[given.command]
     chosen = {name: getattr(given, name) for name in kind.chosen}
-    words = [str(chosen[name]) for name in kind.sizes]
-    words += [
+    arguments = [str(chosen[name]) for name in kind.sizes]
+    arguments += [
         f"--{name}" + f" {value}" * (value is not True)
         for name, value in chosen.items()
         if name not in kind.sizes and value not in (None, False)
@@ -56,7 +56,7 @@ def made(given: Namespace) -> str:
         network = kind.make(**chosen)
     except Fault as why:
         given.refuse(str(why))
-    return text_of(network, [f"Made by forestlab network {given.command} {' '.join(words)}"])
+    return text_of(network, [f"Made by forestlab network {given.command} {' '.join(arguments)}"])
 
 
 def was_read(given: Namespace) -> str:
@@ -157,14 +157,14 @@ def was_named(given: Namespace) -> str:
     return as_text(f"{network.names.get(v, v)} {channel}" for _, v, channel in rows)
 
 
-def main(words: list[str]) -> int:
-    given = command_line().parse_args(words)
+def main(arguments: list[str]) -> int:
+    given = command_line().parse_args(arguments)
     if given.command == "read":
         given.stated = stated_by(given)
     doers = {"read": was_read, "tell": was_told, "number": was_numbered, "names": was_named}
     try:
         text = doers[given.command](given) if given.command in doers else made(given)
     except Unsaid as why:
-        raise commands_for(why, ["network", words[0]], words[1:]) from None
+        raise commands_for(why, ["network", arguments[0]], arguments[1:]) from None
     write(given, text)
     return 0

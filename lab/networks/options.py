@@ -68,7 +68,7 @@ def stated_by(given: argparse.Namespace) -> Stated:
     return Stated(given.form, columns, not given.no_heading, given.encoding)
 
 
-def commands_for(why: Unsaid, begin: list[str], words: list[str], after: str = "") -> Fault:
+def commands_for(why: Unsaid, begin: list[str], arguments: list[str], after: str = "") -> Fault:
     """The fault of what isn't stated, with the commands to choose from, ready to be copied.
 
     >>> from lab.faults import InText
@@ -83,5 +83,8 @@ def commands_for(why: Unsaid, begin: list[str], words: list[str], after: str = "
         return why
     lines = []
     for stated, means in why.choices:
-        lines += [f"  {means}:", f"    {shlex.join(['forestlab', *begin, *stated, *words])}{after}"]
+        lines += [
+            f"  {means}:",
+            f"    {shlex.join(['forestlab', *begin, *stated, *arguments])}{after}",
+        ]
     return Fault(Code.UNSAID, what=why, commands=as_text(["", *lines]).rstrip("\n"))

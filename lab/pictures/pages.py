@@ -150,11 +150,11 @@ def joined(main: str) -> str:
     return " ".join(line.strip() for line in text.split("\n") if line.strip())
 
 
-def page(template: str, main: str, data: object, **words: str) -> str:
+def page(template: str, main: str, data: object, **texts: str) -> str:
     """A page whose body is a template of page/ and whose script is the module `main` and those before it; `data` is of
     page_data.py, and `words` are escaped."""
     json_text = json.dumps(data, separators=(",", ":"), ensure_ascii=False, default=as_object)
-    given = {name.upper(): escaped(text) for name, text in words.items()}
+    given = {name.upper(): escaped(text) for name, text in texts.items()}
     return filled(
         text_of("frame.html").replace("@BODY@", text_of(template)),
         # JSON that can stand in a script.

@@ -478,8 +478,8 @@ def run_text(kind: str, network: Network, network_text: bytes, program: Program)
         return text_of_run(network.nodes, played(network, program=program), program)
     if program == COLOURING:
         return proved_programs.text_of("forestplan", ["transcript"], network_text)
-    words = ["run", "--transcript", *program_words(program)]
-    return proved_programs.text_of("forestplay", words, network_text)
+    arguments = ["run", "--transcript", *program_words(program)]
+    return proved_programs.text_of("forestplay", arguments, network_text)
 
 
 def reacting_run(given: Namespace, network: Network, program: Reacting) -> str:
@@ -539,9 +539,9 @@ def drawn(given: Namespace) -> str:
     return picture
 
 
-def main(words: list[str]) -> int:
+def main(arguments: list[str]) -> int:
     gc.disable()  # It draws one picture and ends; on long texts the collector would take a third of the time.
-    given = command_line().parse_args(words)
+    given = command_line().parse_args(arguments)
     if given.kind == "broken" and (why := unknown_to(given.program, given.without)):
         given.refuse(why)
     if getattr(given, "stopped", None) is not None and not given.wrong:

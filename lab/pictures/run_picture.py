@@ -250,11 +250,11 @@ def draw_wires(svg: Svg, window: Window, kinds: tuple[str, ...]) -> None:
 
 
 def write_words(
-    svg: Svg, window: Window, words: list[tuple[float, float, float, float, str]]
+    svg: Svg, window: Window, labels: list[tuple[float, float, float, float, str]]
 ) -> None:
     """The payloads' words along their arrows, left out where they would collide."""
     used: list[tuple[float, float, float]] = []
-    for x1, y1, dx, dy, text in words:
+    for x1, y1, dx, dy, text in labels:
         half = text_width(text, 9.5) * BOLD / 2 + 2
         for part in (0.5, 0.32, 0.68, 0.2, 0.8):
             x, y = x1 + dx * part, y1 + dy * part + 3

@@ -270,7 +270,7 @@ def command_line() -> Parser:
     return parser
 
 
-def main(words: list[str]) -> int:
-    given = command_line().parse_args(words)
+def main(arguments: list[str]) -> int:
+    given = command_line().parse_args(arguments)
     write(given, draw(given.seed, given.sheets, given.answers, given.lesson or LESSONS))
     return 0

@@ -164,9 +164,9 @@ def command_line() -> ArgumentParser:
     return parser
 
 
-def main(words: list[str]) -> int:
+def main(arguments: list[str]) -> int:
     line = command_line()
-    given = line.parse_args(words)
+    given = line.parse_args(arguments)
     if why := refused_together(given):
         line.error(why)
     if given.networks:

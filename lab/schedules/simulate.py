@@ -359,9 +359,9 @@ def wrong_at_end(net: Network, program: AnyProgram, player: Player[Node]) -> str
     return what_is_wrong(net, program.file, results_in(player.state))
 
 
-def main(words: list[str]) -> int:
+def main(arguments: list[str]) -> int:
     line = command_line()
-    given = line.parse_args(words)
+    given = line.parse_args(arguments)
     if given.to_the_end and not given.events:
         line.error("--to-the-end is for a list of --events")
     if given.network == given.events == "-":

@@ -27,16 +27,16 @@ MOST_TEXT = 64 << 20
 MACHINE, PYTHON = "The proved machine", "Python (not proved)"
 
 
-def said_by(name: str, words: list[str], *texts: str) -> tuple[int, str, str]:
+def said_by(name: str, arguments: list[str], *texts: str) -> tuple[int, str, str]:
     """(status, output, what is said on standard error) of a program, as texts."""
-    done = called(name, words, "".join(texts).encode())
+    done = called(name, arguments, "".join(texts).encode())
     if len(done.stdout) > MOST_TEXT:
         raise Fault(Code.OUTPUT_TOO_LONG, name=name, bytes_written=len(done.stdout))
     return done.returncode, done.stdout.decode(), done.stderr.decode().strip()
 
 
-def text_from(name: str, words: list[str], network_text: str) -> str:
-    status, output, said = said_by(name, words, network_text)
+def text_from(name: str, arguments: list[str], network_text: str) -> str:
+    status, output, said = said_by(name, arguments, network_text)
     if status:
         if said:
             raise Fault(Code.PROGRAM_REFUSES, why=said)
@@ -113,8 +113,8 @@ def judged(
 
 def replayed(network_text: str, text: str, program: Program) -> tuple[int, str, str]:
     """(status, output, what is said) of the proved program."""
-    words = ["replay", *program_words(program)]
-    return said_by("forestplay", words, network_text, "\n", text)
+    arguments = ["replay", *program_words(program)]
+    return said_by("forestplay", arguments, network_text, "\n", text)
 
 
 def beginning_judged(

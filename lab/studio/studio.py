@@ -155,8 +155,8 @@ def opened(path: str) -> Network:
         raise commands_for(why, ["network", "read"], [path], " | forestlab studio -") from None
 
 
-def main(words: list[str]) -> int:
-    given = command_line().parse_args(words)
+def main(arguments: list[str]) -> int:
+    given = command_line().parse_args(arguments)
     if given.publish is not None:
         return publish_page(given)
     if given.links is not None:

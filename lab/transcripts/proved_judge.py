@@ -7,10 +7,10 @@ from lab.networks.verdicts import Verdict, parsed_verdict
 from lab.proved_programs import called
 
 
-def verdict_on_run(network: str, transcript: str, words: list[str]) -> Verdict:
+def verdict_on_run(network: str, transcript: str, arguments: list[str]) -> Verdict:
     """The verdict on a transcript, given as texts, of nodes that run the proved program of these options; refused if
     there is none. It names an entry in place of a line."""
-    done = called("forestplay", ["replay", *words], (network + transcript).encode())
+    done = called("forestplay", ["replay", *arguments], (network + transcript).encode())
     if done.returncode == 0:
         return Verdict()
     line = done.stderr.decode("utf-8", "replace").strip()

@@ -193,8 +193,8 @@ def converted(given: Namespace) -> str:
     return as_text(FORMS[given.form](head, entries))
 
 
-def main(words: list[str]) -> int:
-    given = command_line().parse_args(words)
+def main(arguments: list[str]) -> int:
+    given = command_line().parse_args(arguments)
     # Nothing that is made here goes round in a circle that would have to be collected before the end.
     gc.disable()
     try:

@@ -126,12 +126,12 @@ class Filter:
         if status:
             raise Fault(Code.CALLS_NOT_WRITTEN, why=os.strerror(-status))
 
-    def add(self, action: int, name: str, *words: tuple[int, int, int]) -> None:
+    def add(self, action: int, name: str, *checks: tuple[int, int, int]) -> None:
         """What becomes of a call with such words; of no call that this library doesn't know."""
         number = self.seccomp.seccomp_syscall_resolve_name(name.encode())
         if number == UNKNOWN:
             return
-        rows = (Word * len(words))(*(Word(*word, 0) for word in words))
+        rows = (Word * len(checks))(*(Word(*word, 0) for word in checks))
         add = self.seccomp.seccomp_rule_add_array
         self.check(add(self.state, ctypes.c_uint32(action), number, len(rows), rows))
 

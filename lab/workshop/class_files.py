@@ -176,10 +176,10 @@ Example:
 """
 
 
-def main(words: list[str]) -> int:
+def main(arguments: list[str]) -> int:
     line = parser_of("workshop class", "DIR", HELP, EXAMPLE)
     line.add_argument("dir", metavar="DIR", help="the folder that is made")
-    folder = os.path.abspath(line.parse_args(words).dir)
+    folder = os.path.abspath(line.parse_args(arguments).dir)
     if not is_free(folder):
         line.error(f"{folder} is there already")
     make_folder(folder, copy_class)

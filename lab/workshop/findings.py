@@ -55,8 +55,8 @@ def first_of(words: Sequence[object]) -> list[str]:
     return [*map(str, words[:MOST]), *[".."] * (len(words) > MOST)]
 
 
-def last_of(words: Sequence[str]) -> list[str]:
-    return [*[".."] * (len(words) > MOST), *words[-MOST:]]
+def last_of(texts: Sequence[str]) -> list[str]:
+    return [*[".."] * (len(texts) > MOST), *texts[-MOST:]]
 
 
 def listed(what: str, numbers: Iterable[object]) -> str:

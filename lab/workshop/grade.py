@@ -189,11 +189,11 @@ def shown(line: argparse.ArgumentParser, path: str, closed: list[str]) -> str:
     return os.path.realpath(path)
 
 
-def main(words: list[str]) -> int:
-    at = words.index("--") if "--" in words else len(words)
+def main(arguments: list[str]) -> int:
+    at = arguments.index("--") if "--" in arguments else len(arguments)
     line = command_line()
-    given = line.parse_args(words[:at])
-    given.before = words[at + 1 :]
+    given = line.parse_args(arguments[:at])
+    given.before = arguments[at + 1 :]
     given.folder = os.path.realpath(given.folder)
     given.seed = given.seed or secrets.token_hex(4)
     given.show = [shown(line, path, [given.folder, TOP, PACKAGE]) for path in given.show]

@@ -122,12 +122,12 @@ def seconds(text: str) -> float:
     return float(text)
 
 
-def parsed(words: list[str]) -> argparse.Namespace:
+def parsed(arguments: list[str]) -> argparse.Namespace:
     """The options, with `commands`, `program`, `policies` and `runs` as the runs need them."""
-    at = words.index("--") if "--" in words else len(words)
+    at = arguments.index("--") if "--" in arguments else len(arguments)
     line = command_line()
-    options = line.parse_intermixed_args(words[:at])
-    groups = groupby(words[at + 1 :], "--".__eq__)
+    options = line.parse_intermixed_args(arguments[:at])
+    groups = groupby(arguments[at + 1 :], "--".__eq__)
     options.commands = [list(command) for is_mark, command in groups if not is_mark]
     check(options, line)
     is_alpha = options.assignment == "alpha"

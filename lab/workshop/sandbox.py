@@ -77,17 +77,17 @@ class Sandbox(Guard):
 
     def container(self) -> list[str]:
         """What bubblewrap is told of the container."""
-        words = [*ALONE, *NAME]
+        arguments = [*ALONE, *NAME]
         for calls in filters_of_calls():
-            words += ["--add-seccomp-fd", self.text(calls)]
-        words += ["--dev", "/dev", "--proc", "/proc", *self.told()]
-        words += ["--size", str(ROOM_BYTES), "--tmpfs", ROOM]
+            arguments += ["--add-seccomp-fd", self.text(calls)]
+        arguments += ["--dev", "/dev", "--proc", "/proc", *self.told()]
+        arguments += ["--size", str(ROOM_BYTES), "--tmpfs", ROOM]
         # The submission becomes its user's own once it is copied.
         shown = [*filter(self.reaches, [*visible_files.system(), *self.needed]), self.folder]
         closed = {os.path.realpath(path) for path in self.hidden} - {ROOM}
         empty = [*filter(os.path.isdir, closed), *visible_files.copies_in(shown)]
-        words += words_of_files(shown, {path for path in empty if self.reaches(path)})
-        return [*words, "--size", str(SHARED_BYTES), "--tmpfs", SHARED, "--chdir", ROOM]
+        arguments += words_of_files(shown, {path for path in empty if self.reaches(path)})
+        return [*arguments, "--size", str(SHARED_BYTES), "--tmpfs", SHARED, "--chdir", ROOM]
 
     def text(self, data: bytes) -> str:
         """The number of an open file that bubblewrap reads, and nobody changes."""
@@ -99,18 +99,18 @@ class Sandbox(Guard):
 
     def told(self) -> list[str]:
         """/proc without what it says of the machine, and who the program's user is. Each file and folder is covered."""
-        words: list[str] = ["--tmpfs", "/dev/pts", "--remount-ro", "/dev/pts"]
+        arguments: list[str] = ["--tmpfs", "/dev/pts", "--remount-ro", "/dev/pts"]
         texts = {path: text.encode() for path, text in self.texts().items()}
         for path in visible_files.covered_in_proc():
             if path in texts:
                 continue
             if os.path.isdir(path):
-                words += ["--tmpfs", path, "--remount-ro", path]
+                arguments += ["--tmpfs", path, "--remount-ro", path]
             else:
-                words += ["--ro-bind", "/dev/null", path]
+                arguments += ["--ro-bind", "/dev/null", path]
         for path, data in texts.items():
-            words += ["--perms", "0444", "--ro-bind-data", self.text(data), path]
-        return words
+            arguments += ["--perms", "0444", "--ro-bind-data", self.text(data), path]
+        return arguments
 
     def texts(self) -> dict[str, str]:
         """Files that some languages read as they start: Java and JavaScript how many processors there are and how much
@@ -181,16 +181,16 @@ class Sandbox(Guard):
 def words_of_files(shown: list[str], empty: set[str]) -> list[str]:
     """What is seen, and what of that is empty; what is further in comes later, and is on top. A folder is shut once all
     below it is made."""
-    words = []
+    arguments = []
     covers = {path for path in empty if visible_files.is_below(path, shown)}
     for path in sorted({*shown, *covers}):
         if path in covers:
-            words += ["--tmpfs", path]
+            arguments += ["--tmpfs", path]
         elif visible_files.deepest(path, covers) >= visible_files.deepest(path, shown):
-            words += shown_as(path)
+            arguments += shown_as(path)
     for path in (*sorted(covers), "/dev", "/"):
-        words += ["--remount-ro", path]
-    return words
+        arguments += ["--remount-ro", path]
+    return arguments
 
 
 def shown_as(path: str) -> list[str]:

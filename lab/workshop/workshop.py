@@ -35,14 +35,14 @@ REPEAT = {
 }
 
 
-def main(words: list[str]) -> int:
+def main(arguments: list[str]) -> int:
     """A network that can't be read has status 1, as in every command; what else keeps it from a verdict, another."""
-    other = OTHERS.get(words[0]) if words else None
+    other = OTHERS.get(arguments[0]) if arguments else None
     if other is None:
-        options = parsed(words)
+        options = parsed(arguments)
         cases = cases_of(options)
     try:
-        return other(words[1:]) if other else run(options, cases)
+        return other(arguments[1:]) if other else run(options, cases)
     except (Fault, OSError) as why:
         print(f"workshop: {why}", file=sys.stderr)
         return 2
@@ -78,12 +78,12 @@ def keep(case: Case, folder: str, program: str) -> None:
         if "transcript check" not in command
         or os.path.exists(os.path.join(PACKAGE, "transcripts", "judge.py"))
     ]
-    words = described(case) if case.finding else [f"case   {case.number}: right"]
-    words += ["", "The same without the workshop:", *commands, ""]
+    lines = described(case) if case.finding else [f"case   {case.number}: right"]
+    lines += ["", "The same without the workshop:", *commands, ""]
     for name, text in {
         "network.col": plain_text(case.network),
         case.played_run.kept: case.played_run.text(),
-        "verdict.txt": "\n".join(words),
+        "verdict.txt": "\n".join(lines),
     }.items():
         with open(os.path.join(folder, name), "w", encoding="utf-8") as file:
             file.write(text)

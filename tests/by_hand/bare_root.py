@@ -79,11 +79,11 @@ class Roots:
         if os.path.isdir(self.at("base")):
             return
         new = self.fresh("base.new")
-        words = ["--variant=minbase", "--include=python3,git", "bookworm", new, MIRROR]
+        arguments = ["--variant=minbase", "--include=python3,git", "bookworm", new, MIRROR]
         tool = shutil.which("mmdebstrap") or shutil.which("debootstrap")
         if tool is None:
             sys.exit("bare_root: neither mmdebstrap nor debootstrap is installed")
-        subprocess.run([tool, *words], check=True)
+        subprocess.run([tool, *arguments], check=True)
         os.rename(new, self.at("base"))
 
     def clone(self) -> None:
@@ -107,7 +107,7 @@ class Roots:
             "BOUND": " ".join(filter(os.path.isdir, KIT)),
             "INSIDE": PATH,
         }
-        words = [
+        arguments = [
             "unshare",
             "--mount",
             "--pid",
@@ -121,7 +121,7 @@ class Roots:
         ]
         with open(self.at(log), "wb") as file:
             return subprocess.run(
-                [*words, self.fresh("root"), command],
+                [*arguments, self.fresh("root"), command],
                 env=os.environ | settings,
                 stdin=subprocess.DEVNULL,
                 stdout=file,

@@ -111,11 +111,11 @@ class Driven:
     def state(self, name: str) -> None:
         self.page.ask("Page.setWebLifecycleState", state=name)
 
-    def answer(self, words: list[str]) -> str:
+    def answer(self, arguments: list[str]) -> str:
         """Does what a command says, and says where the pictures are."""
         self.state("active")
         self.page.ask("Page.bringToFront")
-        name, *more = words
+        name, *more = arguments
         lines: list[str] = []
         try:
             said = getattr(self, "do_" + name.replace("-", "_"))(*more)
@@ -155,14 +155,14 @@ class Driven:
     def do_wait(self, seconds: str) -> None:
         float(seconds)
 
-    def do_click(self, *words: str) -> str:
-        if len(words) == 2 and all(word.replace(".", "").isdigit() for word in words):
-            self.press(*(float(word) / self.factor for word in words))
+    def do_click(self, *arguments: str) -> str:
+        if len(arguments) == 2 and all(word.replace(".", "").isdigit() for word in arguments):
+            self.press(*(float(word) / self.factor for word in arguments))
             return ""
         place = self.page.value(
             f"(one => {{ if (!one) return null; one.scrollIntoView({{block: 'nearest'}}); "
             "const b = one.getBoundingClientRect(); return [b.x + b.width / 2, b.y + b.height / 2]; })"
-            f"({FIND}({json.dumps(' '.join(words))}, {json.dumps(USED)}))"
+            f"({FIND}({json.dumps(' '.join(arguments))}, {json.dumps(USED)}))"
         )
         if place is None:
             return "not done: nothing that is seen has these words"
@@ -176,7 +176,7 @@ class Driven:
             self.page.mouse("mouseMoved", x + (to_x - x) * k / 10, y + (to_y - y) * k / 10)
         self.page.mouse("mouseReleased", to_x, to_y)
 
-    def do_choose(self, menu: str, *words: str) -> str:
+    def do_choose(self, menu: str, *arguments: str) -> str:
         found = self.page.value(
             f"((list, wanted) => {{ if (!list) return 'not done: no such menu';"
             " const all = Array.from(list.options).filter(one => one.value);"
@@ -184,12 +184,12 @@ class Driven:
             " const one = all.find(one => one.textContent.toLowerCase().includes(wanted.toLowerCase()));"
             " if (!one) return 'not done: no such choice'; list.focus(); list.value = one.value;"
             " list.dispatchEvent(new Event('input')); list.dispatchEvent(new Event('change')); return ''; })"
-            f"({FIND}({json.dumps(menu)}, 'select'), {json.dumps(' '.join(words))})"
+            f"({FIND}({json.dumps(menu)}, 'select'), {json.dumps(' '.join(arguments))})"
         )
         return str(found or "")
 
-    def do_type(self, *words: str) -> None:
-        self.page.ask("Input.insertText", text=" ".join(words))
+    def do_type(self, *arguments: str) -> None:
+        self.page.ask("Input.insertText", text=" ".join(arguments))
 
     def do_key(self, words: str) -> None:
         *held, key = words.split("+") if len(words) > 1 else [words]
@@ -230,24 +230,24 @@ def served(name: str, given: Namespace) -> None:
         driven.end()
 
 
-def asked_of(name: str, words: list[str]) -> str:
+def asked_of(name: str, arguments: list[str]) -> str:
     with socket.socket(socket.AF_UNIX) as place:
         place.settimeout(MOST_SECONDS)
         place.connect(os.path.join(folder_of(name), "socket"))
         with place.makefile("rw", encoding="utf-8") as file:
-            file.write(json.dumps(words) + "\n")
+            file.write(json.dumps(arguments) + "\n")
             file.flush()
             return file.read()
 
 
-def begun(name: str, words: list[str]) -> str:
+def begun(name: str, arguments: list[str]) -> str:
     """Starts a process that keeps the browser, and asks it for its first picture."""
     folder = folder_of(name)
     shutil.rmtree(folder, ignore_errors=True)
     os.makedirs(folder)
     with open(os.path.join(folder, "log"), "w", encoding="utf-8") as log:
         subprocess.Popen(
-            [sys.executable, "-m", "tests.by_hand.drive", name, "serve", *words],
+            [sys.executable, "-m", "tests.by_hand.drive", name, "serve", *arguments],
             stdin=subprocess.DEVNULL,
             stdout=log,
             stderr=log,
@@ -269,21 +269,21 @@ def two_numbers(word: str) -> tuple[int, int]:
 def main() -> None:
     if len(sys.argv) < 3:
         raise SystemExit(__doc__)
-    _, name, command, *words = sys.argv
+    _, name, command, *arguments = sys.argv
     if command == "begin":
-        print(begun(name, words))
+        print(begun(name, arguments))
     elif command == "serve":
         line = ArgumentParser("drive")
         line.add_argument("page", nargs="?", default="")
         line.add_argument("--phone", action="store_true")
         line.add_argument("--dark", action="store_true")
         line.add_argument("--size", type=two_numbers)
-        given = line.parse_args(words)
+        given = line.parse_args(arguments)
         given.size = given.size or ((360, 740) if given.phone else (1280, 800))
         served(name, given)
     else:
         try:
-            print(asked_of(name, [command, *words]))
+            print(asked_of(name, [command, *arguments]))
         except OSError as why:
             raise SystemExit(f"drive: no answer of {name}: {why}") from None
 

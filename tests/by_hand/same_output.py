@@ -81,10 +81,15 @@ def others():
 
 def outcome(top, command, home):
     env = dict(os.environ, PATH=f"{top}/bin:{os.environ['PATH']}", HOME=home)
-    words = ["bash", "-c", command]
+    arguments = ["bash", "-c", command]
     try:
         done = subprocess.run(
-            words, cwd=top, env=env, timeout=LIMIT, stdin=subprocess.DEVNULL, capture_output=True
+            arguments,
+            cwd=top,
+            env=env,
+            timeout=LIMIT,
+            stdin=subprocess.DEVNULL,
+            capture_output=True,
         )
     except subprocess.TimeoutExpired:
         return None

@@ -81,11 +81,13 @@ class Looked(Page):
         os.remove(page)
 
 
-def looked_at(looked: "Looked", folder: str, words: list[str]) -> None:
+def looked_at(looked: "Looked", folder: str, arguments: list[str]) -> None:
     for wide, (high, is_phone) in WINDOWS.items():
         for look in LOOKS:
             names = [f"{wide}-{look}-{name}" for name in PLACES]
-            names = [one for one in names if not words or any(word in one for word in words)]
+            names = [
+                one for one in names if not arguments or any(word in one for word in arguments)
+            ]
             if not names:
                 continue
             looked.page.size(wide, high, is_phone)
@@ -99,7 +101,7 @@ def looked_at(looked: "Looked", folder: str, words: list[str]) -> None:
 
 
 def main() -> None:
-    folder, *words = sys.argv[1:]
+    folder, *arguments = sys.argv[1:]
     folder = os.path.abspath(folder)
     os.makedirs(folder, exist_ok=True)
     if browser.command() is None:
@@ -108,7 +110,7 @@ def main() -> None:
     looked = Looked("picture")
     looked.value, looked.click_on = looked.page.value, looked.page.click_on
     try:
-        looked_at(looked, folder, words)
+        looked_at(looked, folder, arguments)
         print(f"{len(glob.glob(os.path.join(folder, '*.png')))} pictures in {folder}")
         for fault in looked.page.faults:
             print("a script complained:", fault)

@@ -90,12 +90,12 @@ class RefusedThreads(Case):
                 ("colouring", "leader", "layers"), ((), ("--transcript",))
             )
         ]
-        for (program, words), workers in product(
+        for (program, arguments), workers in product(
             [(PLAN, ["transcript"]), *runs], (1, 2, 5, MOST_WORKERS)
         ):
-            words = [*words, "--workers", str(workers)]
-            answer, _, threads = self.run_of(program, words)
-            self.same(f"threads of {words}", (answer[0], threads), (0, [workers] * 3))
+            arguments = [*arguments, "--workers", str(workers)]
+            answer, _, threads = self.run_of(program, arguments)
+            self.same(f"threads of {arguments}", (answer[0], threads), (0, [workers] * 3))
 
     def test_others_stop(self):
         """A worker makes no turn if it begins after a thread was refused, or after memory was refused to a turn of
@@ -105,8 +105,8 @@ class RefusedThreads(Case):
         front = build_front(self.folder, "one_by_one")
 
         def run_of(workers, **refused):
-            words = [PLAN, "transcript", "--turns", "1000", "--workers", str(workers)]
-            return under(front, words, TRIANGLE, **refused)
+            arguments = [PLAN, "transcript", "--turns", "1000", "--workers", str(workers)]
+            return under(front, arguments, TRIANGLE, **refused)
 
         answer, (grown, late) = run_of(2)
         self.same(

@@ -176,10 +176,10 @@ def without_hint(function):
 
 
 class Python(FilesCase):
-    def run_clean(self, *words):
-        need(self, words[0])
-        done = subprocess.run(words, cwd=TOP, capture_output=True, text=True)
-        self.note(" ".join(words), done.returncode == 0, done.stdout + done.stderr)
+    def run_clean(self, *arguments):
+        need(self, arguments[0])
+        done = subprocess.run(arguments, cwd=TOP, capture_output=True, text=True)
+        self.note(" ".join(arguments), done.returncode == 0, done.stdout + done.stderr)
 
     def test_layout(self):
         self.run_clean("black", "--check", "--quiet", "--diff", ".")

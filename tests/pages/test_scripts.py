@@ -63,11 +63,11 @@ def typed_elements(types: str) -> dict[str, str]:
 
 
 class Scripts(FilesCase):
-    def run_clean(self, *words: str) -> None:
-        need(self, words[0])
+    def run_clean(self, *arguments: str) -> None:
+        need(self, arguments[0])
         env = os.environ | SETTINGS
-        done = subprocess.run(words, cwd=TOP, env=env, capture_output=True, text=True)
-        self.note(" ".join(words), done.returncode == 0, done.stdout + done.stderr)
+        done = subprocess.run(arguments, cwd=TOP, env=env, capture_output=True, text=True)
+        self.note(" ".join(arguments), done.returncode == 0, done.stdout + done.stderr)
 
     def test_types(self) -> None:
         self.run_clean("tsc", "-p", "jsconfig.json")

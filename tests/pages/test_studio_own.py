@@ -34,7 +34,7 @@ class OwnFiles(Page):
             bare = echo.read().partition("\n\ndef right(")[0]
         with open(os.path.join(cls.folder, "bare.py"), "w", encoding="utf-8") as file:
             file.write(bare + "\n")
-        cls.words = tuple(
+        cls.arguments = tuple(
             word
             for name in (*files, "bare")
             for word in ("--own", os.path.join(cls.folder, f"{name}.py"))

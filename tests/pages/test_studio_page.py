@@ -137,7 +137,7 @@ class Repeated(Case):
 class Page(Case):
     """A studio and a browser for all tests of a class; `words` are those of its command."""
 
-    words: tuple[str, ...] = ()
+    arguments: tuple[str, ...] = ()
     process: subprocess.Popen[str]
     address: str
     page: browser.Browser
@@ -147,7 +147,7 @@ class Page(Case):
         program = browser.command()
         if program is None:
             return
-        cls.process, cls.address = begin(*cls.words)
+        cls.process, cls.address = begin(*cls.arguments)
         cls.addClassCleanup(cls.end_server)
         cls.page = browser.Browser(program)
         cls.addClassCleanup(cls.page.end)
@@ -664,12 +664,12 @@ class Drawn(Page):
             "one of them again", "studio.steps.without === 'fifo' && !studio.steps.made.length"
         )
 
-    def picture(self, kind, does, *words):
+    def picture(self, kind, does, *arguments):
         """The picture that is on the page after something is done."""
         self.value("kept.length = 0")
-        does(*words)
+        does(*arguments)
         is_there = f"kept.length && document.querySelector('#picture img[alt={kind}]')"
-        self.sees(f"{kind} after {' '.join(words)}", is_there)
+        self.sees(f"{kind} after {' '.join(arguments)}", is_there)
         return self.value("kept.length ? kept[0].text() : ''")
 
     def test_pictures(self):

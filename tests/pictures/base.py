@@ -22,9 +22,9 @@ BARRED = (
 )
 
 
-def painter(*words, data=b""):
+def painter(*arguments, data=b""):
     """What `picture` makes of these words and this standard input; in this process, since there are many."""
-    return in_process("picture", picture.main, *words, data=data)
+    return in_process("picture", picture.main, *arguments, data=data)
 
 
 def transcript(network, seed):
@@ -36,12 +36,12 @@ def transcript(network, seed):
 class PictureCase(Case):
     def called(self, kind, network, *options, text=None):
         """What `picture KIND` makes of a network, if there is one, and a text, given as bytes."""
-        words = [] if network is None else [self.file("net.col", network)]
+        arguments = [] if network is None else [self.file("net.col", network)]
         if text is None and FORM.get(kind) == "plan":
             text = plan_text(network_of(network))
         if text is not None:
-            words += [f"--{FORM[kind]}", self.file("text", text)]
-        return painter(kind, *words, *options)
+            arguments += [f"--{FORM[kind]}", self.file("text", text)]
+        return painter(kind, *arguments, *options)
 
     def drawn(self, kind, *given, **more):
         """The picture that such a call draws."""

@@ -457,8 +457,8 @@ class Links(Case):
         """A verdict is there as soon as its link is judged, while the next one is still played."""
         links = self.file("links", f"#{TWO}&dare=apart\n{complete(50)}\n")
         begun = time.monotonic()
-        words = [FORESTLAB, "studio", "--links", links]
-        with subprocess.Popen(words, stdout=subprocess.PIPE, text=True) as process:
+        arguments = [FORESTLAB, "studio", "--links", links]
+        with subprocess.Popen(arguments, stdout=subprocess.PIPE, text=True) as process:
             output = written_by(process)
             said = output.readline()
             first = time.monotonic() - begun

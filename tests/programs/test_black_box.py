@@ -164,14 +164,16 @@ class BlackBox(Case):
     def test_help(self):
         """Each help text whole, of both programs, as lab/help/ has it, but for the words on `-h`: at both options the
         scripts print the stored text."""
-        for (program, *words), name in HELPS:
+        for (program, *arguments), name in HELPS:
             wanted = contents("lab", "help", f"{name}.txt")
             said = wanted.replace(b" Print help\n", b" Print help (see a summary with '-h')\n")
-            done = called(PATHS[program], *words, "--help")
-            self.same(f"help by {program} {words}", done, (0, said, b""))
+            done = called(PATHS[program], *arguments, "--help")
+            self.same(f"help by {program} {arguments}", done, (0, said, b""))
             for option in ("--help", "-h"):
-                done = called(os.path.join(TOP, "bin", program), *words, option)
-                self.same(f"help by the script {program} {words} {option}", done, (0, wanted, b""))
+                done = called(os.path.join(TOP, "bin", program), *arguments, option)
+                self.same(
+                    f"help by the script {program} {arguments} {option}", done, (0, wanted, b"")
+                )
 
     def test_refused_words(self):
         """Each text whole. The first line is the fault, then maybe a tip, the usage of what was named, and where help

@@ -107,9 +107,9 @@ FAULTS = [
 WITHOUT_INPUT = {"F9", "N3", "C7", "X2", "Memory", "memory", "threads", "stream", "NoRoot"}
 
 
-def tell(*words):
+def tell(*arguments):
     """In this process: status, output and what is said."""
-    status, output, errors = call("tell", *words)
+    status, output, errors = call("tell", *arguments)
     return status, output.decode(), errors.decode()
 
 

@@ -16,15 +16,15 @@ PATH2 = b"c Made by forestlab network path 2\nc at 1 0 0\nc at 2 1 0\np edge 2 1
 TRIANGLE = os.path.join(TOP, "examples", "triangle.col")
 
 
-def ended(line, *words, **given):
+def ended(line, *arguments, **given):
     """What a line of shell ends with: its status, its output, and what it says besides."""
-    return called("bash", "-c", line, *words, limit=LIMIT, **given)
+    return called("bash", "-c", line, *arguments, limit=LIMIT, **given)
 
 
 class Endings(Case):
-    def redirected(self, where, path, *words):
+    def redirected(self, where, path, *arguments):
         """What a command ends with whose stream is another one."""
-        return ended(f'exec "$0" "$@" {where}', path, *words, stdin=subprocess.DEVNULL)
+        return ended(f'exec "$0" "$@" {where}', path, *arguments, stdin=subprocess.DEVNULL)
 
     def test_outputs(self):
         """A closed or full output is one line and status 1, of help too, and of a script that isn't Python; a closed

@@ -139,17 +139,17 @@ class Tree:
     def source(self, crate, text):
         self.write(f"crates/{crate}/src/lib.rt", f"//! {text}\n")
 
-    def run(self, *words, given=""):
+    def run(self, *arguments, given=""):
         """The status and both outputs of words that are called at the top."""
         return called(
-            *words, data=given, limit=LIMIT, text=True, cwd=self.top, env=self.environment
+            *arguments, data=given, limit=LIMIT, text=True, cwd=self.top, env=self.environment
         )
 
-    def call(self, *words, given=""):
-        return self.run("./forestplan", *words, given=given)
+    def call(self, *arguments, given=""):
+        return self.run("./forestplan", *arguments, given=given)
 
-    def build(self, *words):
-        return self.run(sys.executable, "-S", "build", *words)
+    def build(self, *arguments):
+        return self.run(sys.executable, "-S", "build", *arguments)
 
     @contextlib.contextmanager
     def begun(self):

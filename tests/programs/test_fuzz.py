@@ -9,9 +9,9 @@ from tests.tools import need
 TEXTS, SECONDS = 60, 5.0
 
 
-def faulty(words: list[str]) -> int:
+def faulty(arguments: list[str]) -> int:
     """A reader that asks for what may not be there."""
-    with open(words[0], "rb") as file:
+    with open(arguments[0], "rb") as file:
         return file.read().index(b"1") and 0
 
 

@@ -14,9 +14,9 @@ SIZE, LEAST = 8_000, 0.1
 CALLS = 12
 
 
-def quadratic(words: list[str]) -> int:
+def quadratic(arguments: list[str]) -> int:
     """A reader that looks at each byte for each byte."""
-    with open(words[0], "rb") as file:
+    with open(arguments[0], "rb") as file:
         data = file.read()
     end = time.thread_time() + len(data) ** 2 / 5e9
     while time.thread_time() < end:
@@ -24,9 +24,9 @@ def quadratic(words: list[str]) -> int:
     return 0
 
 
-def faulty(words: list[str]) -> int:
+def faulty(arguments: list[str]) -> int:
     """A reader that takes a long number for a short one."""
-    with open(words[0], "rb") as file:
+    with open(arguments[0], "rb") as file:
         return int(file.read().split()[1]) % 1
 
 

@@ -186,8 +186,8 @@ class Hostile(Case):
             puts = [b"1 1 put 2 payload 0 %s %s\n" % payload for payload in PAYLOADS]
             texts = [head + b"\n" + behind for behind in (*spoiled_rows, *puts)]
             texts += [b"transcript " + other + b"\n" + rows for other in HEADS]
-            words = [PLAY, "replay", "--program", name]
-            got = self.answers(words, [NETWORK + data for data in texts])
+            arguments = [PLAY, "replay", "--program", name]
+            got = self.answers(arguments, [NETWORK + data for data in texts])
             for data, (status, _, errors) in zip(texts, got):
                 refusal = refusal_of(net, data, program)
                 told = re.match(rb"forestplay: (\w+) line (\d+)", errors)

@@ -64,8 +64,8 @@ class Declared(Case):
         letters = bytearray(b"~" + number + b"?" * (pairs // 6 + 1))
         letters[4], letters[-1] = 63 + 0b100000, 63 + 0b000100
         self.same("bits of the last letter", pairs % 6, 4)
-        words = ["network", "read", "--keep-order", self.file("net.g6", bytes(letters))]
-        done = forestlab(*words, preexec_fn=limited)
+        arguments = ["network", "read", "--keep-order", self.file("net.g6", bytes(letters))]
+        done = forestlab(*arguments, preexec_fn=limited)
         last = f"e {MAX_NODES - 1} {MAX_NODES}"
         lines = [line for line in done[1].decode().splitlines() if line[0] in "pe"]
         self.same("read", (done[0], lines), (0, [f"p edge {MAX_NODES} 2", "e 1 2", last]))

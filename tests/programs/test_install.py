@@ -158,9 +158,11 @@ class Install(FolderCase):
         os.rename(self.target, away)
         self.addCleanup(os.rename, away, self.target)
 
-        def call(*words, given=b""):
+        def call(*arguments, given=b""):
             return run(
-                [os.path.join(links, "bin", words[0]), *words[1:]], given, cwd=self.elsewhere
+                [os.path.join(links, "bin", arguments[0]), *arguments[1:]],
+                given,
+                cwd=self.elsewhere,
             )
 
         for it in COMMANDS:
@@ -246,9 +248,9 @@ class Install(FolderCase):
             ("-s 96", "forestplan: memory: stack size is limited to .*"),
             ("-n 4", ".*: Too many open files"),
         ):
-            words = ["bash", "-c", f"ulimit {limit}; exec bin/forestplan plain"]
+            arguments = ["bash", "-c", f"ulimit {limit}; exec bin/forestplan plain"]
             with open(os.path.join(self.folder, "plan"), "wb") as plan:
-                got = run(words, b"p edge 1 0\n", stdout=plan, cwd=self.target)
+                got = run(arguments, b"p edge 1 0\n", stdout=plan, cwd=self.target)
             good = got[0] == 4 and re.fullmatch(said + "\n", got[2].decode())
             self.note(f"ulimit {limit}", good, got)
 
@@ -257,8 +259,8 @@ class Install(FolderCase):
         """What a package has: all where a system looks for it, whatever the umask is, called by links."""
         room = os.path.join(self.folder, "package")
         packages = "lib/python3/dist-packages"
-        words = ["--prefix", "/usr", "--destdir", room, "--python", packages]
-        done = run([*self.script, *words], umask=0o077)
+        arguments = ["--prefix", "/usr", "--destdir", room, "--python", packages]
+        done = run([*self.script, *arguments], umask=0o077)
         self.note("install --prefix", done[:2] == (0, b""), done)
         self.readme_of(self.target)
         there, share = os.path.join(room, "usr"), os.path.join(room, "usr", "share")
@@ -275,12 +277,14 @@ class Install(FolderCase):
             page = gzip.decompress(contents(share, "man", "man1", name))
             self.same(name, page, contents(self.target, "share", "man", "man1", name[:-3]))
         self.readme_of(os.path.join(share, "doc", "forestplan"))
-        for words, data in (
+        for arguments, data in (
             (["forestlab", "network", "tell", "two"], b""),
             (["forestplay", "rounds"], b"p edge 1 0\n"),
         ):
-            got = run([os.path.join(there, "bin", words[0]), *words[1:]], data, cwd=self.elsewhere)
-            self.note(f"{words} by a link", got[::2] == (0, b""), got)
+            got = run(
+                [os.path.join(there, "bin", arguments[0]), *arguments[1:]], data, cwd=self.elsewhere
+            )
+            self.note(f"{arguments} by a link", got[::2] == (0, b""), got)
         env = ENVIRONMENT | {"PYTHONPATH": os.path.join(there, packages)}
         code = "import forestplan as it; print(it.plan({1: []}), it.home())"
         got = run([sys.executable, "-B", "-c", code], cwd=self.elsewhere, env=env)

@@ -160,14 +160,14 @@ WRONG = [
 PLAIN, SEQUELS = ("colouring", "leader", "layers"), ("matching", "independent-set", "recolouring")
 
 
-def play(command, asked, *words, data):
+def play(command, asked, *arguments, data):
     """The status and both outputs of `forestplay` with a program, of a text in which '|' is a line feed, or bytes."""
     return called(
         PLAY,
         command,
         "--program",
         *asked.split(),
-        *words,
+        *arguments,
         data=data if isinstance(data, bytes) else text(data),
     )
 
@@ -186,10 +186,10 @@ class Programs(Case):
         for asked, net, last, said in ENDS:
             ends = said.split("|") if said else []
             wanted = "".join(f"node {v} pulse {last} {end}|" for v, end in enumerate(ends, 1))
-            for command, *words in RUNS:
+            for command, *arguments in RUNS:
                 self.same(
-                    f"{command} {asked} on {net} {words}",
-                    play(command, asked, *words, data=net),
+                    f"{command} {asked} on {net} {arguments}",
+                    play(command, asked, *arguments, data=net),
                     (0, text(wanted), b""),
                 )
             run = play("alone", asked, "--transcript", data=net)

@@ -202,14 +202,14 @@ class OwnAlgorithms(Case):
             ("recolouring --passes 2", "path2", "1 channel 2, 2 channel 1"),
             (SET, "path2", "1 set out, 2 set in"),
         ):
-            words = ["--program", *asked.split()]
-            status, text, fault = said_by("explore", name, *words)
+            arguments = ["--program", *asked.split()]
+            status, text, fault = said_by("explore", name, *arguments)
             last = text.splitlines()[-1:]
             self.same(
                 f"every order of {asked}", (status, last, fault), (0, [f"one end: {ends}"], "")
             )
-            run = said_by("simulate", name, *words, "--seed", "3")[1]
-            check = ["transcript", "check", name, "-", *words]
+            run = said_by("simulate", name, *arguments, "--seed", "3")[1]
+            check = ["transcript", "check", name, "-", *arguments]
             done = said_by(*check, data=run.encode())
             good = done[::2] == (0, "") and done[1].startswith("whole run of ")
             self.note(f"a run of {asked}", good, done)
@@ -217,7 +217,7 @@ class OwnAlgorithms(Case):
             self.refusal(f"a wrong wire of {asked}", said_by(*check, data=wrong), 1, "WrongWire")
             found = ends.split(", ")[-1][2:]
             for kind in ("results", "player"):
-                done = said_by("picture", kind, name, *words)
+                done = said_by("picture", kind, name, *arguments)
                 self.note(
                     f"picture {kind} of {asked}", done[::2] == (0, "") and found in done[1], done
                 )
@@ -378,8 +378,8 @@ class OwnAlgorithms(Case):
         status, run, fault = said_by("simulate", "path6", *own)
         self.note("simulate", status == 1 and run.startswith("transcript 3 _12 6\n"), run[:40])
         self.note("simulate says why", fault.endswith(" isn't right: no leader\n"), fault)
-        words = ["transcript", "check", "path6", "-", *own, "--json"]
-        status, text, _ = said_by(*words, data=run.encode())
+        arguments = ["transcript", "check", "path6", "-", *own, "--json"]
+        status, text, _ = said_by(*arguments, data=run.encode())
         good = status == 1 and '"right": false' in text and "NotRight" in text
         self.note("transcript check --json", good, text)
 
@@ -430,8 +430,16 @@ class OwnAlgorithms(Case):
             ("__import__('os').kill(__import__('os').getpid(), 9)", 1, "by signal 9"),
             ("[0 for _ in iter(int, 1)]", 143, ""),
         ):
-            words = [FORESTLAB, "explore", "two", "--program", self.file("ends.py", keeping(what))]
-            with subprocess.Popen(words, stdout=subprocess.PIPE, stderr=subprocess.PIPE) as process:
+            arguments = [
+                FORESTLAB,
+                "explore",
+                "two",
+                "--program",
+                self.file("ends.py", keeping(what)),
+            ]
+            with subprocess.Popen(
+                arguments, stdout=subprocess.PIPE, stderr=subprocess.PIPE
+            ) as process:
                 if status == 143:
                     time.sleep(2)
                     process.terminate()
@@ -453,9 +461,9 @@ class OwnAlgorithms(Case):
             good = loud[:2] == plain[:2] and "HERE\n" in loud[2] and "THERE\n" in loud[2]
             self.note(f"{name} with prints", good, (plain, loud))
 
-    def told(self, text, *words, command="explore", network="two"):
+    def told(self, text, *arguments, command="explore", network="two"):
         """Status, output and errors of a command with a file of this text."""
-        return said_by(command, network, "--program", self.file("flood.py", text), *words)
+        return said_by(command, network, "--program", self.file("flood.py", text), *arguments)
 
     def test_pictures(self):
         """Node 3 is in at pulse 1, 2 out at 2, and 1 in at 3."""

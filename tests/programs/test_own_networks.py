@@ -21,9 +21,9 @@ from tests.settings import PLAN, setting
 from tests.tools import needs
 
 
-def call(*words, **more):
+def call(*arguments, **more):
     """Status, output and what is said by a call in this process."""
-    return in_process("network", network.main, *words, **more)
+    return in_process("network", network.main, *arguments, **more)
 
 
 def edges_of(text):
@@ -181,10 +181,10 @@ ORDER_1, ORDER_2 = (os.environ | {"PYTHONHASHSEED": order} for order in "12")
 
 
 class OwnNetworks(Case):
-    def written(self, *words, data=b""):
+    def written(self, *arguments, data=b""):
         """The text that a call writes."""
-        status, text, fault = call(*words, data=data)
-        self.note(f"network {' '.join(map(str, words))}", status == 0, fault)
+        status, text, fault = call(*arguments, data=data)
+        self.note(f"network {' '.join(map(str, arguments))}", status == 0, fault)
         return text
 
     def test_kinds(self):
@@ -308,9 +308,9 @@ class OwnNetworks(Case):
         written = network_of(self.written("read", "-", data=small))
         self.same("999 nodes", written.given_identifiers, network_of(small).given_identifiers)
 
-    def told_of(self, data, *words):
+    def told_of(self, data, *arguments):
         """{name: what} of the lines of `network tell`."""
-        status, text, told = call("tell", "-", *words, data=data)
+        status, text, told = call("tell", "-", *arguments, data=data)
         self.note("tell", status == 0, told)
         return dict(re.findall(r"^(.*?): (.*)$", text.decode(), re.M)), told
 
@@ -325,7 +325,7 @@ class OwnNetworks(Case):
     def test_tell(self):
         """Beside the definitions: the rounds' payloads, and the lines of a run's transcript."""
         networks = {name: example(name) for name in ("petersen", "star", "chain6")}
-        networks |= {words: self.written(*words.split()) for words in ("grid 3 4", "path 1")}
+        networks |= {command: self.written(*command.split()) for command in ("grid 3 4", "path 1")}
         networks |= {"long names": LONG_NAMES, "bars": BARRED}
         for name, data in networks.items():
             net = network_of(data)

@@ -33,12 +33,12 @@ class Plans(Case):
                 f"plan {' '.join(words)}", called(PLAN, "plan", *words, data=data), tuple(wanted)
             )
 
-    def limit_rows(self, name, whole, answer, stopped, call, *words):
+    def limit_rows(self, name, whole, answer, stopped, call, *arguments):
         """One worker stops with one look less than its run needs, by the definition of a turn, and with as many it has
         the answer. A link that held another number of wires, or another number of looks, would move that limit.
         """
         got = [
-            call(*words, "--workers", 1, "--turns", turns)
+            call(*arguments, "--workers", 1, "--turns", turns)
             for turns in (whole.looks - 1, whole.looks)
         ]
         self.same(
@@ -51,17 +51,17 @@ class Plans(Case):
         networks = TRIANGLE, b"p edge 2 0\n", b"p edge 2 1\ne 1 2\n", *networks_by_chance(12, 6)
         for data, capacity in itertools.product(networks, (1, 2, 64)):
             whole = Run(network_of(data), capacity)
-            for words, answer in (
+            for arguments, answer in (
                 (["plan"], plan_text(network_of(data))),
                 (("transcript", "--edition", 1), whole.text()),
                 (("transcript",), whole.merged()),
             ):
-                call = functools.partial(called, PLAN, *words, data=data)
-                name = f"{words} for {data[:60]!r} with capacity {capacity}"
+                call = functools.partial(called, PLAN, *arguments, data=data)
+                name = f"{arguments} for {data[:60]!r} with capacity {capacity}"
                 self.limit_rows(name, whole, answer, STOPPED, call, "--capacity", capacity)
         needed = Run(network_of(TRIANGLE), 2).looks
-        words = ["--capacity=0002", "--workers=+1", f"--turns=+0{needed}"]
-        done = called(PLAN, "plan", *words, data=TRIANGLE)
+        arguments = ["--capacity=0002", "--workers=+1", f"--turns=+0{needed}"]
+        done = called(PLAN, "plan", *arguments, data=TRIANGLE)
         self.same("numbers with a sign or zeros before them", done, (0, TRIANGLE_PLAN, b""))
 
     def test_turns_of_run(self):

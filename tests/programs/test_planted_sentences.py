@@ -206,15 +206,15 @@ class Planted(FilesCase):
         with mock.patch.dict(SENTENCES, PLANTED):
             yield
 
-    def ends(self, words: list[str]) -> tuple[object, str, str]:
+    def ends(self, arguments: list[str]) -> tuple[object, str, str]:
         """How a command ends, what it prints, and what it says."""
-        main = importlib.import_module(COMMANDS[words[0]]).main
+        main = importlib.import_module(COMMANDS[arguments[0]]).main
         printed = io.BytesIO()
         output = io.TextIOWrapper(printed, "utf-8", write_through=True)
         errors = io.StringIO()
         with contextlib.redirect_stdout(output), contextlib.redirect_stderr(errors):
             try:
-                found: object = main(words[1:])
+                found: object = main(arguments[1:])
             except Fault as fault:
                 found = told(fault)
                 errors.write(str(fault))

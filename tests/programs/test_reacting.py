@@ -404,10 +404,10 @@ class Lists(Case):
         """The list of events that goes wrong, played here one by one: each is possible, and it is wrong at the end."""
         text = text_in("examples", "algorithms", "exclusion.py")
         path = self.file("late.py", text.replace("    me.time = max(me.time, time)\n", ""))
-        words = ["explore", "triangle", "--program", path]
-        found = json.loads(said_by(*words, "--json")[1])
+        arguments = ["explore", "triangle", "--program", path]
+        found = json.loads(said_by(*arguments, "--json")[1])
         self.same(
-            "--list writes it", said_by(*words, "--list")[1].split("\n")[:-1], found["events"]
+            "--list writes it", said_by(*arguments, "--list")[1].split("\n")[:-1], found["events"]
         )
         net = network_at("triangle")
         state = program(path).start(net)
@@ -427,13 +427,13 @@ class Lists(Case):
             "    return results[1] != 'got []' or f'{results} {neighbours} {messages}'\n"
         )
         net = "p edge 3 2\ne 1 2\ne 1 3\ni 1 9\ni 2 1\ni 3 4\n"
-        words = ["explore", self.file("net.col", net), "--program"]
-        done = said_by(*words, self.file("ping.py", text))
+        arguments = ["explore", self.file("net.col", net), "--program"]
+        done = said_by(*arguments, self.file("ping.py", text))
         told = "{9: 'got []', 1: 'got []', 4: 'got []'} {9: [1, 4], 1: [9], 4: [9]} "
         first = f"broken after 0 events (0 takes): {told}[(1, 9, ('ping', 7, 'a'))]"
         self.same("one is sent", done[1].split("\n")[0], first)
         text = text.replace("me.id == 1", "me.id == 9")
-        done = said_by(*words, self.file("ping.py", text))
+        done = said_by(*arguments, self.file("ping.py", text))
         told += "[(9, 1, ('ping', 7, 'a')), (9, 4, ('ping', 7, 'a'))]"
         self.note("two are sent", f": {told}\n" in done[1], done)
         taken = PING + (
@@ -737,7 +737,7 @@ class Transcripts(Case):
             "4 2 act 1",
         ]
         text = "\n".join(lines) + "\n"
-        words = ["transcript", "check", "two", "-", "--program", sample("exclusion")]
+        arguments = ["transcript", "check", "two", "-", "--program", sample("exclusion")]
         for name, old, new, said in (
             (
                 "another field",
@@ -819,7 +819,7 @@ class Transcripts(Case):
             ),
         ):
             assert old in text, old
-            done = said_by(*words, data=text.replace(old, new, 1).encode())
+            done = said_by(*arguments, data=text.replace(old, new, 1).encode())
             self.refusal(name, done, 1, said)
         head = "transcript 4 leader 3\n"
         done = said_by(
@@ -837,8 +837,8 @@ class Transcripts(Case):
         path = self.file("echo.py", text)
         found = json.loads(said_by("explore", "triangle", "--program", path, "--json")[1])
         events = "\n".join(found["events"]).encode()
-        words = ["simulate", "triangle", "--program", path, "--events", "-", "--to-the-end"]
-        status, run, fault = said_by(*words, data=events)
+        arguments = ["simulate", "triangle", "--program", path, "--events", "-", "--to-the-end"]
+        status, run, fault = said_by(*arguments, data=events)
         said = "what the nodes find at the end isn't right: node 1 counts "
         self.note("simulate", status == 1 and said in fault, (status, fault))
         done = said_by("transcript", "check", "triangle", "-", "--program", path, data=run.encode())
@@ -846,7 +846,7 @@ class Transcripts(Case):
 
     def test_lists(self) -> None:
         """A list of events of such nodes: `act`, and no `pulse`; and what is said of one that ends early."""
-        words = ["simulate", "two", "--program", sample("exclusion"), "--events", "-"]
+        arguments = ["simulate", "two", "--program", sample("exclusion"), "--events", "-"]
         for data, status, said in (
             (
                 b"act 1\n",
@@ -865,7 +865,7 @@ class Transcripts(Case):
                 "line 1: `put 1 0` isn't possible there: list of 1 for 2 (NothingToPut)\n",
             ),
         ):
-            done = said_by(*words, data=data)
+            done = said_by(*arguments, data=data)
             self.note(said, done[0] == status and said in done[2], done)
         done = said_by("simulate", "two", "--events", "-", data=b"act 1\n")
         self.refusal("act in rounds", done, 1, "line 1: `act 1` is no event (NoEvent)")
@@ -980,8 +980,8 @@ class Pictures(Case):
         """Each message from its put to its take, each act, and what changes."""
         lines = ENTRIES
         path = self.file("run.transcript", "\n".join(lines) + "\n")
-        words = ["picture", "run", "two", "--program", sample("exclusion")]
-        status, svg, fault = said_by(*words, "--transcript", path)
+        arguments = ["picture", "run", "two", "--program", sample("exclusion")]
+        status, svg, fault = said_by(*arguments, "--transcript", path)
         self.same("it is drawn", (status, fault), (0, ""))
         root = parsed(svg)
         messages = ["1 to 2: ask 1 1", "2 to 1: yes", "2 to 1: ask 2 2", "1 to 2: yes"]
@@ -997,15 +997,15 @@ class Pictures(Case):
         at = [places[number] for number in range(4)]
         self.same("by stamp", [round((x - at[0]) / (at[1] - at[0]) * 2) for x in at], [0, 2, 4, 6])
         wrong = "\n".join(lines).replace("ask 2 2", "ask 3 2", 1)
-        done = said_by(*words, "--transcript", self.file("wrong.transcript", wrong))
+        done = said_by(*arguments, "--transcript", self.file("wrong.transcript", wrong))
         self.refusal("a wrong run", done, 1, "line 9: WrongWire: node 2 puts ask 3 2 for 1")
 
     def test_a_page(self) -> None:
         """What is shown of each node after each entry, by hand: acts, whether it may act, and what it has found."""
         path = self.file("run.transcript", "\n".join(ENTRIES) + "\n")
-        words = ["picture", "watch", "two"]
+        arguments = ["picture", "watch", "two"]
         own = ["--program", sample("exclusion")]
-        status, page, fault = said_by(*words, path, *own)
+        status, page, fault = said_by(*arguments, path, *own)
         self.same("it is made", (status, fault), (0, ""))
         run = data_of(page)["run"]
         idle = {"acts": 0, "able": True, "found": "idle"}
@@ -1033,21 +1033,21 @@ class Pictures(Case):
         ]
         self.same("messages", wires, wanted)
         cut = self.file("cut.transcript", "\n".join(ENTRIES[:4]) + "\n")
-        run = data_of(said_by(*words, cut, *own)[1])["run"]
+        run = data_of(said_by(*arguments, cut, *own)[1])["run"]
         self.same("one is taken", [one[3:] for one in run["wires"]], [[1, 2, 2, 3]])
         cut = self.file("cut.transcript", "\n".join(ENTRIES[:3]) + "\n")
-        run = data_of(said_by(*words, cut, *own)[1])["run"]
+        run = data_of(said_by(*arguments, cut, *own)[1])["run"]
         self.same("one is under way", [one[3:] for one in run["wires"]], [[1, 2, None, None]])
-        done = said_by(*words, path, path, *own)
+        done = said_by(*arguments, path, path, *own)
         self.refusal("two", done, 1, "pulse by pulse, and the nodes of exclusion make none")
 
     def test_one_is_made(self) -> None:
         """Without a stored text a run is made; the options of rounds are refused."""
-        words = ["picture", "run", "triangle", "--program", sample("echo")]
-        status, svg, fault = said_by(*words)
+        arguments = ["picture", "run", "triangle", "--program", sample("echo")]
+        status, svg, fault = said_by(*arguments)
         self.same("the echo", (status, len(marks(parsed(svg), "message")), fault), (0, 6, ""))
         for options in (["--pulses", "0..1"], ["--only", "ack"], ["--wrong"]):
-            done = said_by(*words, *options)
+            done = said_by(*arguments, *options)
             self.refusal(
                 options[0],
                 done,

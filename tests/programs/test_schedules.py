@@ -116,8 +116,8 @@ def list_of(name, lines):
     return (text_of(name) + "".join(line + "\n" for line in lines)).encode()
 
 
-def explored(*words):
-    return said_by("explore", *words, cwd=TOP)
+def explored(*arguments):
+    return said_by("explore", *arguments, cwd=TOP)
 
 
 # (network, rules, the fault of `forestplay events` on the list without them, or None): what happens to two nodes is
@@ -250,8 +250,8 @@ class Schedules(Case):
         known = not any(word in said for word in ("schedules,", "apart,", "under way\n"))
         self.note("nothing of what it doesn't know", known, said)
 
-    def explored(self, name, *words):
-        return explored(self.file(f"{name}.col", text_of(name)), "--limit", str(MOST), *words)
+    def explored(self, name, *arguments):
+        return explored(self.file(f"{name}.col", text_of(name)), "--limit", str(MOST), *arguments)
 
     @needs("forestplay")
     def test_broken(self):

@@ -70,6 +70,6 @@ class SequelRuns(Case):
                     f"node {v} pulse {program.last_pulse(net)} {ended(net, v, node.result())}"
                     for v, node in nodes.items()
                 ]
-                for command, *words in (("alone",), ("ends",), next(threads), next(threads)):
-                    done = play(command, asked, *words, data=data)
-                    self.same(f"{command} of {name} {words}", done, (0, text_of(ends), b""))
+                for command, *arguments in (("alone",), ("ends",), next(threads), next(threads)):
+                    done = play(command, asked, *arguments, data=data)
+                    self.same(f"{command} of {name} {arguments}", done, (0, text_of(ends), b""))

@@ -11,8 +11,8 @@ from tests.cases import Case, found_in, said_by
 from tests.programs.test_plain_networks import payloads_of, reached
 
 
-def sheet(*words):
-    return said_by("sheet", *words)
+def sheet(*arguments):
+    return said_by("sheet", *arguments)
 
 
 def rows_of(section):

@@ -20,8 +20,8 @@ from tests.tools import needs
 NETWORKS = ("two", "triangle", "chain6", "barred", "petersen")
 
 
-def simulate(*words, data=b""):
-    return forestlab("simulate", *words, data=data)
+def simulate(*arguments, data=b""):
+    return forestlab("simulate", *arguments, data=data)
 
 
 class Waits(Case):
@@ -84,7 +84,8 @@ class Runs(Case):
     def test_repeatable(self):
         """Two calls give the same bytes, and seeds differ; the first one is taken without --seed."""
         one, other, again = (
-            simulate("triangle", *words)[1] for words in (("--seed", "1"), ("--seed", "x"), ())
+            simulate("triangle", *arguments)[1]
+            for arguments in (("--seed", "1"), ("--seed", "x"), ())
         )
         self.assertTrue(one == again != other)
 

@@ -189,8 +189,8 @@ class Sites(Case):
 
 
 class Channels(Case):
-    def call(self, *words, data=""):
-        return said_by("channels", *words, data=data.encode())
+    def call(self, *arguments, data=""):
+        return said_by("channels", *arguments, data=data.encode())
 
     @needs("forestplan")
     def test_both_ways(self):

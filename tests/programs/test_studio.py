@@ -54,10 +54,10 @@ def is_running(process):
     return os.path.exists(f"/proc/{process}")
 
 
-def begin(*words, top=TOP):
+def begin(*arguments, top=TOP):
     """(process, address) of a studio, as a shell in the foreground would start it."""
     process = subprocess.Popen(
-        [sys.executable, "-S", os.path.join(top, "lab"), "studio", "--no-browser", *words],
+        [sys.executable, "-S", os.path.join(top, "lab"), "studio", "--no-browser", *arguments],
         stderr=subprocess.PIPE,
         text=True,
         preexec_fn=lambda: signal.signal(signal.SIGINT, signal.default_int_handler),
@@ -68,13 +68,13 @@ def begin(*words, top=TOP):
 class Server(Case):
     """A studio at a free port, and what is asked of it."""
 
-    words: list[str] = []
+    arguments: list[str] = []
     top = TOP
 
     def setUp(self):
         with socket.create_server(("127.0.0.1", 0)) as free:
             self.port = free.getsockname()[1]
-        self.process, address = begin("--port", str(self.port), *self.words, top=self.top)
+        self.process, address = begin("--port", str(self.port), *self.arguments, top=self.top)
         self.token = address.partition("token=")[2]
 
     def tearDown(self):
@@ -299,7 +299,7 @@ class Memory(Server):
     def setUp(self):
         own = os.path.join(TOP, "examples", "algorithms", "independent_set.py")
         hungry = self.file("hungry.py", OWN.format("return bytearray(3 << 30)"))
-        self.words = ["--own", hungry, "--own", own]
+        self.arguments = ["--own", hungry, "--own", own]
         super().setUp()
 
     def test_memory(self):
@@ -533,7 +533,7 @@ class Answers(Server):
 class Ends(Server):
     def setUp(self):
         # Three nodes of it take 45 seconds, in which nothing is written that could fail.
-        self.words = ["--own", self.file("sleeps.py", OWN.format("time.sleep(15)"))]
+        self.arguments = ["--own", self.file("sleeps.py", OWN.format("time.sleep(15)"))]
         # A server that is killed leaves its folder.
         self.enterContext(mock.patch.dict(os.environ, TMPDIR=self.folder))
         super().setUp()

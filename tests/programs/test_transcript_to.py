@@ -34,8 +34,8 @@ take ack 0 from 2
 """
 
 
-def call(*words, data=""):
-    return said_by("transcript", "convert", *words, data=text(data))
+def call(*arguments, data=""):
+    return said_by("transcript", "convert", *arguments, data=text(data))
 
 
 class Forms(Case):

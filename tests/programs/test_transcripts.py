@@ -87,10 +87,10 @@ def said_of(net, data, program=COLOURING):
         return f"line {line}: {code}", words
 
 
-def said_by(network, data, *words, play=PLAY):
+def said_by(network, data, *arguments, play=PLAY):
     """None if `forestplay replay` accepts it, else its fault in the form of the checker's, with lines from the
     transcript's first."""
-    status, output, fault = called(play, "replay", *words, data=network + data)
+    status, output, fault = called(play, "replay", *arguments, data=network + data)
     if (status, fault) == (0, b""):
         return None
     found = re.fullmatch(rb"forestplay: (\w+) line (\d+)(: [ -~]+)?\n", fault)
@@ -102,12 +102,12 @@ def said_by(network, data, *words, play=PLAY):
     return f"line {line}: {code}"
 
 
-def check(*words, data=b""):
-    return forestlab("transcript", "check", *words, data=data)
+def check(*arguments, data=b""):
+    return forestlab("transcript", "check", *arguments, data=data)
 
 
-def replay(*words, data):
-    return forestlab("transcript", "replay", *words, data=data)
+def replay(*arguments, data):
+    return forestlab("transcript", "replay", *arguments, data=data)
 
 
 def machine_of(run):
@@ -235,13 +235,13 @@ class Transcripts(Case):
         source, wrong, entries = random.Random(SEED), [], 0
         for at, network in enumerate(networks_by_chance(count, 14, SEED)):
             edition, workers = 1 + at % 2, source.choice((2, 4, 5, 8, 16, 64))
-            words = ["--edition", edition, "--workers", workers]
-            words += ["--capacity", source.choice((1, 2, 4, 64))]
-            status, data, fault = called(PLAN, "transcript", *words, data=network)
+            arguments = ["--edition", edition, "--workers", workers]
+            arguments += ["--capacity", source.choice((1, 2, 4, 64))]
+            status, data, fault = called(PLAN, "transcript", *arguments, data=network)
             said = said_of(network_of(network), data)[0]
             good = (status, fault) == (0, b"") and said.startswith("whole run of ")
             got = said_by(network, data) if good and at % 2 else None
             if not good or got:
-                wrong.append((network, words, status, fault, said, got))
+                wrong.append((network, arguments, status, fault, said, got))
             entries += data.count(b"\n") - 1
         self.note(f"{count} whole runs, {entries} entries", not wrong, f"{len(wrong)}: {wrong[:1]}")

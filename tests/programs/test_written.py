@@ -61,7 +61,7 @@ class Writer:
     form: str
     file: str
     write: Callable[[Meant], bytes]
-    words: tuple[str, ...] = ()
+    arguments: tuple[str, ...] = ()
     lacks: str = ""
     has_lone: bool = True
     has_names: bool = True
@@ -85,7 +85,7 @@ class Writer:
         path = os.path.join(folder, self.file)
         with open(path, "wb") as file:
             file.write(data)
-        status, out, errors = in_process("network", network.main, "read", *self.words, path)
+        status, out, errors = in_process("network", network.main, "read", *self.arguments, path)
         said = errors.decode()
         if status == 0:
             made = read_network(out.decode(), path)
@@ -122,7 +122,7 @@ def table_of(titles, rows, mark=",", encoding="utf-8") -> bytes:
 
 
 def spreadsheet_writers() -> list[Writer]:
-    def row(form, titles, *more, words=()):
+    def row(form, titles, *more, arguments=()):
         def write(one: Meant) -> bytes:
             return table_of(titles, one.edges, *more)
 
@@ -130,9 +130,9 @@ def spreadsheet_writers() -> list[Writer]:
 
     return [
         row("CSV with a mark", ("Source", "Target"), ",", "utf-8-sig"),
-        row("CSV in cp1252", ("from", "to"), ";", "cp1252", words=("--encoding", "cp1252")),
+        row("CSV in cp1252", ("from", "to"), ";", "cp1252", arguments=("--encoding", "cp1252")),
         row("CSV in UTF-16", ("SOURCE", "TARGET"), "\t", "utf-16"),
-        row("CSV in German", ("Von", "Ort"), ";", words=("--columns", "source=von,target=Ort")),
+        row("CSV in German", ("Von", "Ort"), ";", arguments=("--columns", "source=von,target=Ort")),
     ]
 
 

@@ -51,12 +51,12 @@ def gv2gml_writers() -> list[Writer]:
 def pandas_writers() -> list[Writer]:
     pandas = importlib.import_module("pandas")
 
-    def row(form, *words, file="net.csv", titles=("source", "target"), **more):
+    def row(form, *arguments, file="net.csv", titles=("source", "target"), **more):
         def write(one: Meant) -> bytes:
             table = pandas.DataFrame(one.edges, columns=titles).assign(km=0.5)
             return through_file(lambda path: table.to_csv(path, **more))
 
-        return Writer(form, file, write, words, has_lone=False)
+        return Writer(form, file, write, arguments, has_lone=False)
 
     german = {"titles": ("Von", "Nach"), "sep": ";", "decimal": ","}
     return [

@@ -36,9 +36,9 @@ def network(name):
     return network_of(name, Random("1"))
 
 
-def options_of(assignment, *words, **options):
+def options_of(assignment, *arguments, **options):
     """Options of the command line, and others in their place."""
-    found = parsed([assignment, *words, *([] if "--" in words else ["--", "x"])])
+    found = parsed([assignment, *arguments, *([] if "--" in arguments else ["--", "x"])])
     vars(found).update({"timeout": 20.0} | options)
     return found
 
@@ -52,10 +52,10 @@ def played(assignment, name, *commands, policy="random", seed="1", **options):
 
 
 class Played(Rows):
-    def wrong_node(self, name, file, *words):
+    def wrong_node(self, name, file, *arguments):
         """The command of a node with a mistake."""
         MISTAKES.write(self.folder, [name])
-        return [sys.executable, "-S", os.path.join(self.folder, name, file), *words]
+        return [sys.executable, "-S", os.path.join(self.folder, name, file), *arguments]
 
     def found(self, right, assignment, given, *commands, **more):
         """The row of a run with what is wrong in it, (verdict, node, pulse), or None; returns the finding."""
@@ -93,8 +93,10 @@ def ending_with(line):
     return [sys.executable, "-S", "-c", code]
 
 
-def call(*words, **more):
-    return subprocess.run([*DOOR, *words], capture_output=True, text=True, timeout=LIMIT, **more)
+def call(*arguments, **more):
+    return subprocess.run(
+        [*DOOR, *arguments], capture_output=True, text=True, timeout=LIMIT, **more
+    )
 
 
 @functools.cache

@@ -30,9 +30,9 @@ class Submitted(Case):
             self.file(os.path.join(folder, re.sub("_(py|js|c|java)$", r".\1", name)), text)
         return folder
 
-    def graded(self, *words, runs="2", timeout="30", **more):
+    def graded(self, *arguments, runs="2", timeout="30", **more):
         """By student, of `grade --json` with few runs."""
         few = ["--seed", "7", "--json", "--timeout", timeout, "--runs", runs]
-        done = call("grade", self.subs, *few, *words, **more)
+        done = call("grade", self.subs, *few, *arguments, **more)
         self.assertIn(done.returncode, (0, 1), done)
         return {one["student"]: one for one in json.loads(done.stdout)["submissions"]}

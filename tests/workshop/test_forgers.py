@@ -46,8 +46,8 @@ class Forgers(unittest.TestCase):
             "said.append(f'blocked={len(signal.pthread_sigmask(signal.SIG_BLOCK, ()))}')\n"
         )
         given = {"SECRET": "x", "PYTHONUNBUFFERED": "1", "HOME": "/", "LANG": "C.UTF-8"}
-        words = ["rounds", "two", "--json", "--", *program(REACHING, more)]
-        done = call(*words, env={**os.environ, **given}, **as_a_user())
+        arguments = ["rounds", "two", "--json", "--", *program(REACHING, more)]
+        done = call(*arguments, env={**os.environ, **given}, **as_a_user())
         self.assertEqual(done.returncode, 1, done)
         result = json.loads(done.stdout)
         self.assertEqual([case["verdict"] for case in result["cases"]], ["ended"])
@@ -60,8 +60,8 @@ class Forgers(unittest.TestCase):
 
     def test_nor_if_the_workshop_is_killed(self):
         """The nodes themselves end with it."""
-        words = [*DOOR, "rounds", "two", *PYTHON, f"import time; time.sleep({MARK})", MARK]
-        workshop = subprocess.Popen(words, stdout=subprocess.PIPE)
+        arguments = [*DOOR, "rounds", "two", *PYTHON, f"import time; time.sleep({MARK})", MARK]
+        workshop = subprocess.Popen(arguments, stdout=subprocess.PIPE)
         wait_until(
             lambda: len(left()) > 2, LIMIT, 0.001
         )  # the workshop's own words have the mark, too
@@ -76,7 +76,7 @@ class Forgers(unittest.TestCase):
             "n = 0\ntry:\n    while n < 4000:\n        if os.fork() == 0:\n            time.sleep(%s)\n"
             "        n += 1\nexcept OSError:\n    pass\n"
         ) % MARK
-        words = [
+        arguments = [
             "rounds",
             "path1",
             "--timeout",
@@ -87,5 +87,5 @@ class Forgers(unittest.TestCase):
             "--",
             *program({"started": "n < 1000"}, more),
         ]
-        done = call(*words, **as_a_user())
+        done = call(*arguments, **as_a_user())
         self.assertEqual((done.returncode, got(done.stdout)), (1, {"started": "True"}), done)

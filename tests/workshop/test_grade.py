@@ -113,8 +113,8 @@ class Grades(Submitted):
         need(self, "bwrap", "libseccomp")
         self.submit("anna", rounds_node_py=f"import os\nos.execvp('sleep', ['sleep', '{MARK}'])\n")
         given = {**os.environ, "TMPDIR": self.folder}  # what it leaves goes with the test
-        words = [*DOOR, "grade", self.subs]
-        grading = subprocess.Popen(words, stderr=subprocess.DEVNULL, env=given)
+        arguments = [*DOOR, "grade", self.subs]
+        grading = subprocess.Popen(arguments, stderr=subprocess.DEVNULL, env=given)
         self.assertTrue(wait_until(left, LIMIT))
         grading.kill()
         grading.wait()

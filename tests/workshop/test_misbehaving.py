@@ -176,11 +176,13 @@ class Misbehaving(Played):
         )
         for code, number, status in rows:
             with self.subTest(number.name):
-                words = [*DOOR, "rounds", "path3", "--timeout", "500", "--", *command(code)]
+                arguments = [*DOOR, "rounds", "path3", "--timeout", "500", "--", *command(code)]
                 pipe = subprocess.PIPE
                 # Whatever started the tests may ignore signals, and then what they start does so too.
                 before = signal.signal(number, lambda *_: None)
-                workshop = subprocess.Popen(words, stdout=pipe, stderr=pipe, start_new_session=True)
+                workshop = subprocess.Popen(
+                    arguments, stdout=pipe, stderr=pipe, start_new_session=True
+                )
                 signal.signal(number, before)
                 wait_until(
                     lambda: len(left()) > 3, LIMIT

@@ -132,8 +132,8 @@ class Reach(Contained):
         """What the attacks speak of: all of it is there. Another process was called with the path of submissions."""
         own = os.path.join(self.copy, NODE)
         os.utime(own, (1, os.stat(own).st_mtime))
-        words = ["python3", "-c", "input()", self.subs]
-        other = subprocess.Popen(words, stdin=subprocess.PIPE)
+        arguments = ["python3", "-c", "input()", self.subs]
+        other = subprocess.Popen(arguments, stdin=subprocess.PIPE)
         self.addCleanup(other.communicate)
         names = {"own": own, "backwards": self.subs[::-1], "host": os.uname().nodename}
         return names | {"mark": MARK, "node": NODE}

@@ -139,11 +139,11 @@ OF_FILES = ("my_own", "independent_set", "Leader", "-set")
 
 
 class Transcripts(Case):
-    def says(self, text, line, *words, network="two"):
+    def says(self, text, line, *parts, network="two"):
         status, _, said = said_by(
-            "transcript", "check", network, *words, data=text.replace("|", "\n").encode()
+            "transcript", "check", network, *parts, data=text.replace("|", "\n").encode()
         )
-        self.same(f"{text} {words}", (status, said), (1, f"{line}\n"))
+        self.same(f"{text} {parts}", (status, said), (1, f"{line}\n"))
 
     def test_of_edition_2(self):
         for entries, line in ROWS:
