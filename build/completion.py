@@ -163,7 +163,7 @@ def manual(folder: str, name: str) -> str:
     page = f'.TH "{name.upper()}" 1 "" "forestplan" "User Commands"\n.SH NAME\n'
     page += f"{name} \\- {purpose[:1].lower()}{purpose[1:]}\n.SH DESCRIPTION\n{as_roff(text)}"
     return page + "".join(
-        f'.SH "{" ".join(words).upper()}"\n{as_roff(said)}' for words, said, _ in below
+        f'.SH "{" ".join(arguments).upper()}"\n{as_roff(said)}' for arguments, said, _ in below
     )
 
 

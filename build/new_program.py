@@ -43,8 +43,8 @@ Example:
 
 def renamed(text: str, model: Model, name: str) -> str:
     """The text of a model with this name in the place of its own."""
-    crate, title, words = model
-    return text.replace(title, name.title()).replace(crate, name).replace(words, name)
+    crate, title, word = model
+    return text.replace(title, name.title()).replace(crate, name).replace(word, name)
 
 
 def add_test(name: str, top: str, model: Model) -> None:

@@ -36,12 +36,12 @@ Commands: TypeAlias = "argparse._SubParsersAction[Command]"
 
 
 def parser_of(
-    name: str, words: str, what: str, more: str | None, door: str = "forestlab"
+    name: str, arguments: str, what: str, more: str | None, door: str = "forestlab"
 ) -> Parser:
     """The parser of `forestlab NAME WORDS`, whose help begins with `what` and ends with `more`, as they stand."""
     return Parser(
         prog=f"{door} {name}",
-        usage=f"{door} {name} {words}",
+        usage=f"{door} {name} {arguments}",
         description=what,
         epilog=more,
         formatter_class=argparse.RawDescriptionHelpFormatter,
@@ -59,13 +59,13 @@ def add_commands(parser: Parser, what: str = "command") -> Commands:
 
 
 def add_command(
-    commands: Commands, name: str, words: str, what: str, more: str, example: str
+    commands: Commands, name: str, arguments: str, what: str, more: str, example: str
 ) -> Command:
     """The parser of `forestlab NAME WORDS`, one of several commands: its help is a line, more of it, and an example."""
     return commands.add_parser(
         name.split()[-1],
         prog=f"forestlab {name}",
-        usage=f"forestlab {name} {words}",
+        usage=f"forestlab {name} {arguments}",
         description=f"{what}\n\n{more}".rstrip(),
         epilog=f"Example:\n  {example}",
         formatter_class=argparse.RawDescriptionHelpFormatter,
@@ -102,10 +102,10 @@ def some_of(*names: str) -> Callable[[str], tuple[str, ...]]:
     """The type of an option that takes some of these words, with commas between."""
 
     def chosen(text: str) -> tuple[str, ...]:
-        words = tuple(dict.fromkeys(text.split(",")))
-        if not set(words) <= set(names):
+        picked = tuple(dict.fromkeys(text.split(",")))
+        if not set(picked) <= set(names):
             raise argparse.ArgumentTypeError(f"some of {','.join(names)}")
-        return words
+        return picked
 
     return chosen
 

@@ -30,10 +30,10 @@ run_program "$top/lib/$name" "$name" "$@"
 class Refused(Exception):
     """A program refused: `status` is its own, and `words` is what it wrote to standard error."""
 
-    def __init__(self, status: int, words: str) -> None:
-        super().__init__(status, words)
+    def __init__(self, status: int, message: str) -> None:
+        super().__init__(status, message)
         self.status = status
-        self.words = words
+        self.message = message
 
 
 def program_file(name: str) -> str:

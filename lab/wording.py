@@ -2,11 +2,11 @@
 from collections.abc import Iterable
 
 
-def one_line(words: str) -> str:
+def one_line(text: str) -> str:
     """Words as they may be printed in one line: what is no letter of a line is escaped."""
     return "".join(
         letter if letter.isprintable() else letter.encode("unicode_escape").decode()
-        for letter in words
+        for letter in text
     )
 
 
@@ -17,8 +17,8 @@ def as_text(lines: Iterable[object]) -> str:
 
 def in_words(things: Iterable[object]) -> str:
     """`2`, `2 and 3`, `2, 3 and 5`."""
-    words = [str(thing) for thing in things]
-    return " and ".join(filter(None, [", ".join(words[:-1]), *words[-1:]]))
+    texts = [str(thing) for thing in things]
+    return " and ".join(filter(None, [", ".join(texts[:-1]), *texts[-1:]]))
 
 
 def counted(count: int, one: str, more: str | None = None) -> str:

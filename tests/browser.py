@@ -89,20 +89,20 @@ class Browser:
         text, _, self.rest = self.rest.partition(b"\0")
         return json.loads(text)
 
-    def value(self, words):
+    def value(self, code):
         """What an expression is on the page."""
-        got = self.ask("Runtime.evaluate", expression=words, returnByValue=True, awaitPromise=True)
+        got = self.ask("Runtime.evaluate", expression=code, returnByValue=True, awaitPromise=True)
         if "exceptionDetails" in got:
             raise RuntimeError(
-                f"{words}: {got['exceptionDetails'].get('exception', {}).get('description')}"
+                f"{code}: {got['exceptionDetails'].get('exception', {}).get('description')}"
             )
         return got["result"].get("value")
 
-    def until(self, words, seconds=120):
+    def until(self, code, seconds=120):
         """Waits until an expression is true."""
         end = time.monotonic() + seconds
         while time.monotonic() < end:
-            if self.value(f"Boolean({words})"):
+            if self.value(f"Boolean({code})"):
                 return True
             time.sleep(0.03)
         return False

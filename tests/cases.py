@@ -191,11 +191,11 @@ def example(name):
     return contents("examples", name if "." in name else f"{name}.col")
 
 
-def found_in(pattern: str, words: str, flags: int = 0) -> re.Match[str]:
+def found_in(pattern: str, text: str, flags: int = 0) -> re.Match[str]:
     """Where a text has a pattern first; a text that hasn't fails the test."""
-    found = re.search(pattern, words, flags)
+    found = re.search(pattern, text, flags)
     if found is None:
-        raise AssertionError(f"there is no {pattern!r} in {words[:1000]!r}")
+        raise AssertionError(f"there is no {pattern!r} in {text[:1000]!r}")
     return found
 
 

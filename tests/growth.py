@@ -30,8 +30,8 @@ def shapes_of(reader: Reader) -> Iterator[tuple[str, Shape]]:
     yield "one letter", again(b"", b"a")
     yield "one letter in each line", again(b"", b"a\n")
     yield "a long field at the end", again(good.rstrip(b"\n"), b"a", b"\n")
-    words = [found.span() for found in re.finditer(rb"[A-Za-z]+", good)]
-    for at, (begin, end) in enumerate(dict.fromkeys((words[:1] + words[-1:])), 1):
+    spans = [found.span() for found in re.finditer(rb"[A-Za-z]+", good)]
+    for at, (begin, end) in enumerate(dict.fromkeys((spans[:1] + spans[-1:])), 1):
         yield f"a long field in the place of word {at}", again(good[:begin], b"a", good[end:])
         marks = "\u0300\u0316".encode()
         yield f"marks over the letters of word {at}", again(good[:end], marks, good[end:])

@@ -98,11 +98,11 @@ class Reader:
         for path, text in ((file, data), (beside, self.beside)):
             with open(path, "wb") as to:
                 to.write(text)
-        words = [{FILE: file, BESIDE: beside}.get(word, word) for word in self.arguments]
+        arguments = [{FILE: file, BESIDE: beside}.get(word, word) for word in self.arguments]
         stdin = self.given if FILE in self.arguments else data
         with streams(stdin):
             try:
-                return self.main(words)
+                return self.main(arguments)
             except SystemExit as ended:
                 return int(ended.code or 0)
             except (Fault, OSError):
@@ -194,9 +194,9 @@ def with_encoding(arguments: list[str]) -> int:
 
 
 def read_as(form: str, good: tuple[bytes, ...], pieces: bytes, **more) -> Reader:
-    words = ("read", FILE, "--as", form)
+    arguments = ("read", FILE, "--as", form)
     needs = "" if form in ("dimacs", "pairs", "edges", "adjacency") else "networkx"
-    return Reader(form, network.main, words, good, tuple(pieces.split()), needs=needs, **more)
+    return Reader(form, network.main, arguments, good, tuple(pieces.split()), needs=needs, **more)
 
 
 ENCODINGS = (

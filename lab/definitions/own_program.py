@@ -401,13 +401,13 @@ class OwnNode:
 def found_by(file: LoadedFile, me: Me, identifier: int) -> str:
     """What a node of a file has found so far, in words."""
 
-    def words() -> str:
+    def finding() -> str:
         found = plain(file.finding(me))
         if not is_line(found):
             raise Fault(Code.NO_WORDS_RETURNED, InText(file.path), returned=as_python(found))
         return found
 
-    return call(file.path, f"`result` of the node of identifier {identifier}", words)
+    return call(file.path, f"`result` of the node of identifier {identifier}", finding)
 
 
 def takes(function: object, count: int) -> bool:
@@ -416,8 +416,8 @@ def takes(function: object, count: int) -> bool:
     return isinstance(code, CodeType) and code.co_argcount == count
 
 
-def cut(words: str, most: int = LONGEST_VALUE) -> str:
-    return words if len(words) <= most else f"{words[:most]}.."
+def cut(text: str, most: int = LONGEST_VALUE) -> str:
+    return text if len(text) <= most else f"{text[:most]}.."
 
 
 def as_python(value: object) -> str:
@@ -438,9 +438,9 @@ def plain(value: object) -> object:
     return value
 
 
-def is_line(words: object) -> TypeGuard[str]:
+def is_line(value: object) -> TypeGuard[str]:
     """Whether something is words on one line, which can be written."""
-    return isinstance(words, str) and not BREAKS.search(words)
+    return isinstance(value, str) and not BREAKS.search(value)
 
 
 class NoPayload(ValueError):
@@ -566,7 +566,7 @@ def by_identifier(
 ) -> tuple[dict[int, str], dict[int, list[int]]]:
     """What nodes have found, and their neighbours, as a file knows them."""
     name = net.identifiers
-    results = {name[v]: words for v, words in found.items()}
+    results = {name[v]: result for v, result in found.items()}
     return results, {name[v]: sorted(name[w] for w in ws) for v, ws in net.neighbours.items()}
 
 

@@ -225,9 +225,9 @@ class ReactingNode(Node):
         return "may still act" if self.is_able else ""
 
     def result(self) -> str:
-        words = found_by(self.of_file, self.me, self.id)
+        found = found_by(self.of_file, self.me, self.id)
         call(self.of_file.path, self.where("result"), self.check_unchanged, "result")
-        return words
+        return found
 
     # For all orders of events.
 

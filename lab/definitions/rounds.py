@@ -102,8 +102,8 @@ class Pulse:
             (v, f"put {w} payload {self.number} {word} {number}")
             for v, w, word, number in self.puts
         ]
-        for v, words in sorted([*own, *puts], key=itemgetter(0)):
-            yield f"{v} {words}"
+        for v, text in sorted([*own, *puts], key=itemgetter(0)):
+            yield f"{v} {text}"
 
 
 class Rounds:

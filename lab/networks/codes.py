@@ -173,7 +173,7 @@ class Told(NamedTuple):
     more: str
 
 
-def code_of(words: str) -> Told | None:
+def code_of(text: str) -> Told | None:
     """What is told of a fault, as `C8`, `C8 vertex 1` or `forestplay: NotReady line 9: safe 0 of 2`; None if the words
     are no fault.
 
@@ -182,7 +182,7 @@ def code_of(words: str) -> Told | None:
     >>> code_of("C99") is None
     True
     """
-    found = WRITTEN.fullmatch(words)
+    found = WRITTEN.fullmatch(text)
     if found is None:
         return None
     at = f"{found[2]} {' and '.join(found[3].split())}" if found[2] else ""

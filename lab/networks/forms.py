@@ -116,11 +116,11 @@ def form_of(path: str, name: str, stated: Stated = Stated()) -> str:
         raise Fault(Code.SPREADSHEET, InText(name))
     if ending not in OTHERS:
         raise Unsaid(Fault(Code.FORM_UNSAID, InText(name)), COMMON)
-    package, new_ending, words = OTHERS[ending]
+    package, new_ending, command = OTHERS[ending]
     # A name that begins with a hyphen is no option if it begins with its folder.
     old = f"./{path}" if path.startswith("-") else path
     new = os.path.splitext(old)[0] + new_ending
-    made = shlex.join({"OLD": old, "NEW": new}.get(word, word) for word in words)
+    made = shlex.join({"OLD": old, "NEW": new}.get(word, word) for word in command)
     raise Fault(
         Code.FORM_TO_CONVERT, InText(name), package=package, made=made, new=shlex.quote(new)
     )

@@ -133,16 +133,16 @@ class NetworkKind(NamedTuple):
     more: str = ""
     least: int = 1
 
-    def make(self, *words: float, **named: float | bool | None) -> Network:
+    def make(self, *counts: float, **named: float | bool | None) -> Network:
         """A network of the kind; what would be none is refused before anything is made."""
-        chosen = inspect.signature(self.function).bind(*words, **named).arguments
+        chosen = inspect.signature(self.function).bind(*counts, **named).arguments
         sizes = {name: chosen[name] for name in self.sizes if name != "edges"}
         for name, size in sizes.items():
             if size < self.least:
                 raise Fault(Code.SIZE_BELOW_LEAST, name=name.upper(), size=size, least=self.least)
         if prod(sizes.values()) > MAX_NODES:
             raise Fault(Code.NODES_OF_KIND_ABOVE_LIMIT, nodes=prod(sizes.values()), most=MAX_NODES)
-        return self.function(*words, **named)
+        return self.function(*counts, **named)
 
     @property
     def chosen(self) -> list[str]:

@@ -128,13 +128,13 @@ def file_listed(given: Namespace, name: str) -> Listed:
 
 def was_told(given: Namespace) -> str:
     """What is said of a network, or of a code if there is no file of that name."""
-    words = " ".join(given.file)
-    if path_of(words) is None and (found := code_of(words)):
+    text = " ".join(given.file)
+    if path_of(text) is None and (found := code_of(text)):
         return as_text(tell_code(found))
     if len(given.file) > 1:
         given.refuse("one FILE, or a code and where it is, as `C8 vertex 1`")
-    data = network_bytes(words)
-    path = one_line(words)
+    data = network_bytes(text)
+    path = one_line(text)
     reading = reading_of(data.decode("utf-8", "replace"), path)
     network = reading.network()
     for what in warnings(reading):

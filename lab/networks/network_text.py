@@ -102,13 +102,13 @@ class Reading:
 
     def numbers(self, fields: list[str]) -> tuple[int, int]:
         """The two numbers of a line; a vertex that isn't there is named with the digits that the text has."""
-        words, count, what, code = LINES[fields[0]]
+        form, count, what, code = LINES[fields[0]]
         if self.nodes is None:
             raise self.fault(code, what=what)
         pair = two_numbers(fields[1:3])
         if pair is None:
             raise self.fault(
-                Code.NO_SUCH_LINE, word=fields[0], form=words, row=shown(" ".join(fields))
+                Code.NO_SUCH_LINE, word=fields[0], form=form, row=shown(" ".join(fields))
             )
         for field, v in zip(fields[1 : 1 + count], pair):
             if not 1 <= v <= self.nodes:

@@ -10,10 +10,10 @@ from lab.networks.table import TITLES
 from lab.wording import as_text
 
 
-def titles_of(words: str) -> list[tuple[str, str]]:
+def titles_of(text: str) -> list[tuple[str, str]]:
     """`source=Von,target=Nach` as pairs; a title with a comma is in quotes, as a field of a table."""
     try:
-        pairs = [word.partition("=") for word in next(csv.reader([words], strict=True))]
+        pairs = [word.partition("=") for word in next(csv.reader([text], strict=True))]
     except csv.Error as why:
         raise argparse.ArgumentTypeError(f"{why}") from None
     if not all(column in TITLES and title for column, _, title in pairs):

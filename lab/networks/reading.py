@@ -102,9 +102,9 @@ def numbered(names: list[str]) -> tuple[list[str], str]:
     """The names by their numbers, which are those that the names are, if these count from 1 or from 0."""
     numbers = {whole(name) for name in names}
     by = {1: "numbers as in the text", 0: "it counts from 0, so each number is one more"}
-    for least, words in by.items():
+    for least, note in by.items():
         if len(numbers) == len(names) and numbers == set(range(least, len(names) + least)):
-            return sorted(names, key=int), words
+            return sorted(names, key=int), note
     return names, "numbers by the order in which they come"
 
 

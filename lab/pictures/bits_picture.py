@@ -80,9 +80,9 @@ def draw_pair(
     place = -1 if is_last else bit_step(own, above) // 2
     length = max(digits(own), digits(above))
     svg.text(20, top + 13, f"pulse {pulse}", 12, INK, bold=True)
-    for row, (words, (node, number)) in enumerate((("node", child), ("parent", parent))):
+    for row, (label, (node, number)) in enumerate((("node", child), ("parent", parent))):
         y = top + row * 26
-        svg.note(LEFT - 8, y + 13, f"{words} {node}", 10.5, "end")
+        svg.note(LEFT - 8, y + 13, f"{label} {node}", 10.5, "end")
         for at in range(length):
             x = LEFT + (most - 1 - at) * cell
             digit, is_ringed = number >> at & 1, at == place

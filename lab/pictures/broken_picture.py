@@ -86,10 +86,10 @@ def draw(network: Network | None, without: tuple[str, ...], program: Program = C
     width, (right, down) = max(picture.width, LEAST_WIDTH), picture.step
     said = [
         f"{line[0].upper()}{line[1:]}.".replace("'", "’")
-        for line in [where, *rounds.words().split("\n")]
+        for line in [where, *rounds.sentence().split("\n")]
     ]
     lines = [
-        line for words in [left_out_words(without), *said] for line in wrapped(words, width - 40)
+        line for text in [left_out_words(without), *said] for line in wrapped(text, width - 40)
     ]
     legend = wrapped(picture.legend, width - 40)
     top = 48 + 16 * len(lines)
@@ -99,12 +99,12 @@ def draw(network: Network | None, without: tuple[str, ...], program: Program = C
         ("W" if network is None else f"{network.name} w") + f"ithout {left_out}: {title(rounds)}",
         *lines,
     )
-    for number, (mark, words, hue) in enumerate(
+    for number, (mark, label, hue) in enumerate(
         (("without", f"without {left_out}", WRONG), ("with", "with all rules", INK))
     ):
-        with svg.group(mark, words):
+        with svg.group(mark, label):
             x, y = number * right, top + number * down
-            svg.text(x + 20, y + 16, words, 12.5, hue, bold=True)
+            svg.text(x + 20, y + 16, label, 12.5, hue, bold=True)
             picture.draw(svg, x, y + OVER, number)
     for number, line in enumerate(legend, 1):
         svg.note(20, bottom + 16 * number, line)
@@ -190,19 +190,19 @@ class OfMerge:
         self.both, self.clash, self.net = both, clash_of(both[0]), both[0].net
         self.panel = Panel(self.net)
         self.forest_of = {e: self.net.number[frozenset(e)] for e in self.net.edges}
-        words = (
+        room = (
             max(text_width(line, 11) for rounds in both for line in self.chooses(rounds)) * 0.95
             + 10
         )
         block = self.panel.height + OVER
-        self.width, self.height, self.step = 40 + 3 * PANEL + words, 2 * block, (0, block)
+        self.width, self.height, self.step = 40 + 3 * PANEL + room, 2 * block, (0, block)
 
     def draw(self, svg: Svg, left: float, top: float, number: int) -> None:
         rounds, f, left = self.both[number], self.clash.forest, left + 20
         parents = {v: parent for v in self.net.vertices if (parent := self.net.parent(f, v))}
         titles = "channels before this merge", f"colours in forest {f}", "channels after this merge"
-        for at, words in enumerate(titles):
-            svg.text(left + (at + 0.5) * PANEL, top - 8, words, 11, INK, "middle", mark="group")
+        for at, label in enumerate(titles):
+            svg.text(left + (at + 0.5) * PANEL, top - 8, label, 11, INK, "middle", mark="group")
         self.panel.channels(svg, left, top, self.forest_of, f - 1, f, rounds.merged[f])
         self.panel.colours(svg, left + PANEL, top, parents, rounds.colours[f][-1])
         self.panel.channels(svg, left + 2 * PANEL, top, self.forest_of, f, f, rounds.merged[f + 1])

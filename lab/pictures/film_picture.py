@@ -95,7 +95,7 @@ class Changing(Vertex):
         super().__init__(network, v)
         self.film = film
         self.channels = channels
-        self.words = f"{v} {short_name(network, v)}".rstrip()
+        self.label = f"{v} {short_name(network, v)}".rstrip()
 
     def draw(self, svg: Svg, x: float, y: float, radius: float, spot: Point) -> None:
         for channel, first, end in intervals(self.channels):
@@ -129,9 +129,9 @@ def draw(rounds: Rounds) -> str:
     title = f"{network.name}: channels, round by round"
     svg, box = begun(network, vertices, title, title, *[""] * (LINES + 1))
     said = [caption(rounds, pulse.number) for pulse in film.pulses]
-    for number, words in enumerate([*said, last_words(scenes[-1])]):
+    for number, text in enumerate([*said, last_words(scenes[-1])]):
         with svg.group(film.shown(number, number + 1)):
-            draw_words(svg, *words)
+            draw_words(svg, *text)
     draw_map(svg, network, vertices, box, EDGE, lambda drawn: draw_messages(svg, film, drawn))
     svg.element("style", film.style_sheet())
     return svg.document()

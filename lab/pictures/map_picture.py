@@ -41,11 +41,11 @@ class Vertex:
         self.title = f"node {v}" + (f", identifier {number}" if number else "")
         self.size = 8.5 if network.nodes > LARGE else 12
         number = number if len(number) <= 12 else number[:5] + "…" + number[-5:]
-        self.words = " ".join(filter(None, [number, short_name(network, v)]))
+        self.label = " ".join(filter(None, [number, short_name(network, v)]))
 
     def room(self) -> float:
         """How wide its words and bars are."""
-        return text_width(self.words, self.size) + (
+        return text_width(self.label, self.size) + (
             GAP + bars_width(self.bars, BAR) if self.bars else 0
         )
 
@@ -65,12 +65,12 @@ class Vertex:
 
     def draw_beside(self, svg: Svg, spot: Point) -> None:
         """Its words, and its barred channels."""
-        left, width = spot[0] - self.room() / 2, text_width(self.words, self.size)
-        if self.words:
+        left, width = spot[0] - self.room() / 2, text_width(self.label, self.size)
+        if self.label:
             svg.text(
                 left + width / 2,
                 spot[1] + 0.37 * self.size,
-                self.words,
+                self.label,
                 self.size,
                 INK,
                 "middle",

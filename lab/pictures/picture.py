@@ -549,7 +549,7 @@ def main(arguments: list[str]) -> int:
     try:
         picture = drawn(given)
     except proved_programs.Refused as why:
-        sys.stderr.write(why.words)
+        sys.stderr.write(why.message)
         return why.status
     write(given, picture)
     return 0

@@ -17,11 +17,11 @@ class Planned(Vertex):
 
     def __init__(self, network: Network, v: int, channel: int) -> None:
         super().__init__(network, v)
-        self.channel, self.words = channel, f"{v} {short_name(network, v)}".rstrip()
+        self.channel, self.label = channel, f"{v} {short_name(network, v)}".rstrip()
         said = f", barred {', '.join(map(str, self.bars))}" if self.bars else ""
-        self.title = f"vertex {self.words}: channel {channel}{said}"
+        self.title = f"vertex {self.label}: channel {channel}{said}"
         if network.nodes > LARGEST_NUMBERED:
-            self.words, self.bars = "", []
+            self.label, self.bars = "", []
 
 
 def draw(network: Network, plan: dict[int, int]) -> str:

@@ -20,8 +20,8 @@ def draw(rounds: ProgramRounds, pulses: tuple[int, int] | None = None) -> str:
         MOST_COLUMNS,
         "fewer pulses (--pulses A..B)",
     )
-    words = [result for pulse in rounds.pulses for result in pulse.results.values()]
-    column = max(88, max(text_width(result, SIZE) for result in words) + 22)
+    results = [result for pulse in rounds.pulses for result in pulse.results.values()]
+    column = max(88, max(text_width(result, SIZE) for result in results) + 22)
     height, undrawn = network.nodes * ROW, rounds.last + 1 - len(shown)
     svg = Svg(
         max(LEFT + len(shown) * column + 24, 760),

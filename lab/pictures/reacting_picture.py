@@ -60,8 +60,8 @@ def draw(name: str, network: Network, program: Reacting, made: list[Entry]) -> s
 
 def draw_arrows(svg: Svg, window: RunWindow, wires: list[Wire]) -> None:
     """An arrow for each message, a hue for each word, and the message on it where there is room."""
-    words = list(dict.fromkeys(wire.kind for wire in wires))
-    hues = {word: CHANNEL_HUES[at % len(CHANNEL_HUES)] for at, word in enumerate(words)}
+    kinds = list(dict.fromkeys(wire.kind for wire in wires))
+    hues = {word: CHANNEL_HUES[at % len(CHANNEL_HUES)] for at, word in enumerate(kinds)}
     used: list[tuple[float, float, float]] = []
     for wire in wires:
         x1, y1, y2 = window.x(wire.put), window.y(wire.v), window.y(wire.w)
@@ -91,7 +91,7 @@ def draw_results(
     collide with the words before it is left out, but not the last of a node."""
     state = program.start(network)
     said: dict[int, list[tuple[float, str]]] = {
-        v: [(window.x(0), words)] for v, words in results_in(state).items()
+        v: [(window.x(0), result)] for v, result in results_in(state).items()
     }
     for entry in made:
         make(state, entry)
@@ -104,7 +104,7 @@ def draw_results(
             said[v].append((x, now))
     for v, changes in said.items():
         free = window.width
-        for x, words in reversed(changes):
-            if x + text_width(words, 9.5) < free or x == changes[-1][0]:
-                svg.note(x + 3, window.y(v) + 15, words, 9.5, halo=2, mark="result")
+        for x, result in reversed(changes):
+            if x + text_width(result, 9.5) < free or x == changes[-1][0]:
+                svg.note(x + 3, window.y(v) + 15, result, 9.5, halo=2, mark="result")
                 free = x

@@ -13,7 +13,7 @@ from lab.pictures.page_data import ReactedLook, ReactionsData, ReactionsTable, R
 from lab.pictures.pages import net_of, page
 from lab.pictures.transcripts import stamp_of
 from lab.pictures.watch_page import MOST_ENTRIES, ORDER
-from lab.transcripts.reading import words
+from lab.transcripts.reading import entry_text
 from lab.wording import counted
 
 
@@ -39,7 +39,7 @@ class Watched:
         """Makes the event of an entry, and writes its row."""
         make(self.state, entry)
         look = reacted_look(self.state.nodes[entry.node])
-        said = words(entry).split(" ", 2)[2]
+        said = entry_text(entry).split(" ", 2)[2]
         number = self.looks.setdefault(look, len(self.looks))
         self.rows.append(Row(stamp_of(entry), entry.node, number, self.text(said)))
 

@@ -43,7 +43,7 @@ class Found(Vertex):
         elif self.has_channel or is_shown and (self.colour, self.other) != (None, None):
             said = ""
         number = str(v) if self.has_channel else ""
-        self.words = " ".join(filter(None, [number, short_name(rounds.network, v), said]))
+        self.label = " ".join(filter(None, [number, short_name(rounds.network, v), said]))
 
     def channel_before(self) -> int | None:
         """Its channel before it chose another one, if it did."""

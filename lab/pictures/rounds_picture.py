@@ -119,12 +119,12 @@ def legend(svg: Svg, y: float, has_bars: object) -> None:
 
 def draw_heads(svg: Svg, left: float, y: float, column: int, last: int) -> None:
     """What is done in the pulses 2 to `last`, each over its column, and their numbers."""
-    for first, end, words in GROUPS:
+    for first, end, label in GROUPS:
         end = min(end, last)
         if first <= end:
             x1, x2 = left + (first - 2) * column + 2, left + (end - 1) * column - 2
-            words, size = (words, 10) if end > first else (words.removesuffix("s"), 7.5)
-            svg.text((x1 + x2) / 2, y, words, size, INK, "middle", mark="group")
+            label, size = (label, 10) if end > first else (label.removesuffix("s"), 7.5)
+            svg.text((x1 + x2) / 2, y, label, size, INK, "middle", mark="group")
             svg.line(x1, y + 5, x2, y + 5, "#9A9A9A", 1)
     for pulse in range(2, last + 1):
         svg.note(left + (pulse - 1.5) * column, y + 18, pulse, 9, "middle")
@@ -212,11 +212,11 @@ class Strip:
     def merge(self, is_full: bool) -> None:
         """Right: who chooses at which step, with a pale line of the channel that each node has before and after."""
         svg, top = self.svg, self.top
-        words = f"merge of forest {self.forest}"
-        svg.text(MERGES, top + 20, words, 13.5, INK, bold=True)
+        label = f"merge of forest {self.forest}"
+        svg.text(MERGES, top + 20, label, 13.5, INK, bold=True)
         if not is_full:
             svg.note(
-                MERGES + text_width(words, 13.5) + 22,
+                MERGES + text_width(label, 13.5) + 22,
                 top + 20,
                 "(steps at which some node chooses)",
                 10,

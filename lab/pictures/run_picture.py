@@ -238,15 +238,15 @@ def draw_bars(svg: Svg, window: Window, kinds: tuple[str, ...]) -> None:
 
 def draw_wires(svg: Svg, window: Window, kinds: tuple[str, ...]) -> None:
     """One arrow for each wire that is taken, with its words under the mouse; of few nodes a payload's words, too."""
-    words = []
+    labels = []
     for wire in window.arrows(kinds):
         x1, y1 = window.x(wire.put), window.y(wire.v)
         x2, y2 = window.x(wire.taken()), window.y(wire.w)
         if wire.kind == "payload" and len(window.nodes) <= 3 and x1 > window.left:
-            words.append((x1, y1, x2 - x1, y2 - y1, " ".join(map(str, wire.message.fields[1:]))))
+            labels.append((x1, y1, x2 - x1, y2 - y1, " ".join(map(str, wire.message.fields[1:]))))
         with svg.group(wire.kind, wire.title()):
             wire_arrow(svg, x1, y1, x2, y2, wire.kind)
-    write_words(svg, window, words)
+    write_words(svg, window, labels)
 
 
 def write_words(

@@ -275,8 +275,8 @@ class Lattice:
                 svg.label(x, y + self.radius * 0.42, "×", round(1.5 * self.radius, 1), PAPER)
             return
         is_wrong, is_bold = self.is_wrong(s), s in self.passed
-        words = [node_words(v, node) for v, node in self.space.nodes(s).items()]
-        with svg.group("state wrong" if is_wrong else "state", ", ".join(words)):
+        texts = [node_words(v, node) for v, node in self.space.nodes(s).items()]
+        with svg.group("state wrong" if is_wrong else "state", ", ".join(texts)):
             hue = WRONG if is_wrong else APART[self.apart(s)]
             width = 1.8 if is_bold else 0.8
             border = INK if is_bold else BORDER
@@ -300,7 +300,7 @@ class Lattice:
             svg.note(x + 27, y, name)
             x += 27 + text_width(name, 11.5) + 14
         meant = ["all at one pulse", "neighbours a pulse apart", "two", "more"]
-        for fill, words in list(zip(APART, meant))[: max(2, self.most_apart + 1)]:
+        for fill, label in list(zip(APART, meant))[: max(2, self.most_apart + 1)]:
             svg.circle(x + 6, y - 4, 6, fill, BORDER, 0.8)
-            svg.note(x + 18, y, words)
-            x += 24 + text_width(words, 11.5) * 0.95
+            svg.note(x + 18, y, label)
+            x += 24 + text_width(label, 11.5) * 0.95

@@ -33,9 +33,9 @@ def fault_words(space: AlphaSpace, key: Place | None = None) -> str:
     return quoted(space.faults[key or space.first_fault()])
 
 
-def quoted(words: str) -> str:
+def quoted(text: str) -> str:
     """Words with a picture's quotes in place of a terminal's."""
-    return re.sub("`([^`]*)`", "‘\\1’", words)
+    return re.sub("`([^`]*)`", "‘\\1’", text)
 
 
 def left_out_words(without: tuple[str, ...]) -> str:

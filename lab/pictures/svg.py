@@ -78,12 +78,12 @@ class Svg:
 
     def element(self, name: str, text: Attribute = None, **attributes: Attribute) -> None:
         """Adds an element; `mark` is its class, by which tests count it, and `_` in a name means `-`."""
-        words = [name]
+        parts = [name]
         for key, value in attributes.items():
             if value is not None:
                 key = "class" if key == "mark" else key.replace("_", "-")
-                words.append(f'{key}="{quoted(written(value))}"')
-        head = " ".join(words)
+                parts.append(f'{key}="{quoted(written(value))}"')
+        head = " ".join(parts)
         self.parts.append(f"<{head}/>" if text is None else f"<{head}>{escaped(text)}</{name}>")
 
     @contextmanager
@@ -91,12 +91,12 @@ class Svg:
         self, mark: str, title: str | None = None, **attributes: str | float
     ) -> Iterator[None]:
         """Elements that are one mark; a browser shows the title under the mouse."""
-        words = "".join(
+        more = "".join(
             f' {key.replace("_", "-")}="{quoted(written(value))}"'
             for key, value in attributes.items()
         )
         self.parts.append(
-            f'<g class="{mark}"{words}>' + (f"<title>{escaped(title)}</title>" if title else "")
+            f'<g class="{mark}"{more}>' + (f"<title>{escaped(title)}</title>" if title else "")
         )
         yield
         self.parts.append("</g>")

@@ -20,7 +20,7 @@ from lab.network import Edge, Network
 from lab.pictures.page_data import Look, Row, RunTable, WatchData, WireRow
 from lab.pictures.pages import net_of, page
 from lab.pictures.transcripts import ordered, stamp_of, window_of
-from lab.transcripts.reading import words
+from lab.transcripts.reading import entry_text
 
 MOST_ENTRIES = 20_000
 ORDER = (
@@ -200,7 +200,7 @@ class Run:
             return texts.setdefault(said, len(texts))
 
         def row(entry: Entry, look: Look) -> Row:
-            said = words(entry).split(" ", 2)[2]
+            said = entry_text(entry).split(" ", 2)[2]
             return Row(stamp_of(entry), entry.node, looks.setdefault(look, len(looks)), text(said))
 
         rows = [row(entry, look) for entry, _, look in self.moments]

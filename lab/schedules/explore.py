@@ -97,16 +97,16 @@ standard error says why), 2 the command line is refused.
 
 
 def rules_of(text: str) -> list[str]:
-    words = text.split(",")
-    for word in words:
+    names = text.split(",")
+    for word in names:
         if word not in ALL:
             raise argparse.ArgumentTypeError(f"`{word}` is no rule: use some of {','.join(ALL)}")
-    if not set(words) <= set(OF_SCHEDULES) and not program_of(words):
+    if not set(names) <= set(OF_SCHEDULES) and not program_of(names):
         raise argparse.ArgumentTypeError(
             "rules of the synchroniser, and of the rounds of a program, can't be left out "
             "together with others"
         )
-    return list(dict.fromkeys(words))
+    return list(dict.fromkeys(names))
 
 
 def command_line() -> ArgumentParser:
@@ -226,8 +226,8 @@ def rounds_found(given: Namespace) -> Found:
     """What the rounds of the network do without the rules, or a smallest network on which they go wrong."""
     net = None if given.network is None else network_at(given.network)
     rounds, said = looked_at(net, given.without, program_asked("explore", given, net))
-    words = f"{said}\n{rounds.words()}\n" if rounds else f"{said}\n"
-    return Found(rounds is not None, words + refused_words(given.without))
+    text = f"{said}\n{rounds.sentence()}\n" if rounds else f"{said}\n"
+    return Found(rounds is not None, text + refused_words(given.without))
 
 
 def refused_words(without: Collection[str]) -> str:
@@ -243,8 +243,8 @@ def networks_found(given: Namespace) -> Found:
     program = program_asked("explore", given)
     if not has_verdict(program):
         raise Fault(Code.NO_FUNCTION_RIGHT, program=given.program)
-    is_right, words = verdict_on_many(program, given.networks, given.seed, given.connected)
-    return Found(not is_right, words)
+    is_right, text = verdict_on_many(program, given.networks, given.seed, given.connected)
+    return Found(not is_right, text)
 
 
 def found_as_json(found: Found) -> str:
@@ -290,8 +290,8 @@ def found_by_rounds(given: Namespace, net: Network, program: Program) -> Found |
     is_large = net.nodes > MOST_NODES
     if not is_large and not wrong_end(net, program):
         return None
-    is_right, words = verdict_of(net, program)
-    return Found(not is_right, words + (ROUNDS_ALONE if is_large else ""))
+    is_right, text = verdict_of(net, program)
+    return Found(not is_right, text + (ROUNDS_ALONE if is_large else ""))
 
 
 def reacting_found(given: Namespace, net: Network, program: Reacting) -> Found:

@@ -35,7 +35,7 @@ def rounds_text(net: Network, program: Program) -> str:
             if any(said):
                 lines.append(f"  {node_name(net, v)} {'; '.join(filter(None, said))}")
     lines.append("the end")
-    lines += [f"  {node_name(net, v)} has {words}" for v, words in found.items()]
+    lines += [f"  {node_name(net, v)} has {result}" for v, result in found.items()]
     return as_text(lines)
 
 
@@ -127,7 +127,7 @@ def verdict_of(net: Network, program: Program) -> tuple[bool, str]:
     pulses = counted(program.last_pulse(net), "pulse")
     if why := wrong_end(net, program):
         return False, f"not right after {pulses} of {net.name}: {why}\n{rounds_text(net, program)}"
-    found = ", ".join(f"{v} {words}" for v, words in results_of(net, program).items())
+    found = ", ".join(f"{v} {result}" for v, result in results_of(net, program).items())
     return True, f"right after {pulses} of {net.name}: {found}\n"
 
 

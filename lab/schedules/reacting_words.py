@@ -63,7 +63,7 @@ def ends_words(found: Counter[tuple[str, ...]]) -> Iterator[str]:
         return
     yield "one end:" if len(found) == 1 else f"{len(found):,} ends:"
     for results, _ in found.most_common(MOST_ENDS):
-        yield f"  {', '.join(f'{v} {words}' for v, words in enumerate(results, 1))}"
+        yield f"  {', '.join(f'{v} {result}' for v, result in enumerate(results, 1))}"
     if len(found) > MOST_ENDS:
         yield f"  and {len(found) - MOST_ENDS:,} more"
 
@@ -91,7 +91,7 @@ def lines_of_list(net: Network, program: Reacting, listed: list[Event]) -> Itera
     """The events with the messages that they put or take, and what the node has found if that is something else."""
     state = program.start(net)
     has = results_in(state)
-    yield f"  at first {', '.join(f'{v} {words}' for v, words in has.items())}"
+    yield f"  at first {', '.join(f'{v} {result}' for v, result in has.items())}"
     for event in listed:
         v = event.node
         try:

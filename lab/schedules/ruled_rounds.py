@@ -126,7 +126,7 @@ class RuledRounds:
             if self.net.number[frozenset((v, w))] <= f and self.merged[-1][v] == self.merged[-1][w]:
                 yield Clash(None, f, v, w, self.merged[-1][v])
 
-    def words(self) -> str:
+    def sentence(self) -> str:
         """What goes wrong, in a sentence or two; nothing if nothing does."""
         clash = self.clash
         if clash is None:
@@ -156,7 +156,7 @@ class WrongResult(NamedTuple):
     """What isn't right at one node, or at two that are neighbours."""
 
     nodes: tuple[int, ...]
-    words: str
+    sentence: str
 
 
 class RuledMatching(Matching):
@@ -287,11 +287,11 @@ class RuledSequel:
     def clash(self) -> WrongResult | None:
         return self.faults[0] if self.faults else None
 
-    def words(self) -> str:
+    def sentence(self) -> str:
         """What goes wrong, in a sentence; nothing if nothing does."""
         if self.clash is None:
             return ""
-        return f"after pulse {self.program.last_pulse(self.net)} {self.clash.words}"
+        return f"after pulse {self.program.last_pulse(self.net)} {self.clash.sentence}"
 
 
 def ruled(program: Program, net: Network, without: Collection[str]) -> RuledRounds | RuledSequel:

@@ -143,18 +143,18 @@ OF_ANY_ROUNDS = {word: rule for of in OF_PROGRAMS.values() for word, rule in of.
 ALL = OF_SCHEDULES | OF_ANY_ROUNDS
 
 
-def program_of(words: Collection[str]) -> str | None:
+def program_of(names: Collection[str]) -> str | None:
     """The program whose rounds have all these rules, or None.
 
     >>> program_of(["shift"]), program_of(["shift", "no such rule"])
     ('colouring', None)
     """
-    return next((name for name, of in OF_PROGRAMS.items() if set(words) <= set(of)), None)
+    return next((name for name, of in OF_PROGRAMS.items() if set(names) <= set(of)), None)
 
 
-def unknown_to(program: str, words: Collection[str]) -> str | None:
+def unknown_to(program: str, names: Collection[str]) -> str | None:
     """Why the rounds of a program can't be played without these rules, or None if they can."""
-    of = program_of(words)
+    of = program_of(names)
     if of is None:
         return "rules of two programs can't be left out together"
     return (

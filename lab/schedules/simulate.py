@@ -235,17 +235,17 @@ def events_of(
     is the kind of the nodes' own steps."""
     for line, raw in enumerate(text.split("\n"), 1):
         event, _, note = raw.partition(":")
-        words = event.split()
-        if not words or words[0].startswith("c"):
+        fields = event.split()
+        if not fields or fields[0].startswith("c"):
             continue
         if (
-            words[0] == "take"
-            and len(words) == 4
+            fields[0] == "take"
+            and len(fields) == 4
             and not overtakes
             or note.endswith(", out of turn")
         ):
             raise Fault(Code.OVERTAKES, InText(name, line), event=shown(raw.strip()))
-        found = EVENT.fullmatch(" ".join(words))
+        found = EVENT.fullmatch(" ".join(fields))
         if found is None or found[1] not in (None, own.value):
             raise Fault(Code.NO_EVENT, InText(name, line), event=shown(raw.strip()))
         step, node, kind, v, port, place = found.groups()

@@ -280,10 +280,10 @@ class Space(Generic[AnySearched]):
         self.first.append(len(self.target))
         if not possible:
             self.ends.append(s)
-            if words := self.fault_of_end(s):
-                self.faults[s, None] = words
-        if self.file is not None and (words := self.wrong_words(state, not possible)):
-            self.faults[s, None] = words
+            if sentence := self.fault_of_end(s):
+                self.faults[s, None] = sentence
+        if self.file is not None and (sentence := self.wrong_words(state, not possible)):
+            self.faults[s, None] = sentence
             self.broken.add(s)
 
     def fault_of_end(self, s: int) -> str:
@@ -297,10 +297,10 @@ class Space(Generic[AnySearched]):
         key = found, messages, is_end
         if key not in self.verdicts:
             results = dict(zip(self.vertices, found))
-            words = what_is_wrong(self.net, self.file, results, "always", messages)
-            if is_end and not words:
-                words = what_is_wrong(self.net, self.file, results)
-            self.verdicts[key] = words
+            sentence = what_is_wrong(self.net, self.file, results, "always", messages)
+            if is_end and not sentence:
+                sentence = what_is_wrong(self.net, self.file, results)
+            self.verdicts[key] = sentence
         return self.verdicts[key]
 
     def under_way(self, state: State) -> list[UnderWay]:

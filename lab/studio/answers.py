@@ -253,7 +253,7 @@ class BadPlan:
     said: str
     at: Sequence[int]
     code: str
-    words: str
+    sentence: str
     do: str
     ok: Literal[False] = False
 
@@ -273,7 +273,7 @@ class Broken:
     """What goes wrong without some rules: `here`, or in the network that was found."""
 
     here: bool
-    words: Sequence[str]
+    lines: Sequence[str]
     found: Net | None
     picture: str | None
 

@@ -63,7 +63,7 @@ def proper(call: ExerciseCall, session: Session, tell: Tell) -> ExerciseJudged:
     if verdict.ok:
         return ExerciseJudged(True, proper_words(len(set(call.plan))))
     left = network_asked(call).nodes - sum(map(bool, call.plan))
-    return ExerciseJudged(False, blank_words(left) if left else verdict.words)
+    return ExerciseJudged(False, blank_words(left) if left else verdict.sentence)
 
 
 def proper_words(used: int) -> str:
@@ -215,7 +215,7 @@ class HasResults:
     def __call__(self, call: ExerciseCall, session: Session, _tell: Tell) -> ExerciseJudged:
         player = reactions_played(call, session)
         results = player.results
-        lacking = [v for v, words in self.wanted.items() if results.get(v) != words]
+        lacking = [v for v, result in self.wanted.items() if results.get(v) != result]
         if lacking:
             v = lacking[0]
             said = has_words(v, results[v]) if v in results else f"there is no node {v}"
@@ -225,7 +225,7 @@ class HasResults:
         return ExerciseJudged(True, self.done_words(counted(len(player.chosen), "step")))
 
     def done_words(self, steps: str) -> str:
-        has = in_words([has_words(v, words) for v, words in self.wanted.items()])
+        has = in_words([has_words(v, result) for v, result in self.wanted.items()])
         return f"{has}, after {steps}"
 
 

@@ -168,7 +168,7 @@ def file_read(call: ReadCall, session: Session, _tell: Tell) -> FileRead | FileU
         net = shown(network)
         return FileRead(net.name, net.nodes, net.edges, net.bends, said)
     except Unsaid as why:
-        choices = [Choice(words, means) for words, means in why.choices]
+        choices = [Choice(command, means) for command, means in why.choices]
         return FileUnsaid(str(why), choices, why.wanted, why.titles)
 
 

@@ -76,7 +76,7 @@ def end_judged(
 
 
 def other_judged(results: dict[int, str], usual: dict[int, str], count: str) -> DareJudged:
-    differs = [v for v, words in results.items() if words != usual[v]]
+    differs = [v for v, result in results.items() if result != usual[v]]
     if not differs:
         return DareJudged(False, "the results are the same as in that order")
     v = differs[0]

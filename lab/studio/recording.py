@@ -594,8 +594,8 @@ def one_node(found: LocalReactions, v: int, looks: dict[str, tuple[int, Reacted]
     numbers = {key: k for k, key in enumerate(keys)}
     rows = []
     for one in states:
-        words = json.dumps(one.look, default=as_object)
-        look, _ = looks.setdefault(words, (len(looks), one.look))
+        text = json.dumps(one.look, default=as_object)
+        look, _ = looks.setdefault(text, (len(looks), one.look))
         own = one.rows.get(OWN_STEP)
         takes = {numbers[key]: row_of(row) for key, row in one.rows.items() if key != OWN_STEP}
         rows.append(OneState(look, 0, row_of(own) if own else None, takes, ()))

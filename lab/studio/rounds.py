@@ -79,14 +79,14 @@ def of_verdict(verdict: Verdict) -> GoodPlan | BadPlan:
         said=verdict.short,
         code=found.name,
         at=verdict.vertices,
-        words=of_nodes(found.what),
+        sentence=of_nodes(found.what),
         do=of_nodes(found.do),
     )
 
 
-def of_nodes(words: str) -> str:
+def of_nodes(text: str) -> str:
     """In the page's words: a vertex is a node."""
-    return words.replace("vertices", "nodes").replace("vertex", "node")
+    return text.replace("vertices", "nodes").replace("vertex", "node")
 
 
 def rounds_asked(call: OfProgram, session: Session) -> ProgramRounds | Rounds:
@@ -129,14 +129,14 @@ def broken(call: BrokenCall, session: Session, _tell: Tell) -> Broken:
     here = ruled(program, network, without)
     if here.clash is not None:
         picture_here = broken_picture.draw(network, without, program)
-        return Broken(True, here.words().split("\n"), None, picture_here)
-    words = "the rounds of this network go right without it"
+        return Broken(True, here.sentence().split("\n"), None, picture_here)
+    sentence = "the rounds of this network go right without it"
     least, tried, what, most = smallest_wrong(without, program)
     if least is None:
-        words += f", and so do those of all {tried:,} {what} of up to {most} nodes"
-        return Broken(False, words.split("\n"), None, None)
+        sentence += f", and so do those of all {tried:,} {what} of up to {most} nodes"
+        return Broken(False, sentence.split("\n"), None, None)
     smallest = broken_picture.draw(None, without, program)
-    return Broken(False, words.split("\n"), net_of(least.net), smallest)
+    return Broken(False, sentence.split("\n"), net_of(least.net), smallest)
 
 
 def picture(call: PictureCall, session: Session, _tell: Tell) -> str:

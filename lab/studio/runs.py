@@ -114,12 +114,12 @@ def by_threads(call: RunCall, program: Program, session: Session) -> str:
     if not session.is_proved:
         raise Fault(Code.NO_THREADS)
     name = "forestplan" if program == COLOURING else "forestplay"
-    words = (
+    arguments = (
         ["transcript"] if program == COLOURING else ["run", "--transcript", *program_words(program)]
     )
     workers = processors.workers(call.workers)
     return text_from(
-        name, [*words, f"--workers={workers}", f"--capacity={call.capacity}"], call.network
+        name, [*arguments, f"--workers={workers}", f"--capacity={call.capacity}"], call.network
     )
 
 

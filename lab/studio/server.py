@@ -149,8 +149,8 @@ class Answer:
         self.handler, self.lock, self.told = handler, threading.Lock(), 0.0
 
     def line(self, **what: object) -> None:
-        words = json.dumps(what, separators=(",", ":"), ensure_ascii=False, default=as_object)
-        text = words.encode(errors="replace") + b"\n"
+        as_json = json.dumps(what, separators=(",", ":"), ensure_ascii=False, default=as_object)
+        text = as_json.encode(errors="replace") + b"\n"
         with self.lock:
             self.handler.wfile.write(text)
 

@@ -70,15 +70,15 @@ def first_line_of_reactions(nodes: int, program: str) -> str:
 
 def bound_of(program: str, word: bytes) -> int:
     """The bound of a payload's number."""
-    words = PAYLOADS.get(program, {})
-    if word in words or is_small_word(word) and not words:
-        return words.get(word, 2**128)
+    bounds = PAYLOADS.get(program, {})
+    if word in bounds or is_small_word(word) and not bounds:
+        return bounds.get(word, 2**128)
     others = " or ".join(name for name, has in PAYLOADS.items() if word in has)
     raise NoEntry(
         Code.NO_PAYLOAD_OF,
         word=field_words(word),
         program=program,
-        has=b", ".join(words).decode(),
+        has=b", ".join(bounds).decode(),
         others=others,
     )
 

@@ -50,7 +50,7 @@ class WrongEntry(Fault):
         self.line = line
         self.word = WORDS[code]
 
-    def words(self) -> str:
+    def sentence(self) -> str:
         """What is wrong, without its line and its word."""
         return sentence_of(self.code, "", self.subject)
 
@@ -156,10 +156,10 @@ def line_of(entry: Entry) -> str:
     return f"{entry.node} {entry.kind.value} {entry.neighbour} {entry.what}"
 
 
-def words(entry: Entry) -> str:
+def entry_text(entry: Entry) -> str:
     """An entry in words.
 
-    >>> words(Entry(line=2, node=1, kind=PULSE, neighbour=None, what=3))
+    >>> entry_text(Entry(line=2, node=1, kind=PULSE, neighbour=None, what=3))
     'node 1 makes pulse 3'
     """
     if entry.neighbour is None:

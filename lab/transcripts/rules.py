@@ -88,9 +88,9 @@ def rules_of_dues(at: Standing) -> str:
     return "; ".join(dict.fromkeys(rules))
 
 
-def rule_of(at: Standing, words: str, says_lacks: bool = True) -> str:
+def rule_of(at: Standing, entry: str, says_lacks: bool = True) -> str:
     """The rule that an entry breaks: `pulse P`, or `put LINK WIRE`; and what a pulse lacks, if that wasn't said yet."""
-    what, first, *wire = words.split()
+    what, first, *wire = entry.split()
     if what != "pulse":
         return rule_of_put(at, int(first), wire)
     if at.can_pulse:
@@ -145,6 +145,8 @@ def rule_of_safe(at: Standing, link: int, wire: list[str]) -> str:
 
 def stuck_words(owing: list[tuple[int, Standing]]) -> str:
     """Of a run in which no wire is on its way: who could do something, and doesn't."""
-    words = [f"node {v} at pulse {at.pulse} doesn't {at.undone()}" for v, at in owing if at.dues()]
-    more = "; .." if len(words) > MOST_OWING else ""
-    return "nothing is on its way, and not all is done: " + "; ".join(words[:MOST_OWING]) + more
+    sentences = [
+        f"node {v} at pulse {at.pulse} doesn't {at.undone()}" for v, at in owing if at.dues()
+    ]
+    more = "; .." if len(sentences) > MOST_OWING else ""
+    return "nothing is on its way, and not all is done: " + "; ".join(sentences[:MOST_OWING]) + more

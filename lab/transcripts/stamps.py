@@ -6,7 +6,7 @@ from lab.definitions.events import PULSE, PUT, TAKE, Entry, Kind
 from lab.definitions.machine import NetState, Node, event_of, missing_words
 from lab.definitions.nodes import AlphaNode, lacks_of
 from lab.fault_codes import Code
-from lab.transcripts.reading import Head, WrongEntry, words
+from lab.transcripts.reading import Head, WrongEntry, entry_text
 from lab.transcripts.rules import Standing, rule_of, stuck_words
 
 
@@ -70,21 +70,21 @@ def refusal(
     if code is Code.WRONG_STAMP:
         due = clock.counters[entry.node]
         code = Code.OUT_OF_ORDER if entry.stamp == due else code
-        return WrongEntry(entry.line, code, entry=words(entry), stamp=entry.stamp, due=due)
+        return WrongEntry(entry.line, code, entry=entry_text(entry), stamp=entry.stamp, due=due)
     if code is Code.NO_SUCH:
-        return WrongEntry(entry.line, code, entry=words(entry))
+        return WrongEntry(entry.line, code, entry=entry_text(entry))
     at = standing(state, entry.node)
     due_wire = state.carried(event_of(state, entry)) if code is Code.WRONG_WIRE else None
     if at:
         rule = rule_broken(at, entry) if code in OF_RULES else ""
         lacks = at.lacks
         return WrongEntry(
-            entry.line, code, entry=words(entry), lacks=lacks, due=due_wire, rule=rule
+            entry.line, code, entry=entry_text(entry), lacks=lacks, due=due_wire, rule=rule
         )
     if code is Code.NOT_READY:
         lacks = missing_words(state, event_of(state, entry))
-        return WrongEntry(entry.line, Code.STEP_NOT_READY, entry=words(entry), lacks=lacks)
-    return WrongEntry(entry.line, code, entry=words(entry), lacks="", due=due_wire, rule="")
+        return WrongEntry(entry.line, Code.STEP_NOT_READY, entry=entry_text(entry), lacks=lacks)
+    return WrongEntry(entry.line, code, entry=entry_text(entry), lacks="", due=due_wire, rule="")
 
 
 def rule_broken(at: Standing, entry: Entry) -> str:
@@ -104,8 +104,8 @@ def why_link_empty(entry: Entry, entries: list[Entry]) -> WrongEntry:
     puts = [e for e in entries if e.kind is PUT and (e.node, e.neighbour) == link][taken:]
     put = next((e for e in puts if e.what == entry.what), None)
     if put:
-        return WrongEntry(entry.line, Code.PUT_LATER, entry=words(entry), put=put.line)
-    never = {"entry": words(entry), "neighbour": entry.neighbour}
+        return WrongEntry(entry.line, Code.PUT_LATER, entry=entry_text(entry), put=put.line)
+    never = {"entry": entry_text(entry), "neighbour": entry.neighbour}
     return WrongEntry(entry.line, Code.LINK_EMPTY, **never)
 
 

@@ -204,12 +204,17 @@ def main(arguments: list[str]) -> int:
         )
     except WrongEntry as wrong:
         if getattr(given, "json", False):
-            found = {"right": False, "line": wrong.line, "code": wrong.word, "words": wrong.words()}
+            found = {
+                "right": False,
+                "line": wrong.line,
+                "code": wrong.word,
+                "words": wrong.sentence(),
+            }
             write(given, json.dumps(found) + "\n")
         else:
             print(wrong, file=sys.stderr)
         return 1
     except proved_programs.Refused as why:
-        sys.stderr.write(why.words)
+        sys.stderr.write(why.message)
         return why.status
     return 0

@@ -23,7 +23,7 @@ class Entry(NamedTuple):
 
     stamp: int
     vertex: int
-    words: str
+    text: str
 
 
 class Link(Step):
@@ -36,9 +36,9 @@ class Link(Step):
 
     def renew(self) -> None:
         """Says of the step what the link holds now."""
-        words, _, self.since = self.wires[0]
+        text, _, self.since = self.wires[0]
         _, _, self.latest = self.wires[-1]
-        self.wire = words.split()[0]
+        self.wire = text.split()[0]
 
 
 class AlphaRun:
@@ -71,13 +71,13 @@ class AlphaRun:
         while self.links and len(self.entries) <= self.rounds.events:
             w, v = self.policy.choose(list(self.links.values())).link
             link = self.links[w, v]
-            words, stamp, _ = link.wires.popleft()
+            text, stamp, _ = link.wires.popleft()
             if link.wires:
                 link.renew()
             else:
                 del self.links[w, v]
-            self.write(v, f"take {w} {words}", stamp)
-            line = f"take {self.rounds.ports[v][w]} {words}"
+            self.write(v, f"take {w} {text}", stamp)
+            line = f"take {self.rounds.ports[v][w]} {text}"
             if not self.is_answered(nodes, v, [line], f"`{line}`"):
                 return
         nodes.stop(PATIENCE)
@@ -100,11 +100,11 @@ class AlphaRun:
                 self.write(v, f"pulse {pulse}")
             case "put", port, wire:
                 w = neighbours[int(port)]
-                words = wire_of(line, wire, program)
-                self.write(v, f"put {w} {words}")
+                text = wire_of(line, wire, program)
+                self.write(v, f"put {w} {text}")
                 self.count += 1
                 link = self.links.setdefault((v, w), Link(v, w))
-                link.wires.append((words, self.counters[v], self.count))
+                link.wires.append((text, self.counters[v], self.count))
                 link.renew()
             case result:
                 self.hear_result(v, line)
@@ -113,15 +113,15 @@ class AlphaRun:
     def hear_result(self, v: int, line: str) -> None:
         """Refuses what isn't the one result of a node that has made its last pulse."""
         if v in self.results:
-            words = f"it has said `{self.results[v]}` before, and a result is final"
-            raise NoAnswer("garbage", f"{shown(line)}: {words}")
+            sentence = f"it has said `{self.results[v]}` before, and a result is final"
+            raise NoAnswer("garbage", f"{shown(line)}: {sentence}")
         if self.pulses[v] != self.rounds.last:
-            words = f"a node says that once it has made its last pulse, {self.rounds.last}"
-            raise NoAnswer("garbage", f"{shown(line)} at pulse {self.pulses[v]}: {words}")
+            sentence = f"a node says that once it has made its last pulse, {self.rounds.last}"
+            raise NoAnswer("garbage", f"{shown(line)} at pulse {self.pulses[v]}: {sentence}")
 
-    def write(self, v: int, words: str, after: int = 0) -> None:
+    def write(self, v: int, text: str, after: int = 0) -> None:
         self.counters[v] = 1 + max(self.counters[v], after)
-        self.entries.append(Entry(self.counters[v], v, words))
+        self.entries.append(Entry(self.counters[v], v, text))
 
     def in_order(self) -> list[Entry]:
         """The entries in the order of a transcript: by stamp, and then by vertex."""
@@ -129,9 +129,9 @@ class AlphaRun:
 
     def text(self) -> str:
         head = first_line(self.network.nodes, self.rounds.program)
-        return as_text([head, *(f"{stamp} {v} {words}" for stamp, v, words in self.in_order())])
+        return as_text([head, *(f"{stamp} {v} {text}" for stamp, v, text in self.in_order())])
 
     def verdict(self) -> Verdict:
         """What the judge says of it."""
-        words = words_of(self.rounds.program)
-        return verdict_on_run(plain_text(self.network), self.text(), words)
+        arguments = words_of(self.rounds.program)
+        return verdict_on_run(plain_text(self.network), self.text(), arguments)

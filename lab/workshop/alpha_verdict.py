@@ -59,19 +59,19 @@ class At(Standing):
         next, or a safe that isn't used up; and what it did last."""
         early = []
         pulse = 0
-        for words in self.own:
-            match words.split():
+        for text in self.own:
+            match text.split():
                 case ["pulse", _]:
                     pulse += 1
                 case ["take", _, "safe" | "payload" as wire, of, *_] if (
                     pulse + 1 == int(of) >= self.pulse - (wire == "payload")
                 ):
                     early.append(
-                        f"`{words}` came at pulse {pulse}, and is to be kept until pulse {of} is made"
+                        f"`{text}` came at pulse {pulse}, and is to be kept until pulse {of} is made"
                     )
         return [
             *[("came", self.rounds.came(self.pulse, self.v))] * bool(self.pulse),
-            *(("early", words) for words in last_of(early)),
+            *(("early", text) for text in last_of(early)),
             ("so far", "; ".join(last_of(self.own)) or "nothing"),
         ]
 
@@ -82,11 +82,11 @@ def at_node(rounds: RightRounds, before: list[Entry], v: int) -> At:
     """
     network = plain_text(rounds.network)
     ports = rounds.ports[v]
-    made = [f"{u} {words}" for _, u, words in before]
+    made = [f"{u} {text}" for _, u, text in before]
     text = as_text([f"transcript 1 {rounds.network.nodes}", *made])
 
-    def refusal_of(words: str) -> Verdict:
-        entry = f"{v} {words} {IMPOSSIBLE}\n"
+    def refusal_of(sentence: str) -> Verdict:
+        entry = f"{v} {sentence} {IMPOSSIBLE}\n"
         return verdict_on_run(network, text + entry, words_of(rounds.program))
 
     def ports_lacked(wire: str) -> list[int]:
@@ -96,17 +96,17 @@ def at_node(rounds: RightRounds, before: list[Entry], v: int) -> At:
     of_pulse = refusal_of("pulse")
     of_puts = {port: refusal_of(f"put {w} ack") for w, port in ports.items()}
     can_pulse = of_pulse.code == "WrongWire"
-    own = [with_port(rounds, v, words) for _, u, words in before if u == v]
+    own = [with_port(rounds, v, text) for _, u, text in before if u == v]
     acks, safes = ([], []) if can_pulse else (ports_lacked("ack"), ports_lacked("safe"))
     puts = {port: put.expected for port, put in of_puts.items() if put.code == "WrongWire"}
-    pulse = sum(words.startswith("pulse") for words in own)
+    pulse = sum(text.startswith("pulse") for text in own)
     return At(pulse, rounds.last, can_pulse, acks, safes, puts, "by port {}", rounds, own, v)
 
 
-def with_port(rounds: RightRounds, v: int, words: str) -> str:
+def with_port(rounds: RightRounds, v: int, text: str) -> str:
     """An entry as its node says it, with a port in place of the neighbour."""
-    what, first, *wire = words.split()
-    return words if what == "pulse" else f"{what} {rounds.ports[v][int(first)]} {' '.join(wire)}"
+    what, first, *wire = text.split()
+    return text if what == "pulse" else f"{what} {rounds.ports[v][int(first)]} {' '.join(wire)}"
 
 
 def finding_of(run: AlphaRun) -> Finding | None:
@@ -122,10 +122,10 @@ def finding_of(run: AlphaRun) -> Finding | None:
 
 
 def wrong_entry(run: AlphaRun, entries: list[Entry], verdict: Verdict) -> Finding:
-    stamp, v, words = entries[verdict.entry]
+    stamp, v, text = entries[verdict.entry]
     at = at_node(run.rounds, entries[: verdict.entry], v)
-    own = with_port(run.rounds, v, words)
-    neighbour = f" (to node {words.split()[1]})" if words.startswith("put") else ""
+    own = with_port(run.rounds, v, text)
+    neighbour = f" (to node {text.split()[1]})" if text.startswith("put") else ""
     lines = [
         (
             "where",
@@ -133,11 +133,11 @@ def wrong_entry(run: AlphaRun, entries: list[Entry], verdict: Verdict) -> Findin
         ),
         ("wrong", own + neighbour),
         ("right", at.right()),
-        ("why", START if words == "pulse 0" else rule_of(at, own)),
+        ("why", START if text == "pulse 0" else rule_of(at, own)),
         *at.hints(),
         ("judge", judged(verdict)),
     ]
-    return Finding(verdict.code, v, at.pulse, lines, verdict.entry, way=kind_of(words))
+    return Finding(verdict.code, v, at.pulse, lines, verdict.entry, way=kind_of(text))
 
 
 def no_answer(run: AlphaRun, entries: list[Entry], v: int, fault: NoAnswer, asked: str) -> Finding:

@@ -69,7 +69,7 @@ class ClockRun(Rounds, ABC):
             questions = {
                 v: [
                     f"pulse {p}",
-                    *(f"take {port} {words}" for port, words in self.inbox(p, v).items()),
+                    *(f"take {port} {payload}" for port, payload in self.inbox(p, v).items()),
                 ]
                 for v in self.network.vertices
             }
@@ -110,13 +110,13 @@ class ClockRun(Rounds, ABC):
         forms = forms_of(self.assignment, self.program)
         for line in answer:
             match fields_of(line, forms, len(self.ports[v])):
-                case "put", port, *words:
+                case "put", port, *payload:
                     if int(port) in puts:
                         raise NoAnswer(
                             "garbage",
                             f"{shown(line)} is a second payload by this port in one pulse",
                         )
-                    puts[int(port)] = " ".join(words)
+                    puts[int(port)] = " ".join(payload)
                 case fields:
                     self.hear(v, line, fields)
 
@@ -146,8 +146,8 @@ class RoundsRun(ClockRun):
     def hear(self, v: int, line: str, fields: tuple[str, ...]) -> None:
         about = {"colour": " ".join(fields[:2]), "chose": "chose"}.get(fields[0], "result")
         if about in self.said[v]:
-            words = f"it has said `{self.said[v][about]}` in this answer already"
-            raise NoAnswer("garbage", f"{shown(line)}: {words}")
+            sentence = f"it has said `{self.said[v][about]}` in this answer already"
+            raise NoAnswer("garbage", f"{shown(line)}: {sentence}")
         self.said[v][about] = " ".join(fields)
 
     def difference(self, p: int, v: int) -> Finding | None:
@@ -199,8 +199,8 @@ class RoundsRun(ClockRun):
             for v, puts in by.items():
                 to = self.network.neighbours[v]
                 lines += [
-                    f"{v} put {to[port]} payload {p} {words}\n"
-                    for port, words in sorted(puts.items())
+                    f"{v} put {to[port]} payload {p} {payload}\n"
+                    for port, payload in sorted(puts.items())
                 ]
         return "".join(lines)
 
@@ -228,8 +228,8 @@ class OpenRun(ClockRun):
                 "garbage", f"{shown(line)}: channels count from 1; a channel is a colour plus 1"
             )
         if v in self.channels:
-            words = f"it has said channel {self.channels[v]} before, and a result is final"
-            raise NoAnswer("garbage", f"{shown(line)}: {words}")
+            sentence = f"it has said channel {self.channels[v]} before, and a result is final"
+            raise NoAnswer("garbage", f"{shown(line)}: {sentence}")
         self.channels[v] = channel
 
     def is_done(self) -> bool:
@@ -251,12 +251,12 @@ class OpenRun(ClockRun):
         """The verdict of the proved check. A channel that is too great for it to be read has C6."""
         if not self.is_done():
             silent = [v for v in self.network.vertices if v not in self.channels]
-            words = f"after {p} pulses " + (
+            sentence = f"after {p} pulses " + (
                 f"{listed('node', first_of(silent))} said no channel"
                 if silent
                 else "all nodes have their channels, and payloads are still sent"
             )
-            return self.finding("endless", p, (silent or [1])[0], [("wrong", words)])
+            return self.finding("endless", p, (silent or [1])[0], [("wrong", sentence)])
         status, _, line = ask("forestplan", "check", plain_text(self.network) + self.text())
         if status == 0:
             self.league = {
@@ -274,9 +274,9 @@ class OpenRun(ClockRun):
             code = "C5"
             v -= 1
         channel = self.channels[v]
-        words = {
+        sentence = {
             "C4": f"nodes {v} and {in_words(others)} are neighbours, and both have channel {channel}",
             "C5": f"channel {channel} of node {v} isn't one of 1 to {self.network.channels}, which are enough",
             "C8": f"channel {channel} of node {v} is barred there",
         }[code]
-        return self.finding(code, p, v, [("wrong", words), ("judge", line)])
+        return self.finding(code, p, v, [("wrong", sentence), ("judge", line)])

@@ -30,7 +30,7 @@ def compiled(command: list[str], folder: str, guard: Guard) -> list[str]:
     with tempfile.TemporaryFile() as classes:
         with contextlib.suppress(subprocess.TimeoutExpired):
             subprocess.run(
-                guard.words(["sh", "-c", f"exec 3>&1 >&2; {COMPILE}", command[-1]]),
+                guard.arguments(["sh", "-c", f"exec 3>&1 >&2; {COMPILE}", command[-1]]),
                 timeout=SECONDS,
                 stdin=subprocess.DEVNULL,
                 stdout=classes,

@@ -42,17 +42,17 @@ class Finding:
         return (self.kind, self.way, self.owner) == (other.kind, other.way, other.owner)
 
     def text(self) -> list[str]:
-        return [f"{label:6} {words}" for label, words in self.lines]
+        return [f"{label:6} {text}" for label, text in self.lines]
 
 
-def kind_of(words: str) -> str:
+def kind_of(sentence: str) -> str:
     """Words without their numbers."""
-    return " ".join(word for word in words.split() if not word.isdecimal())
+    return " ".join(word for word in sentence.split() if not word.isdecimal())
 
 
-def first_of(words: Sequence[object]) -> list[str]:
+def first_of(things: Sequence[object]) -> list[str]:
     """The first of a list, and a mark if there are more."""
-    return [*map(str, words[:MOST]), *[".."] * (len(words) > MOST)]
+    return [*map(str, things[:MOST]), *[".."] * (len(things) > MOST)]
 
 
 def last_of(texts: Sequence[str]) -> list[str]:

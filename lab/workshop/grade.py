@@ -65,7 +65,7 @@ def table(submissions: dict[str, list[Part]]) -> list[str]:
     rows = [["", *(name for a in RUNS for name in (a, "points")), "in all"]]
     remarks = [""]
     for student, own in submissions.items():
-        cells = [word for part in own for word in (part.words(), str(part.points))]
+        cells = [word for part in own for word in (part.counts(), str(part.points))]
         rows.append([clean(student), *cells, in_all(own)])
         said = [
             f"{part.assignment}: {part.said()}"
@@ -137,8 +137,8 @@ def write_reports(submissions: dict[str, list[Part]], folder: str) -> None:
 
 def remove(room: str) -> None:
     """Removes the room, whatever is in it: folders that are too deep for Python, or shut."""
-    for words in (["chmod", "-R", "u+rwX"], ["rm", "-rf"]):
-        subprocess.run([*words, room], stdin=subprocess.DEVNULL, capture_output=True)
+    for command in (["chmod", "-R", "u+rwX"], ["rm", "-rf"]):
+        subprocess.run([*command, room], stdin=subprocess.DEVNULL, capture_output=True)
 
 
 def command_line() -> argparse.ArgumentParser:
@@ -226,10 +226,10 @@ def grade(submissions: dict[str, list[Part]], given: argparse.Namespace, room: s
     again = [part for part in parts if part.is_in_doubt()]
     if again:
         most = min(len(again), AGAIN) * given.seconds / 60
-        words = (
+        sentence = (
             f"{len(again)} of {len(parts)} are played once more, alone: {most:.0f} minutes at most"
         )
-        print(f"grade: {words}", file=sys.stderr, flush=True)
+        print(f"grade: {sentence}", file=sys.stderr, flush=True)
     play_again(again, given, room)
     if given.json:
         print(json.dumps(as_one(submissions, given.seed)), flush=True)

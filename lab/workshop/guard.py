@@ -84,7 +84,7 @@ class Guard:
         self.faults: dict[int, NoAnswer] = {}
         self.next_look = 0.0
 
-    def words(self, command: list[str]) -> list[str]:
+    def arguments(self, command: list[str]) -> list[str]:
         """What is started for a command."""
         return command
 

@@ -83,8 +83,8 @@ def run(part: Part, given: argparse.Namespace, room: str, to: Connection) -> Non
         os._exit(status)  # nothing else leaves this process
 
 
-def say(part: Part, words: str) -> None:
-    line = f"grade: {clean(part.student)} {part.assignment}: {words}"
+def say(part: Part, text: str) -> None:
+    line = f"grade: {clean(part.student)} {part.assignment}: {text}"
     print(line, file=sys.stderr, flush=True)
 
 
@@ -108,7 +108,7 @@ def play_all(parts: list[Part], given: argparse.Namespace, jobs: int, room: str)
                     del running[pipe]
                     part.found = finished(process, pipe)
                     end_all([other.pid for _, other, _ in running.values()])
-                    say(part, clean(f"{part.words()} {part.said()}".strip()))
+                    say(part, clean(f"{part.counts()} {part.said()}".strip()))
     finally:
         with held():
             for _, process, _ in running.values():

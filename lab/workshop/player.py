@@ -42,10 +42,10 @@ class Player:
         self.guard = guard or Guard()
         self.said = time.monotonic()
 
-    def say(self, words: str) -> None:
+    def say(self, text: str) -> None:
         if self.is_shown and time.monotonic() - self.said > PROGRESS_SECONDS:
             self.said = time.monotonic()
-            print(f"workshop: {words}", file=sys.stderr, flush=True)
+            print(f"workshop: {text}", file=sys.stderr, flush=True)
 
     def nodes(self, case: Case) -> Nodes:
         programs = len(self.commands) if self.options.one_process else case.network.nodes
@@ -85,15 +85,15 @@ class Player:
     def name_owner(self, case: Case, found: Finding) -> None:
         """Says whose node is wrong, and whose the others are."""
         found.owner = case.owners[found.node - 1]
-        words = []
+        texts = []
         for owner, command in enumerate(self.commands):
             nodes = [
                 v for v in case.network.vertices if case.owners[v - 1] == owner and v != found.node
             ]
             if nodes:
-                words.append(f"{listed('node', nodes)}: {shown(shlex.join(command))}")
+                texts.append(f"{listed('node', nodes)}: {shown(shlex.join(command))}")
         whose = f"node {found.node}: {shown(shlex.join(self.commands[found.owner]))}"
-        found.lines[1:1] = [("whose", whose), *[("others", "; ".join(words))] * bool(words)]
+        found.lines[1:1] = [("whose", whose), *[("others", "; ".join(texts))] * bool(texts)]
 
     def played(self, cases: list[Case]) -> tuple[list[Case], Case | None, float]:
         """The cases that were played, the smallest that is wrong, and the seconds it took."""

@@ -51,7 +51,7 @@ class Process:
         try:
             self.errors = tempfile.TemporaryFile()
             self.process = subprocess.Popen(
-                guard.words(command),
+                guard.arguments(command),
                 stdin=subprocess.PIPE,
                 stdout=subprocess.PIPE,
                 stderr=self.errors,
@@ -118,8 +118,8 @@ class Process:
             self.look()
             found = exit_of(self.process.pid, 0)
             if found and not poll.poll(0):
-                words = f"it ended with {found}, and what it has started goes on"
-                raise NoAnswer("ended", words + self.last_errors(), found.is_by_signal)
+                sentence = f"it ended with {found}, and what it has started goes on"
+                raise NoAnswer("ended", sentence + self.last_errors(), found.is_by_signal)
             if time.monotonic() < until:
                 continue
             if until < self.until:
@@ -138,18 +138,18 @@ class Process:
             return self.guard.faults[self.process.pid]
         found = exit_of(self.process.pid, time.monotonic() + 1)
         if found is None:
-            words = "it closed its standard input or output, and goes on running"
-            return NoAnswer("ended", words + self.last_errors())
+            sentence = "it closed its standard input or output, and goes on running"
+            return NoAnswer("ended", sentence + self.last_errors())
         after = f" after {shown(got)}" if got else ""
-        words = f"it ended with {found}{after} instead of an answer"
-        return NoAnswer("ended", words + self.last_errors(), found.is_by_signal)
+        sentence = f"it ended with {found}{after} instead of an answer"
+        return NoAnswer("ended", sentence + self.last_errors(), found.is_by_signal)
 
     def last_errors(self) -> str:
         """The end of what is on its standard error, if there is any."""
         size = self.errors.seek(0, os.SEEK_END)
         self.errors.seek(max(0, size - LAST_BYTES))
-        words = last_errors(self.errors.read())
-        return f"; on standard error: {words}" if words else ""
+        text = last_errors(self.errors.read())
+        return f"; on standard error: {text}" if text else ""
 
     def end(self) -> None:
         """No more messages: a program that reads to the end of its input ends now."""
@@ -210,5 +210,5 @@ def last_errors(text: bytes) -> str:
     """What a program that ended wrote to standard error at last, so that the place of its mistake is among it: the last
     lines in one, or nothing."""
     lines = UNSHOWN.sub(r"\1", text.decode("utf-8", "replace") + "\n").splitlines()
-    words = " | ".join(line.strip() for line in lines[-LAST_LINES:])
-    return shown(words[-LAST_LETTERS:], LAST_LETTERS) if words else ""
+    last = " | ".join(line.strip() for line in lines[-LAST_LINES:])
+    return shown(last[-LAST_LETTERS:], LAST_LETTERS) if last else ""

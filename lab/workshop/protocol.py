@@ -92,12 +92,12 @@ def pattern(form: str) -> re.Pattern[str]:
 def fields_of(line: str, forms: list[str], degree: int) -> tuple[str, ...]:
     """The fields of a line that has one of these forms, numbers without zeros before them; a port by which something
     is put is one of the node."""
-    words = " ".join(line.split())
+    text = " ".join(line.split())
     for form in forms:
-        if found := pattern(form).fullmatch(words):
+        if found := pattern(form).fullmatch(text):
             break
     else:
-        what = shown(line) if words else "an empty line"
+        what = shown(line) if text else "an empty line"
         lines = ", ".join(f"`{form}`" for form in forms)
         raise NoAnswer(
             "garbage",
@@ -106,15 +106,15 @@ def fields_of(line: str, forms: list[str], degree: int) -> tuple[str, ...]:
         )
     if found[1] == "put" and int(found[2]) >= degree:
         ports = {0: "no port", 1: "port 0 alone"}.get(degree, f"ports 0 to {degree - 1}")
-        words = f"there is no port {found[2][:9]}; the node has {ports}"
-        raise NoAnswer("garbage", f"{shown(line)}: {words}")
+        text = f"there is no port {found[2][:9]}; the node has {ports}"
+        raise NoAnswer("garbage", f"{shown(line)}: {text}")
     return found.groups()
 
 
-def wire_of(line: str, words: str, program: str) -> str:
+def wire_of(line: str, wire: str, program: str) -> str:
     """The wire that a line names, without zeros before its numbers; a payload is one of the program."""
     try:
-        read_wire(program, *words.encode().split())
+        read_wire(program, *wire.encode().split())
     except NoEntry as why:
         raise NoAnswer("garbage", f"{shown(line)}: {why}") from None
-    return re.sub("\\b0+(?=[0-9])", "", words)
+    return re.sub("\\b0+(?=[0-9])", "", wire)

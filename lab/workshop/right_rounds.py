@@ -41,7 +41,7 @@ class Rounds:
     def came(self, p: int, v: int) -> str:
         """The same in words."""
         return (
-            ", ".join(f"{words} by port {port}" for port, words in self.inbox(p, v).items())
+            ", ".join(f"{payload} by port {port}" for port, payload in self.inbox(p, v).items())
             or "nothing"
         )
 
@@ -100,8 +100,8 @@ class RightRounds(Rounds):
                 self.puts.append({})
                 self.colours.append({})
                 self.chose.append({})
-            case [v, "put", w, "payload", _, *words]:
-                self.puts[-1].setdefault(int(v), {})[self.ports[int(v)][int(w)]] = " ".join(words)
+            case [v, "put", w, "payload", _, *payload]:
+                self.puts[-1].setdefault(int(v), {})[self.ports[int(v)][int(w)]] = " ".join(payload)
             case [v, "colour", _, colour]:
                 self.colours[-1].setdefault(int(v), []).append(int(colour))
             case [v, "chose", colour]:

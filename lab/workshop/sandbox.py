@@ -132,7 +132,7 @@ class Sandbox(Guard):
         """Whether the programs' user may pass all folders above a path; what it can't reach can't be shown to it."""
         return visible_files.reaches(path, self.user)
 
-    def words(self, command: list[str]) -> list[str]:
+    def arguments(self, command: list[str]) -> list[str]:
         """The command in a container of its own, with a link to each entry of the folder."""
         links = []
         for name in os.listdir(self.folder):
@@ -167,7 +167,7 @@ class Sandbox(Guard):
         """Refuses a system on which nothing can be started so."""
         try:
             done = subprocess.run(
-                self.words(["true"]),
+                self.arguments(["true"]),
                 capture_output=True,
                 text=True,
                 **self.start(Limits(1, 2048, 1), self.tasks()),

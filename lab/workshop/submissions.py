@@ -90,7 +90,7 @@ class Part:
         verdicts = {case["verdict"] for case in self.result["cases"]} if self.result else set()
         return self.found.get("why") or ", ".join(sorted(verdicts - {"right"}))
 
-    def words(self) -> str:
+    def counts(self) -> str:
         if self.result:
             return f"{self.result['right']}/{self.result['runs']}"
         return "?" if self.command else "-"
@@ -154,7 +154,7 @@ def said_command(folder: str, assignment: str) -> list[str]:
     with open(path, encoding="utf-8", errors="replace") as file:
         lines = [line.partition(":") for line in file.read(1 << 16).splitlines()]
     try:
-        said = [shlex.split(words) for name, _, words in lines if name.strip() == assignment]
+        said = [shlex.split(command) for name, _, command in lines if name.strip() == assignment]
     except ValueError as why:
         raise Fault(Code.COMMANDS_NOT_READ, why=why) from None
     command = said[0] if said else []
@@ -194,6 +194,6 @@ def check_folder(folder: str) -> None:
             raise Fault(Code.PIPE_IN_FOLDER, name=name)
 
 
-def clean(words: str) -> str:
+def clean(text: str) -> str:
     """Words of a student, as they may be printed in one line."""
-    return shown(words, 200)[1:-1]
+    return shown(text, 200)[1:-1]

@@ -85,13 +85,13 @@ class Why:
     def up(self) -> dict[int, int]:
         """The port of its parent, by forest."""
         parents = self.first.puts[1].get(self.v, {})
-        return {int(words.split()[1]): port for port, words in parents.items()}
+        return {int(payload.split()[1]): port for port, payload in parents.items()}
 
     @cached_property
     def forest_by(self) -> dict[int, int]:
         """The forest of an edge, by its port."""
         labels = self.first.puts[1].get(self.v, {}) | self.first.inbox(2, self.v)
-        return {port: int(words.split()[1]) for port, words in labels.items()}
+        return {port: int(payload.split()[1]) for port, payload in labels.items()}
 
     def of(self, p: int | None = None, port: int | None = None, forest: int | None = None) -> str:
         """Why it sends what it sends by a port in a pulse, or has its colour in a forest after it, or chooses; without
@@ -196,13 +196,13 @@ class Why:
         said = []
         for p in range(first, last + 1):
             said += [
-                f"`{words}` came by port {port} in pulse {p}"
-                for port, words in self.rounds.inbox(p, self.v).items()
+                f"`{payload}` came by port {port} in pulse {p}"
+                for port, payload in self.rounds.inbox(p, self.v).items()
             ]
             puts = self.rounds.puts[p].get(self.v, {}) if p < last else {}
             said += [
-                f"it sent `{words}` by port {port} in pulse {p}"
-                for port, words in sorted(puts.items())
+                f"it sent `{payload}` by port {port} in pulse {p}"
+                for port, payload in sorted(puts.items())
             ]
         return ", ".join(last_of(said)) or "nothing has come"
 

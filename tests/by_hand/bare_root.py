@@ -137,16 +137,16 @@ class Roots:
         self.run(["base"], self.fresh("new"), "CI_APT_LIMIT=0 .ci/run --list", "packages.log")
         return re.findall(r"^ci: .* don't run: (.*)$", self.said("packages.log"), re.M)[0].split()
 
-    def try_out(self, name: str, words: str) -> bool:
+    def try_out(self, name: str, arguments: str) -> bool:
         """Whether the tests pass in a run. Prints what didn't run, and the last line."""
         begin, layers, new = time.monotonic(), ["all", "base"], self.fresh("new")
-        command = f"apt-get -qq purge -y --auto-remove {name} && ./test {words}"
+        command = f"apt-get -qq purge -y --auto-remove {name} && ./test {arguments}"
         if name == NEEDED:
-            command = f"rm /usr/lib/*/libseccomp.so.2* && ./test {words}"
+            command = f"rm /usr/lib/*/libseccomp.so.2* && ./test {arguments}"
         elif name == "nothing":
-            layers, command = ["base"], f"./test {words}"
+            layers, command = ["base"], f"./test {arguments}"
         elif name == "all":
-            layers, command = ["base"], f".ci/run {words}"
+            layers, command = ["base"], f".ci/run {arguments}"
             new = self.fresh("all")
         status = self.run(layers, new, command, f"{name}.log")
         said = self.said(f"{name}.log")
@@ -179,8 +179,8 @@ def main() -> int:
     os.makedirs(roots.folder, exist_ok=True)
     roots.make_base()
     runs = given.runs or ["nothing", "all", *roots.packages(), NEEDED]
-    words = "" if given.gate else f"--jobs {given.jobs} {given.only}"
-    wrong = [name for name in runs if not roots.try_out(name, words)]
+    arguments = "" if given.gate else f"--jobs {given.jobs} {given.only}"
+    wrong = [name for name in runs if not roots.try_out(name, arguments)]
     print(
         f"bare_root: {len(runs) - len(wrong)} runs are good, and {len(wrong)} aren't: {' '.join(wrong)}"
     )

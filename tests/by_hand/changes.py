@@ -171,15 +171,15 @@ def is_sentence(value: ast.expr) -> bool:
     return is_text or isinstance(value, ast.JoinedStr)
 
 
-def instead_of(words: str, value: ast.expr, hint: str) -> str:
+def instead_of(text: str, value: ast.expr, hint: str) -> str:
     """What is returned instead of a value, by the hint of its function, or by what it is."""
     kind = hint.partition("[")[0]
     if kind in BY_HINT:
-        return BY_HINT[kind].format(words)
+        return BY_HINT[kind].format(text)
     if kind in EMPTY:
         return EMPTY[kind]
-    if isinstance(value, (ast.Compare, ast.BoolOp)) or words.startswith("not "):
-        return f"not ({words})"
+    if isinstance(value, (ast.Compare, ast.BoolOp)) or text.startswith("not "):
+        return f"not ({text})"
     if isinstance(value, ast.Constant) and value.value is None:
         return "0"
     return "None"

@@ -59,9 +59,13 @@ class Copy:
             to = os.path.join(self.tree, "crates", name, "out", name)
             os.makedirs(os.path.dirname(to))
             shutil.copy(BUILT[name], to)
-            words = [sys.executable, "build", "program"]
-            said = subprocess.check_output([*words, "--sources", name], cwd=self.tree, text=True)
-            subprocess.run([*words, "--made-from", said.strip(), name], cwd=self.tree, check=True)
+            arguments = [sys.executable, "build", "program"]
+            said = subprocess.check_output(
+                [*arguments, "--sources", name], cwd=self.tree, text=True
+            )
+            subprocess.run(
+                [*arguments, "--made-from", said.strip(), name], cwd=self.tree, check=True
+            )
 
     def write(self, file: str, data: bytes) -> None:
         """Writes a file, each time with another time, so that what was compiled of it is compiled again."""

@@ -191,8 +191,8 @@ class Driven:
     def do_type(self, *arguments: str) -> None:
         self.page.ask("Input.insertText", text=" ".join(arguments))
 
-    def do_key(self, words: str) -> None:
-        *held, key = words.split("+") if len(words) > 1 else [words]
+    def do_key(self, keys: str) -> None:
+        *held, key = keys.split("+") if len(keys) > 1 else [keys]
         number = KEYS.get(key, ord(key[0].upper()))
         name = " " if key == "Space" else key
         more: dict[str, object] = {"modifiers": sum(MODIFIERS[one] for one in held)}
@@ -221,10 +221,10 @@ def served(name: str, given: Namespace) -> None:
         while True:
             asked, _ = server.accept()
             with asked, asked.makefile("rw", encoding="utf-8") as file:
-                words = json.loads(file.readline())
-                file.write("ended" if words == ["end"] else driven.answer(words))
+                fields = json.loads(file.readline())
+                file.write("ended" if fields == ["end"] else driven.answer(fields))
                 file.flush()
-            if words == ["end"]:
+            if fields == ["end"]:
                 return
     finally:
         driven.end()

@@ -175,7 +175,7 @@ def try_nodes() -> None:
 
     right = os.path.join(EXAMPLES, "python")
     for name, (file, classes) in PLACES.items():
-        kind, program, words = tried(name)
+        kind, program, arguments = tried(name)
         of = ["--program", *program] if program else []
         for mutant, text in mutants(right, file, classes):
             with tempfile.TemporaryDirectory() as folder:
@@ -185,7 +185,7 @@ def try_nodes() -> None:
                 path = os.path.join(folder, f"{kind}_node.py")
                 node = ["--one-process", "--first", "--timeout", "2", "--", *RESERVED]
                 node += [sys.executable, "-S", path, *program]
-                if call(kind, *words, *node).returncode == 0:
+                if call(kind, *arguments, *node).returncode == 0:
                     is_right = call(kind, "--runs", "60", *of, *node).returncode == 0
                     print("right" if is_right else "WRONG IN MANY RUNS", mutant, flush=True)
 

@@ -103,8 +103,8 @@ def change(place: ast.expr) -> None:
 def verdict_of(path: str, network: str, *options: str) -> str:
     """What `explore` says of a changed file: refused, list, right, large; or what may not be."""
     name = os.path.join(os.path.dirname(path), f"{MIXED}.col") if network == MIXED else network
-    words = ("explore", explore.main, name, "--program", path, "--limit", LIMIT, *options)
-    status, out, errors = in_process(*words)
+    arguments = ("explore", explore.main, name, "--program", path, "--limit", LIMIT, *options)
+    status, out, errors = in_process(*arguments)
     said = out.decode() + errors.decode()
     if "Traceback" in said:
         return f"traceback: {said[-300:]}"

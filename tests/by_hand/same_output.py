@@ -64,17 +64,17 @@ def of_networks():
 
 def others():
     for program, name in product(PROGRAMS, ("petersen", "path", "star", "drops")):
-        words = f"examples/{name}.col --program {program}"
+        command = f"examples/{name}.col --program {program}"
         for kind in ("results", "rounds", "player"):
-            yield f"forestlab picture {kind} {words}"
+            yield f"forestlab picture {kind} {command}"
         made = f"forestplay run --transcript --workers 1 --program {program} < examples/{name}.col"
-        yield f"{made} | forestlab picture run {words} --transcript -"
+        yield f"{made} | forestlab picture run {command} --transcript -"
     for rule in RULES:
         for name in ("triangle", "path", "two"):
             yield f"forestlab explore examples/{name}.col --without {rule}"
         yield f"forestlab picture broken --without {rule}"
-    for words in MADE:
-        yield f"forestlab network {words}"
+    for command in MADE:
+        yield f"forestlab network {command}"
     for seed, lesson in product((1, 2), range(1, 8)):
         yield f"forestlab sheet --seed {seed} --lesson {lesson} --answers"
 

@@ -24,16 +24,16 @@ class Allocations(Case):
     def setUp(self):
         self.front = build_front(self.folder, "refuse_growth")
 
-    def asked(self, words, data=b"", status=0):
+    def asked(self, arguments, data=b"", status=0):
         """How often a run asks for memory, and for how many bytes in all."""
-        answer, counts = under(self.front, words, data)
+        answer, counts = under(self.front, arguments, data)
         self.assertEqual(answer[0], status, answer)
         return counts
 
     def test_pulses(self):
-        for words in ([PLAN, "plain"], *RUNS):
-            few, more = (self.asked(words, star)[0] for star in (STAR_AT_6, STAR_AT_1))
-            self.same(f"{words[1]}: allocations of 30 rounds and 102", few, more)
+        for arguments in ([PLAN, "plain"], *RUNS):
+            few, more = (self.asked(arguments, star)[0] for star in (STAR_AT_6, STAR_AT_1))
+            self.same(f"{arguments[1]}: allocations of 30 rounds and 102", few, more)
         for test in (
             "sync_rounds_checks::greatest_within_{}_link{}",
             "alpha_core_checks::runs::a_node_of_{}_pulse{}",
@@ -47,29 +47,29 @@ class Allocations(Case):
         """Each direction of a link takes the same memory more with a capacity of 2 than with 1, and with any greater
         capacity what it takes with 2, since no link ever holds more than two wires. No node is looked at.
         """
-        for words in RUNS:
+        for arguments in RUNS:
             sizes = set()
             for directions, network in ((2, text(EDGE)), (6, text(TRIANGLE))):
                 asked = [
                     self.asked(
-                        [*words, "--turns", "0", "--capacity", str(capacity)], network, status=3
+                        [*arguments, "--turns", "0", "--capacity", str(capacity)], network, status=3
                     )
                     for capacity in CAPACITIES
                 ]
                 self.same(
-                    f"{words[1]}: calls by {directions} directions",
+                    f"{arguments[1]}: calls by {directions} directions",
                     len({calls for calls, _ in asked}),
                     1,
                 )
                 one, *others = [size for _, size in asked]
                 self.same(
-                    f"{words[1]}: memory of {CAPACITIES[1:]} by {directions} directions",
+                    f"{arguments[1]}: memory of {CAPACITIES[1:]} by {directions} directions",
                     len(set(others)),
                     1,
                 )
                 sizes.add((others[0] - one) / directions)
             self.note(
-                f"{words[1]}: memory of the second wire in a direction",
+                f"{arguments[1]}: memory of the second wire in a direction",
                 len(sizes) == 1 and min(sizes) > 0,
                 sizes,
             )

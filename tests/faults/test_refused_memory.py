@@ -40,14 +40,14 @@ def build_front(folder, *names):
     return ":".join(fronts)
 
 
-def under(front, words, data=b"", streams=None, **given):
+def under(front, arguments, data=b"", streams=None, **given):
     """The status and both outputs of a run with libraries before all others, which have words of their own; and the
     numbers that they wrote, none if a signal ended the run."""
     with tempfile.TemporaryDirectory() as folder:
         counts = {name: os.path.join(folder, name) for name in COUNTS}
         given = {name: str(value) for name, value in given.items()} | counts
         answer = called(
-            *words,
+            *arguments,
             data=data,
             limit=LIMIT,
             **streams or {},
@@ -68,7 +68,7 @@ class RefusedMemory(Case):
     def setUp(self):
         self.front = build_front(self.folder, "refuse_growth")
 
-    def sweep(self, name, words, data, wanted=None, or_else=None):
+    def sweep(self, name, arguments, data, wanted=None, or_else=None):
         """Refuses growth 1, 2, .. until a run is as one without refusal, and so the next ones. `wanted` is clap's text
         if it isn't given; `or_else` is the answer in place of the one for memory if the one growth by which the C
         library starts a thread, for its table of the thread's own variables, is refused. Of a run with a thread one
@@ -76,7 +76,7 @@ class RefusedMemory(Case):
         passes a refusal by, or is made anew."""
 
         def got_of(number):
-            return under(self.front, [PATHS[name], *words], data, REFUSE=number)[0]
+            return under(self.front, [PATHS[name], *arguments], data, REFUSE=number)[0]
 
         wanted, memory = wanted or got_of(0), (4, b"", f"{name}: memory\n".encode())
         ends: list[tuple] = []
@@ -84,7 +84,7 @@ class RefusedMemory(Case):
         while len(ends) < MOST and ends[-LAST:] != [wanted] * LAST and known.issuperset(ends):
             ends.append(got_of(len(ends) + 1))
         refused, counts = ends[:-LAST], Counter(ends[:-LAST])
-        row = f"each growth refused in turn: {' '.join(words)}, {data[-40:]!r}"
+        row = f"each growth refused in turn: {' '.join(arguments)}, {data[-40:]!r}"
         said = f"{len(refused)} growths, {counts}; at last {ends[-1]}"
         self.note(row, ends[-LAST:] == [wanted] * LAST and counts[memory], said)
         if or_else is not None:
@@ -109,14 +109,14 @@ class RefusedMemory(Case):
             triangle + b"i 1 9\nb 3 1\nb 3 7\nb 1 2\ni 2 0\n",
             triangle + b"".join(b"b 1 %d\n" % channel for channel in range(1, 131)),
         ]
-        for words, data, wanted in (
+        for arguments, data, wanted in (
             *((["plain"], data, (0, plan_text(network_of(data)), b"")) for data in barred),
             (["check"], triangle, (1, b"", b"forestplan: C6 line 1\n")),
             (["forests"], b"q\n", (1, b"", b"forestplan: F8 line 1\n")),
             (["nothing"], b"", None),
             (["--help"], b"", None),
         ):
-            self.sweep("forestplan", words, data, wanted)
+            self.sweep("forestplan", arguments, data, wanted)
         for edition, wanted in (((), run.merged()), (("--edition", "1"), run.text())):
             self.sweep(
                 "forestplan",

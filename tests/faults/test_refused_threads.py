@@ -46,11 +46,11 @@ class RefusedThreads(Case):
     def setUp(self):
         self.front = build_front(self.folder, "refuse_growth", "refuse_thread")
 
-    def run_of(self, program, words, data=TRIANGLE, growth=0, thread=0):
+    def run_of(self, program, arguments, data=TRIANGLE, growth=0, thread=0):
         """The answer; how many growths were asked for; and how many threads were, how many started, and how many
         ended."""
         answer, counts = under(
-            self.front, [program, *words], data, REFUSE=growth, REFUSE_THREAD=thread
+            self.front, [program, *arguments], data, REFUSE=growth, REFUSE_THREAD=thread
         )
         return answer, counts[0], counts[2:]
 
@@ -126,10 +126,10 @@ class RefusedThreads(Case):
         for command in ("plan", "transcript"):
             wrong, late, whole = [], 0, 0
             for workers in (2, 4, 16) * 2:
-                words = [command, "--workers", str(workers)]
-                _, ample, _ = self.run_of(PLAN, words)
+                arguments = [command, "--workers", str(workers)]
+                _, ample, _ = self.run_of(PLAN, arguments)
                 for growth in range(1, ample + 20):
-                    answer, _, (_, started, ended) = self.run_of(PLAN, words, growth=growth)
+                    answer, _, (_, started, ended) = self.run_of(PLAN, arguments, growth=growth)
                     is_refused = answer in (THREADS, MEMORY)
                     late += answer == MEMORY and started == workers
                     whole += not is_refused

@@ -53,19 +53,19 @@ class Streams(Case):
         folder = cls.enterClassContext(tempfile.TemporaryDirectory())
         cls.front = build_front(folder, "broken_streams")
 
-    def broken(self, name, words, data, stream=-1, call=0, takes_none=False):
+    def broken(self, name, arguments, data, stream=-1, call=0, takes_none=False):
         """The answer; and how many reads, writes to output and writes to errors there were."""
         given = {"TAKES_NONE": 1} if takes_none else {}
         return under(
-            self.front, [PATHS[name], *words], data, BROKEN=stream, BREAKS_AT=call, **given
+            self.front, [PATHS[name], *arguments], data, BROKEN=stream, BREAKS_AT=call, **given
         )
 
     def test_reads(self):
         """One read more than the input has pieces meets its end, and the one after that never comes."""
-        for name, words, data, answer in CALLS:
+        for name, arguments, data, answer in CALLS:
             reads, wrong = pieces(text(data)) + 1, []
             for call in range(reads + 1):
-                got, counts = self.broken(name, words, text(data), INPUT, call)
+                got, counts = self.broken(name, arguments, text(data), INPUT, call)
                 wanted = (
                     (4, b"", f"{name}: stream\n".encode())
                     if call < reads
@@ -74,16 +74,16 @@ class Streams(Case):
                 if got != wanted or counts[INPUT] != min(call + 1, reads):
                     wrong.append((call, got, counts))
             self.note(
-                f"{name} {' '.join(words)}: each of {reads} reads fails", not wrong, wrong[:2]
+                f"{name} {' '.join(arguments)}: each of {reads} reads fails", not wrong, wrong[:2]
             )
 
     def test_writes(self):
         """The write after the last piece never comes."""
-        for (name, words, data, answer), takes_none in itertools.product(CALLS, (False, True)):
+        for (name, arguments, data, answer), takes_none in itertools.product(CALLS, (False, True)):
             answer, wrong = text(answer), []
             writes = pieces(answer)
             for call in range(writes + 1):
-                got, counts = self.broken(name, words, text(data), OUTPUT, call, takes_none)
+                got, counts = self.broken(name, arguments, text(data), OUTPUT, call, takes_none)
                 fault = (4, answer[: PIECE * call], f"{name}: stream\n".encode())
                 if got != (fault if call < writes else (0, answer, b"")) or counts[OUTPUT] != min(
                     call + 1, writes
@@ -91,15 +91,15 @@ class Streams(Case):
                     wrong.append((call, got, counts))
             how = "takes nothing" if takes_none else "fails"
             self.note(
-                f"{name} {' '.join(words)}: each of {writes} writes {how}", not wrong, wrong[:2]
+                f"{name} {' '.join(arguments)}: each of {writes} writes {how}", not wrong, wrong[:2]
             )
 
     def test_refusals(self):
         """What is written to errors; then each write of it breaks in turn: the status stays, and a beginning of the
         text is there."""
-        for words, data, status, line in REFUSALS:
-            data, name = text(data), f"the refusal of {words} on {data!r}"
-            whole, counts = self.broken("forestplan", words, data)
+        for arguments, data, status, line in REFUSALS:
+            data, name = text(data), f"the refusal of {arguments} on {data!r}"
+            whole, counts = self.broken("forestplan", arguments, data)
             told = whole[2] if line is None else text(line)
             self.note(
                 f"{name} is written, whole",
@@ -110,7 +110,9 @@ class Streams(Case):
             for takes_none in (False, True):
                 wrong = []
                 for call in range(pieces(told)):
-                    got, counts = self.broken("forestplan", words, data, ERRORS, call, takes_none)
+                    got, counts = self.broken(
+                        "forestplan", arguments, data, ERRORS, call, takes_none
+                    )
                     if got != (status, b"", told[: PIECE * call]) or counts[ERRORS] != call + 1:
                         wrong.append((call, got, counts))
                 how = "takes nothing" if takes_none else "fails"
@@ -120,19 +122,19 @@ class Streams(Case):
 
     def test_help(self):
         """Help reads nothing; if output breaks, it is a stream that failed."""
-        for words in HELP:
-            (status, helped, errors), counts = self.broken("forestplan", words, text(TRIANGLE))
+        for arguments in HELP:
+            (status, helped, errors), counts = self.broken("forestplan", arguments, text(TRIANGLE))
             self.note(
-                f"help by {words} reads nothing",
+                f"help by {arguments} reads nothing",
                 (status, errors, counts[INPUT]) == (0, b"", 0) and helped,
                 (status, errors, counts),
             )
             for takes_none in (False, True):
                 got, counts = self.broken(
-                    "forestplan", words, text(TRIANGLE), OUTPUT, 2, takes_none
+                    "forestplan", arguments, text(TRIANGLE), OUTPUT, 2, takes_none
                 )
                 self.same(
-                    f"help by {words} into a stream that breaks",
+                    f"help by {arguments} into a stream that breaks",
                     (got, counts[OUTPUT]),
                     ((4, helped[: 2 * PIECE], b"forestplan: stream\n"), 3),
                 )

@@ -100,8 +100,8 @@ def file_of(crate: str, module: str) -> str:
 def imports_of(file: str) -> tuple[tuple[str, frozenset[str]], ...]:
     """The files that a file imports definitions from, each with the words that it takes."""
     found = []
-    for crate, module, words, short in re.findall(IMPORT, text_in(file), re.M):
-        taken = frozenset(re.findall(r"[^\s,{}]+", words) + [short] * bool(short))
+    for crate, module, names, short in re.findall(IMPORT, text_in(file), re.M):
+        taken = frozenset(re.findall(r"[^\s,{}]+", names) + [short] * bool(short))
         found += [(path, taken) for path in [file_of(crate, module)] if path]
     return tuple(found)
 
@@ -112,8 +112,8 @@ def words_in(text: str) -> set[str]:
 
 def cited_in(file: str, text: str) -> set[str]:
     """The files whose words a piece of a file of src/ cites."""
-    words = words_in(text)
-    return {path for path, taken in imports_of(file) if taken & words}
+    found = words_in(text)
+    return {path for path, taken in imports_of(file) if taken & found}
 
 
 @functools.cache

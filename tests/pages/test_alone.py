@@ -26,12 +26,12 @@ class Alone(Case):
         os.mkdir(os.path.dirname(other))
         shutil.copy(STORED, other)
         chain = os.path.join(TOP, "examples", "chain6.col")
-        for name, words in (
+        for name, arguments in (
             ("rounds", ("player", os.path.join(TOP, "examples", "petersen.col"))),
             ("run", ("watch", chain, STORED)),
             ("two", ("watch", chain, STORED, other)),
         ):
-            said_by("picture", *words, "-o", os.path.join(cls.folder, f"{name}.html"))
+            said_by("picture", *arguments, "-o", os.path.join(cls.folder, f"{name}.html"))
         cls.page = browser.Browser(program)
         cls.addClassCleanup(cls.page.end)
 

@@ -218,8 +218,8 @@ class Folder(Case):
             at = os.path.join(self.folder, name)
             if name == "empty":
                 os.mkdir(at)
-            words = [sys.executable, "-S", os.path.join(TOP, "lab"), "studio", "--publish", at]
-            run = subprocess.Popen(words, stderr=subprocess.PIPE, text=True)
+            arguments = [sys.executable, "-S", os.path.join(TOP, "lab"), "studio", "--publish", at]
+            run = subprocess.Popen(arguments, stderr=subprocess.PIPE, text=True)
             until = time.monotonic() + 60
             while not self.made() and time.monotonic() < until:
                 time.sleep(0.05)
@@ -253,9 +253,9 @@ class Folder(Case):
 
     def test_command_line(self) -> None:
         """What the page can't have is refused, and nothing is written."""
-        for words in (["petersen"], ["--own", "a.py"], ["--links", "links"]):
-            done = self.called("--publish", "x", *words)
-            self.note(f"no {words} with it", done.returncode == 2, done)
+        for arguments in (["petersen"], ["--own", "a.py"], ["--links", "links"]):
+            done = self.called("--publish", "x", *arguments)
+            self.note(f"no {arguments} with it", done.returncode == 2, done)
             self.note("one line", done.stderr.count("\n") == 1 and "takes no" in done.stderr)
             self.same("nothing is written", os.listdir(self.folder), [])
 
@@ -269,9 +269,9 @@ class Folder(Case):
         said = out.getvalue()
         self.note("one line", said.count("\n") == 1 and said[:-1].isprintable(), said)
 
-    def called(self, *words: str) -> subprocess.CompletedProcess[str]:
+    def called(self, *arguments: str) -> subprocess.CompletedProcess[str]:
         path = os.path.join(TOP, "lab")
-        line = [sys.executable, "-S", path, "studio", *words]
+        line = [sys.executable, "-S", path, "studio", *arguments]
         return subprocess.run(line, cwd=self.folder, capture_output=True, text=True)
 
 
@@ -402,10 +402,10 @@ class Published(Cards):
         for piece, found in self.pieces():
             for key, number in found["answers"].items():
                 name, _, rest = key.partition(" ")
-                words = rest.split("\n")[-1]
-                asked = json.loads(words)
-                if rest != words:
-                    asked["network"] = rest.removesuffix(words)
+                text = rest.split("\n")[-1]
+                asked = json.loads(text)
+                if rest != text:
+                    asked["network"] = rest.removesuffix(text)
                 kept = found["values"][number]
                 again = answer(name, asked)
                 wanted = again if "wrong" in kept else {"answer": again}
@@ -687,7 +687,7 @@ class Published(Cards):
         self.value("scrollTo(0, 0)")
         self.page.tap(*self.at(v))
 
-    def write(self, selector: str, words: str) -> None:
+    def write(self, selector: str, text: str) -> None:
         """Taps a field, and types with the keys of the phone."""
         self.tap_on(selector)
         self.sees(
@@ -696,7 +696,7 @@ class Published(Cards):
             20,
         )
         self.value("document.activeElement.select()")
-        self.page.ask("Input.insertText", text=words)
+        self.page.ask("Input.insertText", text=text)
 
     def join_by_taps(self, *pairs: tuple[int, int]) -> None:
         for v, w in pairs:

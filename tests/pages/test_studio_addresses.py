@@ -139,7 +139,7 @@ class StudioAddresses(Page):
 
     def test_refused(self):
         """What the command refuses the page refuses, too, and says what is wrong."""
-        for words, said in (
+        for address, said in (
             (f"{TWO}~i1-1x7~b1-zz&tab=draw", "the identifier of node 1 is 1x7"),
             (f"{TWO}~b1-zz&tab=draw", "the channel zz is barred at node 1"),
             (f"{TWO}&tab=adversary&dare=apart&dare=wrong", "dare (it is there twice)"),
@@ -149,8 +149,8 @@ class StudioAddresses(Page):
         ):
             self.go_to("example=petersen&tab=draw")
             self.sees("a network", "studio.net.nodes.length === 10 && studio.drawn.plan")
-            self.go_to(words)
+            self.go_to(address)
             got = f"document.getElementById('wrong').textContent.includes({json.dumps(said)})"
-            self.sees(f"the address {words}", got)
-            if "net=" in words and "tab=draw" in words:
+            self.sees(f"the address {address}", got)
+            if "net=" in address and "tab=draw" in address:
                 self.reads("the network is as it was", "studio.net.nodes.length", 10)

@@ -188,7 +188,7 @@ def answers_of_reactions() -> dict[tuple[int, str], int]:
         player.follow(["3", "2", "1"])
         while "inside" not in player.results.values():
             player.by_chance(1, f"{seed} {len(player.chosen)}", (), ())
-        first.update(v for v, words in player.results.items() if words == "inside")
+        first.update(v for v, result in player.results.items() if result == "inside")
     return {
         (8, "messages"): max(len(made) for made, _ in ends),
         (8, "all"): sum(results[1] == "counts 3" for _, results in ends),
@@ -438,9 +438,9 @@ class Cards(Page):
             key, code=key, windowsVirtualKeyCode=KEYS.get(key, ord(key[0].upper())), **more
         )
 
-    def type_in(self, on: str, words: str) -> None:
+    def type_in(self, on: str, text: str) -> None:
         self.press("End", on)
-        self.page.ask("Input.insertText", text=words)
+        self.page.ask("Input.insertText", text=text)
         self.press("Enter", on)
 
     def ticked(self, name: str) -> None:
@@ -803,12 +803,12 @@ class Cards(Page):
 
     def test_spoilt(self) -> None:
         """What somebody else has kept under the name of the ticks harms nothing."""
-        for words in ("{", "7", '{"a": 1}', "[7, null]", '["1.enough"]'):
-            self.value(f"localStorage.setItem('studio-ticks', {json.dumps(words)})")
+        for text in ("{", "7", '{"a": 1}', "[7, null]", '["1.enough"]'):
+            self.value(f"localStorage.setItem('studio-ticks', {json.dumps(text)})")
             self.open()
             self.go_to("lesson=1")
             self.step_to(1, 1)
-            self.reads(words, f"Boolean({TICKED})", words == '["1.enough"]')
+            self.reads(text, f"Boolean({TICKED})", text == '["1.enough"]')
         self.value("localStorage.removeItem('studio-ticks')")
 
     def test_lecture(self) -> None:

@@ -56,8 +56,8 @@ WHOSE = """(() => { const nodes = Array.from(document.querySelectorAll('#net .no
 class Opening(Page):
     def open_slowly(self, calls: str, milliseconds: int, place: str = "") -> None:
         """Opens the page anew, with some calls answered late."""
-        words = SLOW.replace("%r", f"/{calls}/").replace("%d", str(milliseconds))
-        script = self.page.ask("Page.addScriptToEvaluateOnNewDocument", source=words)
+        code = SLOW.replace("%r", f"/{calls}/").replace("%d", str(milliseconds))
+        script = self.page.ask("Page.addScriptToEvaluateOnNewDocument", source=code)
         self.page.go("about:blank")
         self.page.go(self.address + place)
         self.page.until("window.studio && studio.seen.hello")
@@ -143,14 +143,14 @@ class Opening(Page):
 
     def test_places_after_the_end(self) -> None:
         """An address that asks for more than there is is told so."""
-        for words, said in (
+        for address, said in (
             ("example=two&tab=rounds&at=99999999", "the last pulse is 18"),
             ("example=two&tab=run&seed=3&at=99999999", "the last stamp is"),
             ("example=two&example=path&tab=draw", "two networks"),
             ("net=0.0_90.0~1-2&tab=check&plan=1_2_3", "3 channels, and there are 2 nodes"),
         ):
-            self.go_to(words)
-            self.sees(words, f"wrong.textContent.includes({json.dumps(said)})", 20)
+            self.go_to(address)
+            self.sees(address, f"wrong.textContent.includes({json.dumps(said)})", 20)
         self.go_to("example=two&tab=rounds&at=18")
         self.sees("the end", "studio.time.at === 18")
         self.reads("is no fault", "wrong.textContent", "")
@@ -205,43 +205,45 @@ class Opening(Page):
         """What a network is too large for is named, with what to do; nothing is named that isn't there."""
         # The threads are named exactly if the programs are built.
         is_built = self.value("studio.seen.hello.proved")
-        for words, said in (
+        for address, said in (
             ("example=disk100&tab=run", "A run without a clock"),
             ("example=disk100&tab=adversary", "smaller example"),
             ("example=queen5_5&tab=run", "take the threads" if is_built else "smaller example"),
         ):
-            self.go_to(words)
-            self.sees(words, f"wrong.textContent.includes({json.dumps(said)}) && wrong.textContent")
+            self.go_to(address)
+            self.sees(
+                address, f"wrong.textContent.includes({json.dumps(said)}) && wrong.textContent"
+            )
             got = self.page.text("wrong")
             is_named = "take the threads" in got
-            self.note(f"{words}: threads only if built", is_named <= bool(is_built), got)
+            self.note(f"{address}: threads only if built", is_named <= bool(is_built), got)
 
     def test_no_backquotes(self) -> None:
         """What the server has between backquotes is code on the page."""
-        for words, place in (
+        for address, place in (
             ("example=two&tab=adversary&without=safes,acks&steps=1", "stepsaid"),
             ("net=0.0_90.0~1-2_1-2", "wrong"),
             ("example=two&tab=adversary&steps=x", "wrong"),
         ):
-            self.go_to(words)
-            self.sees(words, f"document.querySelector('#{place} code')", 20)
+            self.go_to(address)
+            self.sees(address, f"document.querySelector('#{place} code')", 20)
             said = self.page.text(place)
-            self.note(f"{words}: no backquote", "`" not in said, said)
+            self.note(f"{address}: no backquote", "`" not in said, said)
 
     def test_around_nodes(self) -> None:
         """No ring goes through a number, and no arrow ends below a ring."""
-        for words in (
+        for address in (
             "example=petersen&tab=rounds&at=15&node=1",
             "example=petersen&tab=rounds&at=14&node=3",
             "example=triangle&tab=rounds&at=13&node=1",
             "example=petersen&tab=draw&node=1",
             "example=petersen&tab=adversary&without=safes,acks",
         ):
-            self.go_to(words)
-            self.sees(words, "document.querySelector('#net .node circle[fill=none]')", 20)
+            self.go_to(address)
+            self.sees(address, "document.querySelector('#net .node circle[fill=none]')", 20)
             time.sleep(0.5)
-            self.reads(f"{words}: numbers", LABELS, [])
-            self.reads(f"{words}: arrows", ARROWS, [])
+            self.reads(f"{address}: numbers", LABELS, [])
+            self.reads(f"{address}: arrows", ARROWS, [])
 
     def make_path(self, nodes: int) -> None:
         self.go_to("tab=draw")
@@ -289,21 +291,21 @@ class Opening(Page):
 
     def test_impossible_dares(self) -> None:
         """A dare that nobody can win says so."""
-        for words, is_impossible in (
+        for address, is_impossible in (
             ("dare=apart", True),
             ("dare=wrong", True),
             ("dare=results", True),
             ("dare=ends", False),
             ("dare=apart&without=safes", False),
         ):
-            self.go_to(f"example=path&tab=adversary&{words}")
+            self.go_to(f"example=path&tab=adversary&{address}")
             self.sees(
-                words,
+                address,
                 "dared.textContent.includes('☐') && studio.steps.found && studio.steps.found.dare",
                 20,
             )
             said = self.page.text("dared")
-            self.same(f"{words}: {said}", "proved" in said, is_impossible)
+            self.same(f"{address}: {said}", "proved" in said, is_impossible)
 
     def test_zz_no_script_complained(self) -> None:
         self.same("no script complained", self.page.faults, [])
@@ -321,9 +323,9 @@ class Closed(Case):
         page = browser.Browser(program)
         self.addCleanup(page.end)
         place = address.partition("?")[0]
-        for name, words in (("no token", ""), ("a wrong token", "?token=wrong")):
+        for name, query in (("no token", ""), ("a wrong token", "?token=wrong")):
             page.go("about:blank")
-            page.go(f"{place}{words}#example=two")
+            page.go(f"{place}{query}#example=two")
             is_told = page.until(
                 "document.body && document.body.innerText.includes('forestlab studio')", 60
             )

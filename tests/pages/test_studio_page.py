@@ -165,10 +165,10 @@ class Page(Case):
         need(self, "a browser")
         self.value, self.click_on = self.page.value, self.page.click_on
 
-    def go_to(self, words):
+    def go_to(self, address):
         """Has the page follow an address, and waits until it has. Chromium ignores a change of the address after some
         200 in ten seconds, so it is made again until it is taken."""
-        place = json.dumps(words)
+        place = json.dumps(address)
         self.page.until(
             "(() => { const link = document.createElement('a'); link.href = location.href; "
             f"link.hash = {place}; location.hash = {place}; return location.hash === link.hash; }})()"
@@ -194,12 +194,12 @@ class Page(Case):
         """Clicks the box of a rule: it is left out, or no more."""
         self.value(f"document.querySelector('#{boxes} [value={rule}]').click()")
 
-    def reads(self, name, words, wanted):
+    def reads(self, name, code, wanted):
         """The row of a value on the page."""
-        self.same(name, self.value(words), wanted)
+        self.same(name, self.value(code), wanted)
 
-    def sees(self, name, words, seconds=40):
-        self.note(name, self.page.until(words, seconds), self.page.text("wrong"))
+    def sees(self, name, code, seconds=40):
+        self.note(name, self.page.until(code, seconds), self.page.text("wrong"))
 
 
 class Drawn(Page):
@@ -285,7 +285,7 @@ class Drawn(Page):
         self.sees(
             "a run", "studio.run.found && studio.run.found.judge && studio.net.nodes.length === 2"
         )
-        for what, words in (
+        for what, button in (
             ("network", "e 1 2"),
             ("transcript", "transcript 2 2"),
             ("rounds", "pulse by pulse"),
@@ -295,7 +295,7 @@ class Drawn(Page):
             self.page.choose("save", what)
             self.sees(f"{what} is saved", "kept.length")
             saved = self.value("kept[0].text()")
-            self.note(f"{what} is itself", words in saved, saved[:200])
+            self.note(f"{what} is itself", button in saved, saved[:200])
             if what in ("rounds", "run"):
                 self.note("it needs no server", not re.search(r'src="|href="(?!data:)', saved))
                 self.file(what + ".html", saved)
@@ -338,7 +338,7 @@ class Drawn(Page):
     def test_words(self):
         """What a screen reader is told of a node, and the arrows between the tabs."""
         label = "document.querySelector('#net [data-node=\"1\"]').getAttribute('aria-label')"
-        for words, wanted in (
+        for text, wanted in (
             ("example=two&tab=draw", "node 1: channel 1, neighbours 2"),
             ("example=two&tab=rounds&at=3&forest=0", "node 1: pulse 3, colour 1 in forest 0"),
             ("example=two&tab=rounds&at=18", "node 1: pulse 18, channel 1"),
@@ -347,8 +347,8 @@ class Drawn(Page):
             ("example=path&tab=rounds&program=layers&root=3&at=2", "node 1: pulse 2, layer 2 by 0"),
             ("net=0.0_90.0~1-2~n1-%E2%80%AEabc&tab=check", "node 1 \ufffdabc: no channel"),
         ):
-            self.go_to(words)
-            self.sees(words, f"{label} === {json.dumps(wanted)}")
+            self.go_to(text)
+            self.sees(text, f"{label} === {json.dumps(wanted)}")
         self.value("document.querySelector('[data-tab=draw]').focus()")
         self.page.key("ArrowLeft", code="ArrowLeft", windowsVirtualKeyCode=37)
         self.sees("an arrow from the first tab to the last", "studio.seen.tab === 'pictures'")
@@ -384,23 +384,23 @@ class Drawn(Page):
         self.page.size(1280, 800)
         self.page.tap(*self.at(1))
         self.value("document.querySelector('#chosen input').focus()")
-        for words in ("Oslo", "77"):
-            self.page.ask("Input.insertText", text=words)
+        for text in ("Oslo", "77"):
+            self.page.ask("Input.insertText", text=text)
             self.page.key("Tab", code="Tab", windowsVirtualKeyCode=9)
         named = "studio.net.nodes[0].name + studio.net.nodes[0].id"
         self.sees("Tab goes from field to field", f"{named} === 'Oslo77'")
 
     def test_widths(self):
         """Nothing is cut off or covered on a phone, on its side, and at 400 %."""
-        for words in SHOWN:
-            self.go_to(words)
-            self.sees(words, "document.getElementById('busy').hidden && studio.net.nodes.length")
+        for address in SHOWN:
+            self.go_to(address)
+            self.sees(address, "document.getElementById('busy').hidden && studio.net.nodes.length")
             for wide, high in ((360, 740), (740, 360), (320, 256), (1280, 800)):
                 self.page.size(wide, high, wide == 360 or high == 360)
                 time.sleep(0.4)
-                self.reads(f"{words} at {wide}", UNSEEN, [])
+                self.reads(f"{address} at {wide}", UNSEEN, [])
                 shown = self.value("document.documentElement.scrollWidth")
-                self.note(f"{words} at {wide}: no wider", shown <= wide, shown)
+                self.note(f"{address} at {wide}: no wider", shown <= wide, shown)
 
     def test_token(self):
         """A token counts when the server has taken it: a link with a wrong one harms no later one."""
@@ -708,8 +708,11 @@ class Drawn(Page):
         self.go_to("example=two&tab=check")
         self.sees("two nodes", "studio.net.nodes.length === 2 && studio.check.verdict")
         text = said_by("simulate", "two")[1]
-        for words, said in ((text.replace("ack 3", "ack 4", 1), "WrongWire"), (text, "whole run")):
-            self.page.choose("transcript", words)
+        for changed, said in (
+            (text.replace("ack 3", "ack 4", 1), "WrongWire"),
+            (text, "whole run"),
+        ):
+            self.page.choose("transcript", changed)
             self.click_on("#judged")
             self.sees(said, f"document.getElementById('judgement').textContent.includes('{said}')")
         self.click_on("#watchit")
@@ -718,12 +721,12 @@ class Drawn(Page):
     def test_files(self):
         """A file that is dropped is read, and what it doesn't say is asked."""
         self.go_to("tab=draw")
-        for name, words, seen in (
+        for name, text, seen in (
             ("x.col", "p edge 2 1\ne 1 3\n", "document.body.textContent.includes('(F5)')"),
             ("x.txt", "a,b\nOslo,Ulm\nUlm,Rom\n", "!document.getElementById('unsaid').hidden"),
         ):
             self.value(
-                f"(() => {{ const d = new DataTransfer(); d.items.add(new File([{json.dumps(words)}], "
+                f"(() => {{ const d = new DataTransfer(); d.items.add(new File([{json.dumps(text)}], "
                 f"'{name}')); document.dispatchEvent(new DragEvent('drop', {{dataTransfer: d, "
                 "cancelable: true})); })()"
             )
@@ -756,7 +759,7 @@ class Drawn(Page):
     def test_addresses(self):
         """What can't be read in an address is said, or left out, and the page goes on."""
         two = "net=0.0_90.0~1-2"
-        for words, said in (
+        for address, said in (
             ("net=0.0_90.0~1-1", "a wrong edge"),
             ("net=x", "a place is X.Y"),
             (two + "~n1-%E0", "stands for no letter"),
@@ -776,11 +779,11 @@ class Drawn(Page):
             ("example=disk100&tab=adversary", "at most 40"),
             (two + "&tab=rounds&at=2&node=1&broken=digit,root", ""),
         ):
-            self.go_to(words)
+            self.go_to(address)
             time.sleep(1)
             got = f"document.getElementById('wrong').textContent.includes({json.dumps(said)})"
             self.sees(
-                f"the address {words}",
+                f"the address {address}",
                 got if said else "!document.getElementById('wrong').textContent",
             )
 

@@ -36,7 +36,7 @@ def titles(root, *names):
     return [title(group) for group in marks(root, *names)]
 
 
-def words(root, name):
+def texts_of(root, name):
     """What is written in the texts of a class."""
     return [mark.text or "" for mark in marks(root, name)]
 

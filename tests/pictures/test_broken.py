@@ -47,8 +47,8 @@ class Broken(PictureCase):
     def test_broken(self):
         for name, rule in (("petersen", "pair"), ("disk100", "children"), ("queen5_5", "earlier")):
             rounds = RuledRounds(network_of(example(name)), [rule]).work_out()
-            words = [f"examples/{name}.col", "--without", rule]
-            self.rule_rows(f"{name} without {rule}", rounds, *words)
+            arguments = [f"examples/{name}.col", "--without", rule]
+            self.rule_rows(f"{name} without {rule}", rounds, *arguments)
 
     def rule_rows(self, name, rounds, *options):
         """Red in a merge are the edges of the forests merged whose ends have one channel, and no others."""

@@ -24,7 +24,7 @@ class Film(PictureCase):
     def groups(self, root: ElementTree.Element, kind: str) -> list[tuple[str, ElementTree.Element]]:
         """What is shown at a time, or moves, with the name of its moments."""
         found = [(group.get("class", "").split(), group) for group in root.iter(SVG + "g")]
-        return [(words[1], group) for words, group in found if words[:1] == [kind]]
+        return [(fields[1], group) for fields, group in found if fields[:1] == [kind]]
 
     def moments(self, text: str, name: str) -> list[tuple[float, str]]:
         """The steps of an animation: a part of the time, in percent, and what holds from then on."""

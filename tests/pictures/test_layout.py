@@ -21,7 +21,7 @@ from tests.pictures.marks import (
     parsed,
     shapes,
     title,
-    words,
+    texts_of,
 )
 
 NAMED = (
@@ -207,7 +207,7 @@ class Layout(PictureCase):
             ("run", "vertex-name", run, 2 * names),
         ):
             root = parsed(self.drawn(kind, NAMED, text=text))
-            self.same(f"names in {kind}", words(root, mark), wanted)
+            self.same(f"names in {kind}", texts_of(root, mark), wanted)
         page = self.drawn("player", NAMED)
         is_escaped = "Köln & \\u003cBon" in page and "<Bon" not in page and "\x1b" not in page
         self.note("names in a player are escaped", is_escaped, page[-900:])

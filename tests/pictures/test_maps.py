@@ -19,7 +19,7 @@ from tests.pictures.marks import (
     parsed,
     texts,
     titles,
-    words,
+    texts_of,
 )
 
 CHANNELS = ["#0072B2", "#E69F00", "#009E73", "#F0E442", "#CC79A7", "#56B4E9", "#D55E00", "#444444"]
@@ -103,8 +103,8 @@ class Maps(PictureCase):
             row("a vertex each", titles(root, "vertex"), said)
             row("hues and numbers", numbered(root, "channel"), circles("channel", plan))
             row("its edges", pairs_joined(root, "edge", places), net.edges)
-            row("labels", sorted(map(int, words(root, "number"))), [*plan])
-            row("crossed out", (numbered(root, "bar"), words(root, "more")), bars_of(net))
+            row("labels", sorted(map(int, texts_of(root, "number"))), [*plan])
+            row("crossed out", (numbered(root, "bar"), texts_of(root, "more")), bars_of(net))
             heading = " ".join(texts(root)[:3])
             row("it says what is crossed out", "barred" in heading, net.greatest_bars > 0)
             used = f": {len({*plan.values()})} of the {net.span + 1} allowed"
@@ -141,7 +141,7 @@ class Maps(PictureCase):
         every = [3 * facts.width] * len(drawn)
         if sum(every) > 40:
             every = [len({*turns_in(facts, f).values()}) for f in drawn]
-        row("columns of its merges", len(words(root, "old")), sum(every))
+        row("columns of its merges", len(texts_of(root, "old")), sum(every))
 
     def test_players(self):
         for name, network in PLAYED.items():

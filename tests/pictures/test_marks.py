@@ -56,8 +56,8 @@ class Marks(Case):
     def drawn(self) -> dict[str, list[list[dict]]]:
         """What the page's module draws."""
         need(self, "node")
-        for name, words in (("hues", pages.hues()), ("marks", pages.text_of("marks.js"))):
-            self.file(f"{name}.mjs", words.replace('"./hues.js"', '"./hues.mjs"'))
+        for name, code in (("hues", pages.hues()), ("marks", pages.text_of("marks.js"))):
+            self.file(f"{name}.mjs", code.replace('"./hues.js"', '"./hues.mjs"'))
         numbers = [str(one) for one in NUMBERS]
         asked = {"r": RADIUS, "channels": CHANNELS, "colours": list(COLOURS), "numbers": numbers}
         program, node = self.file("draw.mjs", DRAW), shutil.which("node")

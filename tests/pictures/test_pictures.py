@@ -106,14 +106,14 @@ class Pictures(PictureCase):
     def test_said_and_refused(self):
         """Nothing is drawn, and one line says why; of words that are refused it is the last one."""
         paths = {name: self.file(name, data) for name, data in FILES.items()}
-        for words, given, said in SAID:
-            status, picture, fault = painter(*words.format(**paths).split(), data=given)
-            self.same(f"{words} is drawn", (status, fault), (0, b""))
-            self.note(f"{words}: {said}", said in picture.decode(), picture)
-        for words, given, status, said in REFUSED:
-            found, picture, fault = painter(*words.format(**paths).split(), data=given)
+        for arguments, given, said in SAID:
+            status, picture, fault = painter(*arguments.format(**paths).split(), data=given)
+            self.same(f"{arguments} is drawn", (status, fault), (0, b""))
+            self.note(f"{arguments}: {said}", said in picture.decode(), picture)
+        for arguments, given, status, said in REFUSED:
+            found, picture, fault = painter(*arguments.format(**paths).split(), data=given)
             *others, last = fault.decode().splitlines(keepends=True)
-            name = f"refused: {words} < {given[:30]}"
+            name = f"refused: {arguments} < {given[:30]}"
             self.same(name, (found, picture), (status, b""))
             self.note(f"{name}: {said}", said in last and (status == 2 or not others), fault)
 

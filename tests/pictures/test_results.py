@@ -14,7 +14,7 @@ from tests.pictures.marks import (
     parsed,
     texts,
     titles,
-    words,
+    texts_of,
 )
 
 ROW, TRIANGLE = example("path"), example("triangle")
@@ -63,7 +63,7 @@ class Results(PictureCase):
             row, text = self.rows_of(program), " ".join(texts(root))
             titled = [f"node {v}: {end}" for v, end in enumerate(found, 1)]
             row("titles", titles(root, "vertex"), titled)
-            row("words", words(root, "found"), beside)
+            row("words", texts_of(root, "found"), beside)
             row("chosen edges", pairs_joined(root, "chosen", places), pairs)
             tips = [path for path in root.iter(f"{SVG}path") if path.get("fill") == INK]
             row("arrows", len(tips), arrows)

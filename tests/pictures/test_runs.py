@@ -6,7 +6,7 @@ from lab.definitions.nodes import last_pulse
 from lab.networks.network_text import network_of
 from tests.cases import example
 from tests.pictures.base import PictureCase, transcript
-from tests.pictures.marks import SVG, ends, marks, parsed, title, words
+from tests.pictures.marks import SVG, ends, marks, parsed, title, texts_of
 from tests.programs.made_transcripts import entries_of
 
 WIRES = ("payload", "ack", "safe", "close")
@@ -37,7 +37,7 @@ class Runs(PictureCase):
         self.whole_run_rows("chain6_slow", example("chain6"), example("chain6_slow.transcript"))
         for seed in range(4):
             text = transcript(example("triangle"), seed)
-            written = words(parsed(self.drawn("run", example("triangle"), text=text)), "words")
+            written = texts_of(parsed(self.drawn("run", example("triangle"), text=text)), "words")
             self.note(f"payloads of a triangle's run {seed} have their words", len(written) > 5)
 
     def whole_run_rows(self, name, network, text):

@@ -95,11 +95,11 @@ class Schedules(PictureCase):
         row("its columns", [right[x] for x in columns], [good[far] for far in shown])
         row("red marks", [wrong[x] for x in columns], [bad[far] for far in shown])
         last = max(+(good + bad))
-        words = " ".join(texts(root))
-        row("one end", "ends in one state" in words, not space.faults)
-        kinds = [words for words in texts(root) if words in FAR]
+        text = " ".join(texts(root))
+        row("one end", "ends in one state" in text, not space.faults)
+        kinds = [text for text in texts(root) if text in FAR]
         row("how far neighbours are", kinds, FAR[: max(2, apart_in(space, shown) + 1)])
-        part = f"{low} to {high} of {last}" in words
+        part = f"{low} to {high} of {last}" in text
         row("it says which part is drawn", part, (low, high) != (0, last))
         bold = sorted((*ends(group), title(group)) for group in marks(root, "bold"))
         row("the bold run is one", gaps_in(bold), [])

@@ -30,8 +30,8 @@ def read_by(reader, data, *more):
         return reader(data.decode("utf-8", "replace"), "it", *more)
     except Fault as why:
         said = found_in(r"^it(?: line (\d+))?: (.*) \((\w+)\)", str(why))
-        line, words, code = said.groups()
-    vertices = re.match(r"(vert\w+) (\d+)(?: and (\d+))?", words)
+        line, text, code = said.groups()
+    vertices = re.match(r"(vert\w+) (\d+)(?: and (\d+))?", text)
     if vertices and code[0] in "CN":
         raise Refusal(" ".join(filter(None, (code, *vertices.groups()))))
     raise Refusal(f"{code} line {line}" if line else code)

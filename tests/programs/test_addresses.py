@@ -261,8 +261,8 @@ def read_back(place):
     """(network, values) of an address, as the page gets them."""
     opened = opened_by(place, Session())
     opened.address.refuse()
-    words = json.dumps([opened.network, opened.address.values], default=as_object)
-    found = json.loads(words)
+    text = json.dumps([opened.network, opened.address.values], default=as_object)
+    found = json.loads(text)
     # How it is drawn isn't in an address.
     found[0].pop("bends")
     for node in found[0]["nodes"]:
@@ -429,7 +429,7 @@ class Links(Case):
         """A line that can't be read has a verdict, and those after it have theirs."""
         good = f"#{TWO}&dare=apart"
         fine = "not won: apart: 0 of 2 pulses apart, in 0 steps"
-        for line, words in (
+        for line, text in (
             ("http://[#dare=apart", "it has no network"),
             ("http://[", "`http://[` has no #"),
             ("x" * 3_000_000, "xxx..` has no #"),
@@ -450,7 +450,7 @@ class Links(Case):
             status, out, errors = said_by("studio", "--links", "-", data=data)
             said = out.splitlines()
             shown = (said[0] if said else "")[:300], status, errors
-            self.note(f"{line[:40]!a}", len(said) == 2 and words in said[0], shown)
+            self.note(f"{line[:40]!a}", len(said) == 2 and text in said[0], shown)
             self.note(f"{line[:40]!a}: the next one", said[1:] == [f"2: {fine}"], said[1:])
 
     def test_at_once(self):

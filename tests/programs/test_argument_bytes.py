@@ -62,8 +62,8 @@ class ArgumentBytes(Case):
             shutil.copy(b"examples/algorithms/independent_set.py", program)
             for line in COMMANDS.splitlines():
                 parts = {b"{bad}": BAD, b"{net}": net, b"{program}": program}
-                words = [replaced(word.encode(), parts) for word in line.split()]
-                status, _, errors = forestlab(*words, data=NETWORK)
+                arguments = [replaced(word.encode(), parts) for word in line.split()]
+                status, _, errors = forestlab(*arguments, data=NETWORK)
                 is_own_fault = status == 70 or b"a fault of this command itself" in errors
                 self.note(line, not is_own_fault, errors.decode(errors="replace"))
 

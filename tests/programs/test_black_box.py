@@ -138,10 +138,10 @@ class BlackBox(Case):
                 (SECOND_PLAN, ["plan", *alone], plan),
             ]
             rows += [] if is_large else [(PLAY, ["rounds"], rounds_text(net))]
-            for program, words, answer in rows:
+            for program, arguments, answer in rows:
                 self.same(
-                    f"{program} {' '.join(words)} of {name}",
-                    called(program, *words, data=network),
+                    f"{program} {' '.join(arguments)} of {name}",
+                    called(program, *arguments, data=network),
                     (0, answer, b""),
                 )
             verdict = f"proper {max(map(int, plan.split()[2::2]), default=0)}\n"
@@ -196,10 +196,10 @@ class BlackBox(Case):
                 (name, [word], f"unrecognized subcommand '{shown}'", "")
                 for word, shown in (("net.col", "net.col"), (b"\xff", "\N{REPLACEMENT CHARACTER}"))
             ]
-        for name, words, fault, usage in rows:
+        for name, arguments, fault, usage in rows:
             is_unknown = fault.startswith(("unexpected argument", "unrecognized subcommand"))
             said = f"{fault}||Usage: {usage or f'{name} <COMMAND>'}"
-            self.expect_refused(words, said, READS[name] * is_unknown, name)
+            self.expect_refused(arguments, said, READS[name] * is_unknown, name)
 
     def test_refused_values(self):
         """Values of options that are refused. Each text whole; it has no usage."""
@@ -224,10 +224,10 @@ class BlackBox(Case):
             fault = f"a value is required for '--{option} <{value}>' but none was supplied"
             self.expect_refused([it.name, f"--{option}"], fault, program=it.program)
 
-    def expect_refused(self, words, fault, hint="", program="forestplan"):
+    def expect_refused(self, arguments, fault, hint="", program="forestplan"):
         wanted = f"error: {fault}||For more information, try '--help'.|{hint}".replace("|", "\n")
-        done = called(PATHS[program], *words, data=text(TRIANGLE))
-        self.same(f"refused words {words} of {program}", done, (2, b"", wanted.encode()))
+        done = called(PATHS[program], *arguments, data=text(TRIANGLE))
+        self.same(f"refused words {arguments} of {program}", done, (2, b"", wanted.encode()))
 
     def test_streams(self):
         """A full device, and a pipe that nobody reads; tests/faults/test_streams.py breaks each write of each

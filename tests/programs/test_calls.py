@@ -173,8 +173,8 @@ class Calls(FilesCase):
         self.note(row[:300], found.kind != "fault", found.wrong)
 
     def names_it(self, row, field, found):
-        words = found.wrong or "an answer"
-        self.note(row[:300], found.kind == "refusal" and f"field {field}" in words, words[:2000])
+        text = found.wrong or "an answer"
+        self.note(row[:300], found.kind == "refusal" and f"field {field}" in text, text[:2000])
 
     def test_all_are_here(self):
         """Each field of each call is in a call of the list, and each call of the list is good."""
@@ -223,8 +223,8 @@ class Calls(FilesCase):
             for field in defaults.keys() & asked:
                 less = {other: value for other, value in asked.items() if other != field}
                 found, wanted = (
-                    self.outcome(name, text_of(words))
-                    for words in (less, less | {field: defaults[field]})
+                    self.outcome(name, text_of(fields))
+                    for fields in (less, less | {field: defaults[field]})
                 )
                 self.same(f"{name} without {field}", found, wanted)
 
@@ -258,8 +258,8 @@ class Calls(FilesCase):
         """A field that is there twice is named, and one whose value is doubled is no fault."""
         for name, asked in GOOD:
             for field, value in asked.items():
-                words = text_of(asked)[:-1] + b", " + text_of({field: value})[1:]
-                found = self.outcome(name, words)
+                text = text_of(asked)[:-1] + b", " + text_of({field: value})[1:]
+                found = self.outcome(name, text)
                 self.names_it(f"{name} with two {field}", field, found)
                 if isinstance(value, (str, list)):
                     found = self.outcome(name, text_of(asked | {field: value * 2}))
@@ -274,9 +274,11 @@ class Calls(FilesCase):
                 mock.patch.object(runs, "text_from") as called,
             ):
                 runs.by_threads(call, COLOURING, Session(is_proved=True))
-            words = called.call_args.args[1]
+            arguments = called.call_args.args[1]
             self.same(
-                f"{usable} processors", words, ["transcript", f"--workers={wanted}", "--capacity=2"]
+                f"{usable} processors",
+                arguments,
+                ["transcript", f"--workers={wanted}", "--capacity=2"],
             )
 
     def test_unknown(self):

@@ -144,11 +144,11 @@ class Codes(Case):
         )
 
     def test_what_is_no_code(self):
-        for words, wanted, said in (
+        for arguments, wanted, said in (
             (["C9"], 1, "network: C9: No such file or directory\n"),
             (["C8", "and", "C9"], 2, "one FILE, or a code and where it is, as `C8 vertex 1`\n"),
         ):
-            self.refusal(" ".join(words), tell(*words), wanted, said)
+            self.refusal(" ".join(arguments), tell(*arguments), wanted, said)
 
     def test_a_file_of_that_name(self):
         self.file("C8", "p edge 2 1\ne 1 2\n")
@@ -168,7 +168,7 @@ def reported():
 class Faults(Case):
     def test_what_the_programs_report(self):
         """The program's line of a fault, given as it stands, is told in words with its place."""
-        for command, data, fault, words in reported():
+        for command, data, fault, sentence in reported():
             program = PROGRAM_OF[command]
             more = ("--turns", "0") if fault == "stopped" else ()
             line = f"{program}: {fault}"
@@ -184,5 +184,5 @@ class Faults(Case):
                 status, said, errors = tell(*given)
                 name, first = f"tell {' '.join(given)}", said.split("\n")[0]
                 self.same(f"{name}: ends", (status, errors), (0, ""))
-                self.note(f"{name}: what and where", words in first and place in first, said)
+                self.note(f"{name}: what and where", sentence in first and place in first, said)
                 self.note(f"{name}: here", not here or f"\nhere: {here}\n" in said, said)

@@ -62,12 +62,12 @@ TYPED = {
 def typed(shell, folder):
     """What a terminal shows where each line is typed in a folder, completed by Tab, and then printed: before it, after
     the key that goes to its beginning, the command that prints its words is typed."""
-    words, begin = SHELLS[shell]
+    command, begin = SHELLS[shell]
     ours, its = pty.openpty()
     lines = "".join(f"{line}\t\x01printf '<%s> ' \n" for line in TYPED)
     env = dict(os.environ, TERM="dumb")
     with subprocess.Popen(
-        words.split(),
+        command.split(),
         stdin=its,
         stdout=its,
         stderr=its,
@@ -90,9 +90,9 @@ def typed(shell, folder):
 def listed(line: str) -> set[str]:
     """The words that the refusal of another one lists."""
     said = called("bash", "-c", f"bin/{line} nothing", cwd=TOP)[2]
-    words = said.decode().split("\n\nFor more")[0].rpartition(": ")[2]
-    words = re.sub(r".*some of |.*there are |.*choose from |, and a file.*", "", words)
-    return set(re.findall(r"[\w-]+", words))
+    names = said.decode().split("\n\nFor more")[0].rpartition(": ")[2]
+    names = re.sub(r".*some of |.*there are |.*choose from |, and a file.*", "", names)
+    return set(re.findall(r"[\w-]+", names))
 
 
 def completed(script: str, line: str) -> tuple[set[str], bytes]:
@@ -101,8 +101,8 @@ def completed(script: str, line: str) -> tuple[set[str], bytes]:
         'source "$0"; COMP_WORDS=("$@") COMP_CWORD=$(($# - 1)); _forestlab; '
         'printf "%s\\n" "${COMPREPLY[@]}"'
     )
-    _, words, said = called("bash", "-c", shell, script, *line.split(), "")
-    return set(words.decode().split()), said
+    _, words_said, said = called("bash", "-c", shell, script, *line.split(), "")
+    return set(words_said.decode().split()), said
 
 
 class Commands(Case):
@@ -142,7 +142,7 @@ class Commands(Case):
             "the commands of forestlab", {script.name.split()[0] for script in SCRIPTS}, set(OF_LAB)
         )
         found = completion.helps(os.path.join(TOP, "bin"), "forestlab")
-        below = [(" ".join(words), text) for words, text, _ in found if len(words) > 2]
+        below = [(" ".join(arguments), text) for arguments, text, _ in found if len(arguments) > 2]
         for name, text in below:
             self.note(f"{name} --help has an example", f"{name} " in text.partition("\nExample")[2])
         self.note("commands below others", len(below) > 26, below)
@@ -155,19 +155,19 @@ class Commands(Case):
     def test_output(self):
         """-o writes to a file, and leaves the one that was there if it can't, or if something is wrong."""
         path, run = os.path.join(self.folder, "made"), forestlab("simulate", "two")[1]
-        for words, data in (
+        for arguments, data in (
             (["network", "path", "3"], b""),
             (["transcript", "check", "two", "-"], run),
             (["sheet", "--lesson", "1"], b""),
             (["channels", "7"], b"plan\n1 1\n"),
         ):
-            wanted, done = (forestlab(*words, *more, data=data) for more in ((), ("-o", path)))
-            self.same(f"{words} -o", (*done[:2], contents(path)), (0, b"", wanted[1]))
-        for words, said in (
+            wanted, done = (forestlab(*arguments, *more, data=data) for more in ((), ("-o", path)))
+            self.same(f"{arguments} -o", (*done[:2], contents(path)), (0, b"", wanted[1]))
+        for arguments, said in (
             (["picture", "rounds", "nowhere"], b"picture: nowhere: No such file"),
             (["network", "tell", "path0"], b"network: NODES is 0"),
         ):
-            self.refusal(f"{words} -o", forestlab(*words, "-o", path), 1, said)
+            self.refusal(f"{arguments} -o", forestlab(*arguments, "-o", path), 1, said)
             self.same("what was there is left", contents(path), b"plan\n1 7\n")
         done = forestlab("network", "path", "3", "-o", os.path.join(self.folder, "no", "folder"))
         self.refusal("-o in no folder", done, 1, b"No such file or directory")
@@ -176,9 +176,9 @@ class Commands(Case):
     def test_names_of_networks(self):
         """A name means the same network in each command."""
         given = os.path.join(TOP, "examples", "petersen.col")
-        for words in (["picture", "rounds"], ["simulate"], ["network", "number"]):
-            done, wanted = (forestlab(*words, it) for it in ("petersen", given))
-            self.same(f"{words} of a name", done[:2], (0, wanted[1]))
+        for arguments in (["picture", "rounds"], ["simulate"], ["network", "number"]):
+            done, wanted = (forestlab(*arguments, it) for it in ("petersen", given))
+            self.same(f"{arguments} of a name", done[:2], (0, wanted[1]))
         for name, nodes in (("path5", 5), ("grid3x4", 12), ("queen5x5", 25)):
             done = forestlab("network", "tell", name)
             self.note(f"network tell {name}", done[1].startswith(b"nodes: %d\n" % nodes), done)
@@ -210,6 +210,6 @@ class Commands(Case):
                 need(self, shell.split()[0])
                 said = typed(shell, self.folder)
                 for line, wanted in TYPED.items():
-                    words = wanted.replace(" <net>", "\0").split(" ")
-                    shown = "".join(f"<{word}> " for word in words).replace("\0", " <net>")
+                    fields = wanted.replace(" <net>", "\0").split(" ")
+                    shown = "".join(f"<{word}> " for word in fields).replace("\0", " <net>")
                     self.note(f"{shell}: {line}", f"{shown}" in said, said)

@@ -72,4 +72,4 @@ class Constructors(FilesCase):
         ):
             sequel = RuledSequel(EDGE, (), MATCHING)
             with self.assertRaisesRegex(AssertionError, "runs"):
-                sequel.words()
+                sequel.sentence()

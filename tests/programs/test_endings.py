@@ -37,18 +37,18 @@ class Endings(Case):
             ("bin/forestlab", ["--version"]),
             ("bin/forestlab", ["network", "path", "3"]),
         ]
-        for name, words in scripts:
+        for name, arguments in scripts:
             for where, said in (
                 (">/dev/full", rb"\w+: .*No space left on device\n"),
                 (">&-", rb"\w+: .*Bad file descriptor\n"),
             ):
-                done = self.redirected(where, os.path.join(TOP, name), *words)
+                done = self.redirected(where, os.path.join(TOP, name), *arguments)
                 good = done[0] == 1 and re.fullmatch(said, done[2])
-                self.note(f"{name} {words} {where}", good, done)
+                self.note(f"{name} {arguments} {where}", good, done)
         # The reader has gone before anything is written, or after a line of much more.
-        for name, words in scripts:
-            _, _, fault = self.redirected("| exec true", os.path.join(TOP, name), *words)
-            self.same(f"{name} {words} without a reader", fault, b"")
+        for name, arguments in scripts:
+            _, _, fault = self.redirected("| exec true", os.path.join(TOP, name), *arguments)
+            self.same(f"{name} {arguments} without a reader", fault, b"")
         done = ended('set -o pipefail; "$0" network random 2000 100000 | head -1', FORESTLAB)
         self.note("a reader that goes", done[::2] == (0, b"") and done[1].count(b"\n") == 1, done)
         for data, wanted in (("", (1, b"")), ("p edge 2 1\ne 1 2\n", (0, b"p edge 2 1\ne 1 2\n"))):
@@ -57,12 +57,12 @@ class Endings(Case):
 
     def test_inputs(self):
         """An input that is closed, or a folder, is one line; it is closed for Python, which wouldn't start with one."""
-        for name, words in (("network", ["read", "-"]), ("transcript", ["check", TRIANGLE])):
+        for name, arguments in (("network", ["read", "-"]), ("transcript", ["check", TRIANGLE])):
             for where in ("<&-", f"<{TOP}"):
-                status, out, fault = self.redirected(where, FORESTLAB, name, *words)
+                status, out, fault = self.redirected(where, FORESTLAB, name, *arguments)
                 line = rb"%s: (-|standard input): Bad file descriptor\n" % name.encode()
                 self.note(
-                    f"{name} {words} {where}",
+                    f"{name} {arguments} {where}",
                     (status, out) == (1, b"") and re.fullmatch(line, fault),
                     fault,
                 )
@@ -124,10 +124,10 @@ class Endings(Case):
             good = done[:2] == (status, out) and done[2].count(b"\n") == status
             self.note(f"ulimit {limit}", good, done)
 
-    def begun(self, name, words):
+    def begun(self, name, arguments):
         # A shell has what it runs in the background ignore SIGINT.
         return subprocess.Popen(
-            [FORESTLAB, name, *words],
+            [FORESTLAB, name, *arguments],
             stdin=subprocess.PIPE,
             stdout=subprocess.PIPE,
             stderr=subprocess.PIPE,
@@ -168,12 +168,14 @@ class Endings(Case):
     def test_words(self):
         """The doors themselves, without a command, or with one that there isn't."""
         for folder, said in (("lab", "forestlab: "), ("build", "build: one of these is wanted: ")):
-            for words in ((), ("nothing",)):
+            for arguments in ((), ("nothing",)):
                 done = subprocess.run(
-                    [sys.executable, os.path.join(TOP, folder), *words],
+                    [sys.executable, os.path.join(TOP, folder), *arguments],
                     capture_output=True,
                     text=True,
                 )
                 self.note(
-                    f"{folder} {words}", done.returncode == 2 and done.stderr.startswith(said), done
+                    f"{folder} {arguments}",
+                    done.returncode == 2 and done.stderr.startswith(said),
+                    done,
                 )

@@ -207,11 +207,11 @@ class FileAttacks(Case):
 
     def test_words(self) -> None:
         """What a node finds is printed, so it is a line that can be written."""
-        for words in ("'a\\rb'", "'\\u2028'", "'\\ud800'", "'a\\n'"):
-            path = self.file("words.py", ROUNDS.format(sent="None", result=words))
+        for text in ("'a\\rb'", "'\\u2028'", "'\\ud800'", "'a\\n'"):
+            path = self.file("words.py", ROUNDS.format(sent="None", result=text))
             done = said_by("explore", "path2", "--program", path)
-            said = f"`result` returns {words}: it must be words on one line"
-            self.refusal(words, done, 1, said)
+            said = f"`result` returns {text}: it must be words on one line"
+            self.refusal(text, done, 1, said)
 
     def test_caught(self) -> None:
         """A call that doesn't end, and catches what ends it, ends the command."""

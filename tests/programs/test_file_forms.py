@@ -80,10 +80,10 @@ class Stated(Case):
         )
         return done.returncode, done.stdout, done.stderr
 
-    def networks(self, words):
+    def networks(self, arguments):
         """What the commands write that the refusal of these words names, and those that it names below them."""
-        status, _, said = self.shell(f"forestlab network read {words}")
-        self.note(f"{words} is refused", status == 1, said)
+        status, _, said = self.shell(f"forestlab network read {arguments}")
+        self.note(f"{arguments} is refused", status == 1, said)
         found = []
         for lines in commands_in(said):
             done = self.shell(" && ".join(lines))
@@ -94,17 +94,17 @@ class Stated(Case):
         return found
 
     def test_commands(self):
-        for files, words, count in ASKED:
+        for files, arguments, count in ASKED:
             shutil.rmtree(self.folder)
             os.mkdir(self.folder)
             for name, data in files.items():
                 self.file(name, data)
-            with self.subTest(words):
+            with self.subTest(arguments):
                 for tool in needed_by(files):
                     need(self, tool)
-                found = self.networks(words)
+                found = self.networks(arguments)
                 good = [text for text in found if joined(text) == EDGE]
-                self.note(f"{files} {words}", len(good) == count, found)
+                self.note(f"{files} {arguments}", len(good) == count, found)
 
     def test_matrix_market(self):
         """The matrix's rows by their numbers."""

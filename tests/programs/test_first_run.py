@@ -205,13 +205,13 @@ class FirstRun(Case):
     def run_unbuilt(self, tree):
         """Before anything is built help is the stored text, and Python refuses a program that isn't built, and draws
         rounds, and a plan that it says isn't the program's."""
-        for script, words, name in (
+        for script, arguments, name in (
             (f"{tree.top}/forestplan", ["--help"], "forestplan"),
             (f"{tree.top}/forestplan", ["plan", "-h"], "forestplan-plan"),
             (f"{TOP}/try", ["rounds", "--help"], "forestplay-rounds"),
         ):
             wanted = text_in("lab", "help", f"{name}.txt")
-            self.same(f"{script} {words}", tree.run(script, *words), (0, wanted, ""))
+            self.same(f"{script} {arguments}", tree.run(script, *arguments), (0, wanted, ""))
         for line in (
             "./forestplan plain --help >/dev/full",
             "./forestplan plain --help >&-",
@@ -226,8 +226,8 @@ class FirstRun(Case):
             ("plan", 0, True, "picture: forestplan isn't built, so "),
             ("run", 1, False, "picture: forestplan isn't built: a first call of it"),
         ):
-            words = [sys.executable, "-S", "lab", "picture", kind, "-"]
-            done = tree.run(*words, given="p edge 2 1\ne 1 2\n")
+            arguments = [sys.executable, "-S", "lab", "picture", kind, "-"]
+            done = tree.run(*arguments, given="p edge 2 1\ne 1 2\n")
             good = (done[0], done[1].startswith("<svg ")) == (status, is_drawn)
             self.note(
                 f"picture {kind} where nothing is built",
@@ -445,10 +445,14 @@ class FirstRun(Case):
         """A build without a run."""
         tree.source("middle", "built alone")
         before = os.stat(tree.program).st_ino
-        for words, status, is_new in ((["--ask"], 1, False), ([], 0, True), (["--ask"], 0, True)):
-            done = tree.build("program", *words, "forestplan")
+        for arguments, status, is_new in (
+            (["--ask"], 1, False),
+            ([], 0, True),
+            (["--ask"], 0, True),
+        ):
+            done = tree.build("program", *arguments, "forestplan")
             good = (*done[:2], os.stat(tree.program).st_ino != before) == (status, "", is_new)
-            self.note(f"build program {words}, which doesn't run it", good, done)
+            self.note(f"build program {arguments}, which doesn't run it", good, done)
 
     def run_kits(self, tree):
         """Nothing is said of a kit that fits. Another kit, or a command that says none, is named before proofs begin;

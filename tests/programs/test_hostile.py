@@ -146,7 +146,7 @@ def refusal_of(net, data, program):
 
 @needs("forestplan", "forestplay", "cc")
 class Hostile(Case):
-    def answers(self, words, texts):
+    def answers(self, arguments, texts):
         """The status (or minus the signal that ended it), standard output and errors of a call with each text. The
         program is loaded once, and forked before its main for each text (run_each.c)."""
         front = build_front(self.folder, "run_each")
@@ -155,7 +155,7 @@ class Hostile(Case):
             given.flush()
             files = given.fileno(), made.fileno()
             env = {"LD_PRELOAD": front, "TEXTS": str(files[0]), "ANSWERS": str(files[1])}
-            subprocess.run(words, pass_fds=files, stdin=subprocess.DEVNULL, env=env, check=True)
+            subprocess.run(arguments, pass_fds=files, stdin=subprocess.DEVNULL, env=env, check=True)
             made.seek(0)
             for _ in texts:
                 status, output, errors = HEAD.unpack(made.read(HEAD.size))

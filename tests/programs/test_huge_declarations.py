@@ -43,8 +43,8 @@ class Declared(Case):
         for command, text, said in rows:
             name = next(word for word in command.split() if word.startswith("net."))
             path = self.file(name, text)
-            words = [path if word == name else word for word in command.split()]
-            done = forestlab(*words, preexec_fn=limited, limit=100)
+            arguments = [path if word == name else word for word in command.split()]
+            done = forestlab(*arguments, preexec_fn=limited, limit=100)
             self.refusal(f"{command}: {text[:40]!r}", done, 1, said.encode())
             self.same(f"{command}: {text[:40]!r}, lines", done[2].count(b"\n"), 1)
 

@@ -270,8 +270,8 @@ class InPython(Case):
         for unit, columns in (("degrees", "lat,lon"), ("km", "x_km,y_km"), ("m", "x_m,y_m")):
             rows = [(name, *(place or ("", ""))) for name, place in SITES.items()]
             table = f"site,{columns}\n" + "".join("{},{},{}\n".format(*row) for row in rows)
-            words = ("network", "read", "--sites", "-", "--reach", 1.5)
-            wanted = network_of(forestlab(*words, data=table.encode())[1])
+            arguments = ("network", "read", "--sites", "-", "--reach", 1.5)
+            wanted = network_of(forestlab(*arguments, data=table.encode())[1])
             got = forestplan.sites(SITES, 1.5, unit)
             network = network_of(forestplan.text_of(got)[0].encode())
             for fact in ("names", "edges", "places"):
@@ -282,9 +282,9 @@ class InPython(Case):
         letter."""
         for (call, kind), rows in REFUSED.items():
             for row in rows:
-                words, *given = row
+                arguments, *given = row
                 why = self.refused(kind, functools.partial(call, *given))
-                self.note(words, words in str(why) and type(why) is kind, why)
+                self.note(arguments, arguments in str(why) and type(why) is kind, why)
 
     @needs("bin/forestplan", "bin/forestplay")
     def test_refused(self):
@@ -299,8 +299,8 @@ class InPython(Case):
         for code, nodes, call in faults:
             why = self.refused(forestplan.Refused, call)
             self.same(f"{code}: its code and nodes", (why.code, why.nodes), (code, nodes))
-            words = f"{' and '.join(map(repr, nodes))} "
-            self.note(f"{code}: its words", words in str(why), why)
+            names = f"{' and '.join(map(repr, nodes))} "
+            self.note(f"{code}: its words", names in str(why), why)
             for same in (pickle.loads(pickle.dumps(why)), copy.copy(why)):
                 self.same(f"{code}: copied", (str(same), vars(same)), (str(why), vars(why)))
 
@@ -330,13 +330,13 @@ class InPython(Case):
         got = forestplan.rounds(SQUARE)
         lines = []
         for at, phase, messages, states in got:
-            rows = [(NUMBER[node], words) for node, words in states]
+            rows = [(NUMBER[node], state) for node, state in states]
             rows += [
                 (NUMBER[one], f"put {NUMBER[other]} payload {at} {word} {value}")
                 for one, other, word, value in messages
             ]
             rows.sort(key=itemgetter(0))
-            lines += [f"pulse {at} {phase}", *(f"{v} {words}" for v, words in rows)]
+            lines += [f"pulse {at} {phase}", *(f"{v} {state}" for v, state in rows)]
         self.same("the rounds", lines, got.text.splitlines()[1:])
 
     def test_workers(self):

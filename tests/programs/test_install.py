@@ -29,11 +29,11 @@ OWN = {name: word for name, word in os.environ.items() if not name.startswith("P
 ENVIRONMENT = OWN | {"COLUMNS": "80"}
 
 
-def run(words, data=b"", most=None, **more):
+def run(arguments, data=b"", most=None, **more):
     """The status and both outputs of a call, of which each file may be so large at most."""
     if most:
         more["preexec_fn"] = lambda: resource.setrlimit(resource.RLIMIT_FSIZE, (most, most))
-    return called(*words, data=data, limit=LIMIT, **{"env": ENVIRONMENT} | more)
+    return called(*arguments, data=data, limit=LIMIT, **{"env": ENVIRONMENT} | more)
 
 
 def all_of(folder):
@@ -187,7 +187,9 @@ class Install(FolderCase):
                 name if title == "DESCRIPTION" else title.lower(): said
                 for title, said in lines_of_page(page).items()
             }
-            wanted = {" ".join(words): said for words, said, _ in completion.helps(there, name)}
+            wanted = {
+                " ".join(arguments): said for arguments, said, _ in completion.helps(there, name)
+            }
             self.same(f"the manual page of {name}", blocks, wanted)
             purpose = re.search(rf"^\.SH NAME\n{name} \\- [a-z][^\n]*[a-z]$", page, re.M)
             self.note(f"the purpose of {name}", purpose, page)
@@ -213,8 +215,10 @@ class Install(FolderCase):
             (TOP,),
             (os.path.join(TOP, "docs", "new"),),
         )
-        for words in refused:
-            self.refusal(f"install {words}", run([*self.script, *words]), 2, b"install: error: ")
+        for arguments in refused:
+            self.refusal(
+                f"install {arguments}", run([*self.script, *arguments]), 2, b"install: error: "
+            )
         self.same("what was there", os.listdir(clash), ["lib"])
 
     @needs("bin/forestplan", "bin/forestplay")
@@ -318,7 +322,7 @@ class Install(FolderCase):
             "one user": (system, ["--user"], {"PYTHONUSERBASE": room}),
             "all users": (alone, [], {}),
         }
-        python, words, settings = ways[way]
+        python, arguments, settings = ways[way]
         os.mkdir(room)
         if inside in python:
             run([sys.executable, "-m", "venv", "--without-pip", "--system-site-packages", room])
@@ -328,7 +332,7 @@ class Install(FolderCase):
             self.skipTest(f"pip of {python[-1]} isn't installed")
         of_pip = ("PIP_NO_INDEX", "PIP_NO_COMPILE", "PIP_BREAK_SYSTEM_PACKAGES")
         env = ENVIRONMENT | settings | dict.fromkeys(of_pip, "1")
-        got = run([*pip, "install", *words, self.target], env=env)
+        got = run([*pip, "install", *arguments, self.target], env=env)
         self.assertEqual(got[0], 0, got)
         code = (
             "import importlib.metadata as it, forestplan; plan = forestplan.plan({1: [2], 2: []}); "
@@ -380,9 +384,9 @@ class Install(FolderCase):
         version = contents(os.path.join(self.target, "VERSION")).decode()
         lines = r"forestplan \d+\.\d+\.\d+\ncommit [^\n]+\nkit rattle-kit-[^\n]+\n(built where rt is of [^\n]+\n)?"
         self.note("VERSION", re.fullmatch(lines, version), version)
-        for words in (*([name] for name in NAMES), ["forestlab", "network"]):
-            got = run([os.path.join(self.target, "bin", words[0]), *words[1:], "--version"])
-            self.same(f"{words} --version", got, (0, version.encode(), b""))
+        for arguments in (*([name] for name in NAMES), ["forestlab", "network"]):
+            got = run([os.path.join(self.target, "bin", arguments[0]), *arguments[1:], "--version"])
+            self.same(f"{arguments} --version", got, (0, version.encode(), b""))
         sums = contents(os.path.join(self.target, "SHA256SUMS")).decode()
         self.note(
             "the programs have sums", all(f"  lib/{name}\n" in sums for name in PROGRAMS), sums

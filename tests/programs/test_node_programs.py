@@ -259,9 +259,9 @@ class Programs(Case):
     def test_words(self):
         """Only one program takes each option, given once."""
         for command in (it.name for it in commands_of("forestplay")):
-            for words, said in WRONG:
-                done = called(PLAY, command, *words.split())
-                self.refusal(f"{command} {words}", done, 2, said.encode())
+            for arguments, said in WRONG:
+                done = called(PLAY, command, *arguments.split())
+                self.refusal(f"{command} {arguments}", done, 2, said.encode())
         self.same(
             "no turns",
             play("run", "leader", "--turns", 0, data=EDGE),

@@ -24,9 +24,9 @@ class OldPython(Case):
             with self.subTest(path):
                 ast.parse(text_in(path), path, feature_version=(3, 8))
 
-    def as_old(self, words: str) -> tuple[int, bytes, bytes]:
+    def as_old(self, arguments: str) -> tuple[int, bytes, bytes]:
         environment = os.environ | {"PYTHONPATH": os.path.join(TOP, PYTHON)}
-        return called(sys.executable, "-S", "-c", AS_OLD + words, cwd=TOP, env=environment)
+        return called(sys.executable, "-S", "-c", AS_OLD + arguments, cwd=TOP, env=environment)
 
     def test_commands(self):
         for folder, name in (("lab", "forestlab"), ("build", "build")):

@@ -279,8 +279,8 @@ class OwnAlgorithms(Case):
 
     def test_chance(self):
         """Chance by the seed is the same in the rounds and in each order, and the seed is named."""
-        for seed, words in (("1", ()), ("other", ("--lots", "other"))):
-            status, said, _ = self.told(DRAWS, *words)
+        for seed, arguments in (("1", ()), ("other", ("--lots", "other"))):
+            status, said, _ = self.told(DRAWS, *arguments)
             good = status == 0 and f"of the draws of --lots {seed} alone\n" in said
             self.note(f"me.random by {seed}", good and "one end" in said, said)
         self.note("another seed", said != self.told(DRAWS)[1])
@@ -395,12 +395,12 @@ class OwnAlgorithms(Case):
         path = self.file("right.py", RIGHT)
         done = said_by("explore", "--program", path, "--networks", "60", "--connected")
         self.same("a right one", done, (0, "right on 60 networks of up to 12 nodes\n", ""))
-        for words, status, said in (
+        for arguments, status, said in (
             (["--networks", "9", "--program", self.file("flood.py", FLOOD)], 1, "has none"),
             (["--networks", "0", "--program", path], 2, "no number from 1 to"),
             (["two", "--connected"], 2, "--connected is for --networks"),
         ):
-            self.refusal(" ".join(words[:2]), said_by("explore", *words), status, said)
+            self.refusal(" ".join(arguments[:2]), said_by("explore", *arguments), status, said)
 
     def test_messages(self):
         """One token walks along a row: held, or under way; a second one is found at once."""

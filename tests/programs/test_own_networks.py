@@ -188,20 +188,20 @@ class OwnNetworks(Case):
         return text
 
     def test_kinds(self):
-        for words, nodes, edges, least, most in KINDS:
-            text = self.written(*words.split())
+        for arguments, nodes, edges, least, most in KINDS:
+            text = self.written(*arguments.split())
             net = network_of(text)
             degrees = [len(ws) for ws in net.neighbours.values()]
-            self.same(f"{words}: nodes and edges", (net.nodes, len(net.edges)), (nodes, edges))
+            self.same(f"{arguments}: nodes and edges", (net.nodes, len(net.edges)), (nodes, edges))
             good = least in (None, min(degrees)) and most in (None, max(degrees))
             self.note(
-                f"{words} has its numbers of neighbours, and says how it was made",
-                good and text.startswith(f"c Made by forestlab network {words}".encode()),
+                f"{arguments} has its numbers of neighbours, and says how it was made",
+                good and text.startswith(f"c Made by forestlab network {arguments}".encode()),
                 text[:80],
             )
-            if words.split()[0] not in ("tree", "random"):
-                self.same(f"{words}: places", sorted(net.places), list(net.vertices))
-            if words.startswith("tree"):
+            if arguments.split()[0] not in ("tree", "random"):
+                self.same(f"{arguments}: places", sorted(net.places), list(net.vertices))
+            if arguments.startswith("tree"):
                 before = sorted(w for _, w in net.edges)
                 self.same("each node but the first has one before it", before, [*range(2, 20001)])
         for name, kind in (("queen5_5", ("queen", 5, 5)), ("star", ("star", 9))):
@@ -225,7 +225,7 @@ class OwnNetworks(Case):
 
     def test_wishes(self):
         """Networks by chance with wishes are as they are wished, and other seeds give others."""
-        for words, wanted in (
+        for arguments, wanted in (
             ("8 9 --connected --neighbours 3 --forests 2", (True, 3, 2)),
             ("20 20 --neighbours 4", (None, 4, None)),
             ("20 20 --forests 3", (None, None, 3)),
@@ -234,34 +234,36 @@ class OwnNetworks(Case):
         ):
             found = []
             for seed in range(1, 5):
-                net = network_of(self.written("random", *words.split(), "--seed", seed))
-                nodes, edges = map(int, words.split()[:2])
+                net = network_of(self.written("random", *arguments.split(), "--seed", seed))
+                nodes, edges = map(int, arguments.split()[:2])
                 there = len(reached(net, 1)) == nodes, net.greatest_degree, net.forest_count
                 good = all(wish in (None, is_so) for wish, is_so in zip(wanted, there))
                 sizes = net.nodes, len(net.edges)
-                self.note(f"random {words}, seed {seed}", good and sizes == (nodes, edges), there)
+                self.note(
+                    f"random {arguments}, seed {seed}", good and sizes == (nodes, edges), there
+                )
                 found.append(net.edges)
             differ = found[0] != found[1] or not edges
-            self.note(f"random {words}: the seeds differ", differ, found)
+            self.note(f"random {arguments}: the seeds differ", differ, found)
 
     def test_seeds(self):
         """A seed is the same again, whatever the order of sets is, and another is another."""
-        for words in ("tree 50", "disk 50", "random 50 100"):
+        for command in ("tree 50", "disk 50", "random 50 100"):
             one, again, other = (
-                forestlab("network", *words.split(), "--seed", seed, env=env)[1]
+                forestlab("network", *command.split(), "--seed", seed, env=env)[1]
                 for seed, env in ((4, ORDER_1), (4, ORDER_2), (5, ORDER_1))
             )
             differ = edges_of(one) != edges_of(other)
-            self.note(words, one == again and differ and b"--seed 4\n" in one, one[:80])
+            self.note(command, one == again and differ and b"--seed 4\n" in one, one[:80])
 
     def test_words(self):
-        for words in REFUSED:
-            self.refusal(f"refused words: {words}", call(*words.split()), 2, b": error: ")
+        for arguments in REFUSED:
+            self.refusal(f"refused words: {arguments}", call(*arguments.split()), 2, b": error: ")
         for line in (("path", "9" * 100_000), ("path", "3", "a\nb" * 20_000)):
             status, text, fault = call(*line)
             said = fault.partition(b"error: ")[2]
             good = (status, text) == (2, b"") and 0 < len(said) < 1000 and said.count(b"\n") == 1
-            self.note(f"a long word: {len(words)}", good, fault[:300])
+            self.note(f"a long word: {len(arguments)}", good, fault[:300])
         for command in (["read", "--as", "dimacs"], ["tell"]):
             status, _, fault = call(*command, "/dev/zero")
             is_said = b"/dev/zero: more than 256 MiB" in fault
@@ -278,9 +280,9 @@ class OwnNetworks(Case):
         networks = {"petersen": example("petersen"), "identifiers": LONG_NAMES, "bars": BARRED}
         for name, before in networks.items():
             again = []
-            for words in ("read -", *(f"number - --seed {seed}" for seed in (1, 1, 4))):
-                again.append(self.written(*words.split(), data=before))
-                self.same(f"{name} by {words}", by_names(again[-1]), by_names(before))
+            for arguments in ("read -", *(f"number - --seed {seed}" for seed in (1, 1, 4))):
+                again.append(self.written(*arguments.split(), data=before))
+                self.same(f"{name} by {arguments}", by_names(again[-1]), by_names(before))
             self.note(f"{name} numbered by chance: by its seed", again[1] == again[2] != again[3])
         said = b"1 and 2 have one identifier"
         done = call("number", "-", data=b"p edge 2 0\ni 2 9\ni 1 9\n")
@@ -295,15 +297,17 @@ class OwnNetworks(Case):
             data = large_network(source, nodes)
             if seed % 2:
                 data = self.written(*source.choice(LARGE).format(nodes).split())
-            words = ("read -", "number - --seed 2")[seed // 2 % 2]
+            arguments = ("read -", "number - --seed 2")[seed // 2 % 2]
             orders = ((), ("--keep-order",))
-            texts = [self.written(*words.split(), *more, data=data) for more in orders]
+            texts = [self.written(*arguments.split(), *more, data=data) for more in orders]
             command = "plan" if seed % 50 == 1 else "plain"
             plans = [called(PLAN, command, data=text)[1].decode() for text in texts]
             near, kept = map(known, texts, plans)
-            self.note(f"{words} by {seed}: the same nodes and channels", near == kept)
+            self.note(f"{arguments} by {seed}: the same nodes and channels", near == kept)
             are_near = [is_near(network_of(text)) for text in texts]
-            self.same(f"{words} by {seed}: whether neighbours are near", are_near, [True, False])
+            self.same(
+                f"{arguments} by {seed}: whether neighbours are near", are_near, [True, False]
+            )
         small = large_network(random.Random(6), 999)
         written = network_of(self.written("read", "-", data=small))
         self.same("999 nodes", written.given_identifiers, network_of(small).given_identifiers)

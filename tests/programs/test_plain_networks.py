@@ -132,8 +132,10 @@ class Definitions(Case):
         pairs = itertools.product((1, 2, 4, 64), repeat=2)
         for network, (workers, capacity) in zip(networks_by_chance(16, 24, 2026), pairs):
             wanted = 0, plan_text(network_of(network)), b""
-            for words in (("plain",), ("plan", "--workers", workers, "--capacity", capacity)):
-                self.same(f"{words} of {network}", called(PLAN, *words, data=network), wanted)
+            for arguments in (("plain",), ("plan", "--workers", workers, "--capacity", capacity)):
+                self.same(
+                    f"{arguments} of {network}", called(PLAN, *arguments, data=network), wanted
+                )
         network = KINDS["grid"].make(100, 200)
         done = called(PLAN, "plain", data=plain_text(network).encode())
         self.same("plain of 20,000 nodes", done, (0, plan_text(network), b""))

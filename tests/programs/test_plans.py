@@ -28,9 +28,11 @@ WORKED_RUNS = [
 @needs("forestplan", "forestplay")
 class Plans(Case):
     def test_worked(self):
-        for words, data, *wanted in WORKED_RUNS:
+        for arguments, data, *wanted in WORKED_RUNS:
             self.same(
-                f"plan {' '.join(words)}", called(PLAN, "plan", *words, data=data), tuple(wanted)
+                f"plan {' '.join(arguments)}",
+                called(PLAN, "plan", *arguments, data=data),
+                tuple(wanted),
             )
 
     def limit_rows(self, name, whole, answer, stopped, call, *arguments):

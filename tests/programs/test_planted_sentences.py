@@ -224,10 +224,10 @@ class Planted(FilesCase):
 
     def test_commands(self) -> None:
         for command in FAILING:
-            words = shlex.split(command)
-            found, printed, said = self.ends(words)
+            arguments = shlex.split(command)
+            found, printed, said = self.ends(arguments)
             with self.planted():
-                found_then, printed_then, said_then = self.ends(words)
+                found_then, printed_then, said_then = self.ends(arguments)
             self.note(f"{command}: ends well", found != 0, printed)
             self.same(f"{command}: how it ends", found_then, found)
             rows = [

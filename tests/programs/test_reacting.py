@@ -239,7 +239,7 @@ class Samples(Case):
             self.note(f"the trees of {network}", said in lines, lines)
         space = ReactingSpace(network_at("triangle"), program(sample("snapshot"))).search()
         coins = {
-            sum(int(words.split()[1]) for words in space.results(s).values()) for s in space.ends
+            sum(int(result.split()[1]) for result in space.results(s).values()) for s in space.ends
         }
         self.same("all coins are noted", coins, {30})
 
@@ -416,7 +416,7 @@ class Lists(Case):
             kind, *numbers = line.split()
             v, *port = map(int, numbers)
             state.step(Event(kinds[kind], v, port[0] if port else None))
-        inside = [v for v, words in results_in(state).items() if words == "inside"]
+        inside = [v for v, result in results_in(state).items() if result == "inside"]
         self.same("two are inside", len(inside), 2)
 
     def test_messages(self) -> None:
@@ -464,9 +464,9 @@ def echo(*pairs: str) -> str:
 ACTS = "def act(me):\n    pass\n\n\ndef result"
 
 
-def line_of(words: str) -> int:
+def line_of(text: str) -> int:
     """The line of the sample that has these words."""
-    return 1 + ECHO[: ECHO.index(words)].count("\n")
+    return 1 + ECHO[: ECHO.index(text)].count("\n")
 
 
 # The lines that are changed.
@@ -612,7 +612,7 @@ WRONG: list[tuple[str, ...]] = [
 class Refused(Case):
     def test_misuses(self) -> None:
         for number, (text, *said) in enumerate(WRONG):
-            parts = [words.format(**LINES) for words in said]
+            parts = [text.format(**LINES) for text in said]
             path = self.file(f"wrong{number}.py", text)
             status, out, fault = said_by("explore", "triangle", "--program", path)
             first = (out or fault).split("\n")[0]
@@ -930,10 +930,10 @@ class Bridge(Case):
         )
         done = self.rounds(of_alpha(text))
         self.refusal("rounds already", done, 1, "line 1: X1: edition 3 has pulses already")
-        for words in (["json", "-", "--program", "leader"], ["rounds"]):
-            done = said_by("transcript", "convert", *words, data=text.encode())
+        for arguments in (["json", "-", "--program", "leader"], ["rounds"]):
+            done = said_by("transcript", "convert", *arguments, data=text.encode())
             self.refusal(
-                " ".join(words), done, 1, "--program is for the form rounds, and rounds need it"
+                " ".join(arguments), done, 1, "--program is for the form rounds, and rounds need it"
             )
 
     @needs("forestplay")
@@ -943,13 +943,13 @@ class Bridge(Case):
         for name in ("triangle", "petersen", "path", "star"):
             net = network_of(example(name))
             text = self.rounds(text_of_run(net.nodes, played(net, "bursts", program=of), of))[1]
-            words, data = ["replay", "--program", "leader"], example(name) + b"\n"
-            status, out, fault = called(PLAY, *words, data=data + text.encode())
+            arguments, data = ["replay", "--program", "leader"], example(name) + b"\n"
+            status, out, fault = called(PLAY, *arguments, data=data + text.encode())
             self.same(
                 f"{name} is accepted", (status, fault, out.count(b"leader")), (0, b"", net.nodes)
             )
             wrong = text.replace("payload 0 leader 2", "payload 0 leader 1", 1)
-            status, out, fault = called(PLAY, *words, data=data + wrong.encode())
+            status, out, fault = called(PLAY, *arguments, data=data + wrong.encode())
             lines = text.splitlines()
             line = 1 + next(at for at, words_ in enumerate(lines) if "payload 0 leader 2" in words_)
             line += example(name).count(b"\n") + 1

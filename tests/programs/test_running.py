@@ -79,8 +79,8 @@ class Running(Case):
     def test_without_programs(self) -> None:
         """What needs one is named and didn't run, and nothing fails; with --built nothing runs."""
         there = dict(os.environ, TESTS_PLAN="/nowhere/plan", TESTS_PLAY="/nowhere/play")
-        words = [sys.executable, "-m", "tests", "programs.test_events", "programs.test_codes"]
-        status, out, _ = called(*words, cwd=TOP, env=there)
+        arguments = [sys.executable, "-m", "tests", "programs.test_events", "programs.test_codes"]
+        status, out, _ = called(*arguments, cwd=TOP, env=there)
         lines = out.decode().splitlines()
         lack = "isn't built, and these tests didn't run:"
         self.same(
@@ -92,5 +92,5 @@ class Running(Case):
             ],
         )
         self.note("the rest is good", status == 0 and lines[-1].endswith(" passed, 0 failed"), out)
-        done = called(*words, "--built", cwd=TOP, env=there)
+        done = called(*arguments, "--built", cwd=TOP, env=there)
         self.refusal("--built", done, 2, b"not built from these sources: forestplan, forestplay")

@@ -240,11 +240,11 @@ class Schedules(Case):
             less = AlphaSpace(net_of("two"), without, MOST, reduce=True).search()
             self.note(f"what goes wrong is found: two without {without}", less.faults)
         # The triangle's counts by the help; and nothing of what it doesn't know.
-        for words in ((), ("--reduce",)):
-            said = explored("triangle", *words)[1]
+        for arguments in ((), ("--reduce",)):
+            said = explored("triangle", *arguments)[1]
             count = said.split(" states")[0].split(": ")[1]
             self.note(
-                f"the triangle, as the help says {words}", count in explored("--help")[1], said
+                f"the triangle, as the help says {arguments}", count in explored("--help")[1], said
             )
         said = said.replace("so schedules, pulses apart and wires under way aren't", "")
         known = not any(word in said for word in ("schedules,", "apart,", "under way\n"))
@@ -319,16 +319,16 @@ class Schedules(Case):
 
     def test_rounded(self):
         """Two digits of a large number, rounded half up."""
-        for number, words in (
+        for number, arguments in (
             *((0, "0"), (999_999, "999,999"), (1_000_000, "1.0e6"), (1_249_999, "1.2e6")),
             *((1_250_000, "1.3e6"), (9_949_999, "9.9e6"), (9_950_000, "1.0e7")),
             *((99_499_999, "9.9e7"), (23 * 10**187, "2.3e188"), (10**189 - 1, "1.0e189")),
         ):
-            self.same(f"{number:.9e}" if number else "0", rounded(number), words)
+            self.same(f"{number:.9e}" if number else "0", rounded(number), arguments)
 
     def test_words(self):
-        for words, status, fault in FAULTS:
-            self.same(f"explore {' '.join(words)}", explored(*words), (status, "", fault))
+        for arguments, status, fault in FAULTS:
+            self.same(f"explore {' '.join(arguments)}", explored(*arguments), (status, "", fault))
         for line, said in REFUSED:
             self.refusal(f"explore {' '.join(line)}", explored(*line), 2, said)
         self.note(

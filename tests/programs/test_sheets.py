@@ -152,5 +152,5 @@ class Sheets(Case):
         self.assertTrue(one.endswith(whole[whole.index("<h2>Lesson 5</h2>") :]))
 
     def test_refusals(self):
-        for words in (["--lesson", "6"], ["--sheets", "0"]):
-            self.refusal(f"{words}", sheet(*words), 2, "sheet: error: ")
+        for arguments in (["--lesson", "6"], ["--sheets", "0"]):
+            self.refusal(f"{arguments}", sheet(*arguments), 2, "sheet: error: ")

@@ -95,9 +95,9 @@ class Lists(Case):
 
     def test_to_the_end(self):
         """A list is how the run begins that goes on to its end; of a whole one nothing is left."""
-        words, data = ("two", "--events", "-"), b"put 1 0\ntake 2 0\n"
-        begun = simulate(*words, data=data)[1]
-        status, whole, fault = simulate(*words, "--to-the-end", data=data)
+        arguments, data = ("two", "--events", "-"), b"put 1 0\ntake 2 0\n"
+        begun = simulate(*arguments, data=data)[1]
+        status, whole, fault = simulate(*arguments, "--to-the-end", data=data)
         self.same("how it begins", (status, whole[: len(begun)], fault), (0, begun, b""))
         whole_run(network_of(example("two")), whole)
         alone = self.file("alone.col", "p edge 1 0\n")
@@ -154,7 +154,7 @@ class Lists(Case):
         ):
             done = simulate("two", "--events", "-", data=events.replace("|", "\n").encode())
             self.note(events, done == (1, b"", f"simulate: standard input {end}\n".encode()), done)
-        for words, status, said in (
+        for arguments, status, said in (
             (["two", "--events", "nowhere"], 1, b"simulate: nowhere: No such file or directory\n"),
             (["two", "--to-the-end"], 2, b"--to-the-end is for a list of --events\n"),
             (["-", "--events", "-"], 2, b"standard input is one file, not two\n"),
@@ -164,4 +164,4 @@ class Lists(Case):
             (["chain6", "--slow", "2"], 2, b"two neighbours, as 2-3\n"),
             (["chain6", "--policy", "kind"], 2, b"kind"),
         ):
-            self.refusal(" ".join(words), simulate(*words), status, said)
+            self.refusal(" ".join(arguments), simulate(*arguments), status, said)

@@ -42,18 +42,18 @@ TABLES = (
 
 
 class Sites(Case):
-    def read(self, pairs, sites, words):
+    def read(self, pairs, sites, arguments):
         """What `network read` makes of a table of sites."""
         return call(
             "read",
             *([self.file("pairs.csv", pairs)] if pairs else []),
             "--sites",
             self.file("sites", sites),
-            *words.split(),
+            *arguments.split(),
         )
 
     def test_refused(self):
-        for words in (
+        for arguments in (
             "--reach 5",
             "",
             "--sites s",
@@ -64,14 +64,16 @@ class Sites(Case):
             "- --sites -",
             "- --channels 6,6",
         ):
-            self.refusal(f"refused words: {words}", call("read", *words.split()), 2, b"error: ")
+            self.refusal(
+                f"refused words: {arguments}", call("read", *arguments.split()), 2, b"error: "
+            )
 
     def test_sites(self):
         """Sites in their order, those of a reach joined, with bars that a licence counts."""
         bars = self.file("bars.csv", "site,channel\nHof,6\nHof,7\n")
         sites = self.file("sites.csv", SITES)
-        words = ("--sites", sites, "--reach", 3, "--bars", bars, "--channels", "1 6 11")
-        status, text, said = call("read", *words)
+        arguments = ("--sites", sites, "--reach", 3, "--bars", bars, "--channels", "1 6 11")
+        status, text, said = call("read", *arguments)
         net = network_of(text)
         self.same(
             "a network of sites",
@@ -115,7 +117,7 @@ class Sites(Case):
     def test_columns(self):
         """A title that is stated is looked for in each table, and has to be in one."""
         sites = self.file("sites.csv", "Ort;x_km;y_km\nUlm;0;0\nAue;1;0\n")
-        words = (
+        arguments = (
             "--sites",
             sites,
             "--reach",
@@ -123,12 +125,12 @@ class Sites(Case):
             "--bars",
             self.file("bars.csv", "site,channel\nUlm,6\n"),
         )
-        done = call("read", *words, "--columns", "site=Ort")
+        done = call("read", *arguments, "--columns", "site=Ort")
         self.same("a title of one table", (done[0], b"\nb 1 6\n" in done[1]), (0, True))
-        done = call("read", *words, "--columns", "site=Ort,channel=Kanal")
+        done = call("read", *arguments, "--columns", "site=Ort,channel=Kanal")
         self.refusal("of none", done, 1, b"no table here has Kanal as its column channel")
         for title in ("O\nrt", 'O"r\nt'):
-            done = call("read", *words, "--columns", f"site={title}")
+            done = call("read", *arguments, "--columns", f"site={title}")
             self.refusal(f"a title {title!r}", done, 2, b"error: argument --columns: ")
             self.same(f"a title {title!r}, lines", done[2].count(b"\n"), 2)
         done = call("read", "path3", "--no-heading")
@@ -150,8 +152,8 @@ class Sites(Case):
             ("a.adjlist", "Hof\nHoff\n", "Hoff isn't a site"),
             ("a.col", "c name 1 Hof\nc name 2 Hoff\np edge 2 0\n", "Hoff isn't a site"),
         ):
-            words = (self.file(name, data), "--sites", self.file("sites.csv", SITES))
-            done = call("read", *words)
+            arguments = (self.file(name, data), "--sites", self.file("sites.csv", SITES))
+            done = call("read", *arguments)
             self.refusal(name, done, 1, said.encode())
             self.note(f"{name}: the nearest is said", b"is it Hof?" in done[2], done)
 
@@ -208,35 +210,35 @@ class Channels(Case):
     def test_runs(self):
         """The channels of a run, as a plan."""
         run = "node 1 pulse 30 channel 2\nnode 2 pulse 30 channel 3\nnode 3 pulse 30 channel 1\n"
-        for words, wanted in (
+        for arguments, wanted in (
             (["--run"], "plan\n1 2\n2 3\n3 1\n"),
             (["--run", "1-11/5"], "plan\n1 6\n2 11\n3 1\n"),
         ):
-            self.same(f"{words}", self.call(*words, data=run), (0, wanted, ""))
+            self.same(f"{arguments}", self.call(*arguments, data=run), (0, wanted, ""))
         self.same("a run of no nodes", self.call("--run"), (0, "plan\n", ""))
 
     def test_files(self):
         """The licence as a table; test_reading.py has what else a table may be."""
-        for table, words, unread in (
+        for table, arguments, unread in (
             ("Bemerkung;channel\r\ngut;36\r\ngut;40\r\n;;\r\n", (), "Bemerkung"),
             ("Kanal,MHz\n36,1\n40,2\n", ("--columns", "channel=kanal"), "MHz"),
             ("36,x\n40,y\n", ("--no-heading",), "column 2"),
         ):
             path = self.file("my licence.csv", table)
             said = f"channels: {path}: columns that aren't read: {unread}\n"
-            got = self.call(*words, path, data="plan\n1 2\n2 1\n")
-            self.same(f"{table!r} {words}", got, (0, "plan\n1 40\n2 36\n", said))
-        for table, words, said in (
+            got = self.call(*arguments, path, data="plan\n1 2\n2 1\n")
+            self.same(f"{table!r} {arguments}", got, (0, "plan\n1 40\n2 36\n", said))
+        for table, arguments, said in (
             ("Frequency\n5180\n", (), "line 1: no heading with channel"),
             ("channel,power\n36,1\nforty,1\n", (), "line 3: no channel: `forty`"),
             ("channel,power\n36,1\n36,2\n", (), "names a channel twice"),
             ("channel\n36\n", ("--no-heading",), "line 1: it is a heading"),
         ):
-            got = self.call(*words, self.file("licence.csv", table), data="plan\n1 2\n2 1\n")
-            self.refusal(f"{table!r} {words}", got, 1, said)
+            got = self.call(*arguments, self.file("licence.csv", table), data="plan\n1 2\n2 1\n")
+            self.refusal(f"{table!r} {arguments}", got, 1, said)
 
     def test_refused(self):
-        for words, data, said in (
+        for arguments, data, said in (
             (
                 ["1", "6"],
                 "plan\n1 2\n2 3\n",
@@ -257,9 +259,9 @@ class Channels(Case):
                 "line 1: channel 2, and the table has 1",
             ),
         ):
-            got = self.call(*words, data=data)
+            got = self.call(*arguments, data=data)
             self.note(
-                f"{words} {data!r}",
+                f"{arguments} {data!r}",
                 got[:2] == (1, "") and said in got[2] and got[2].count("\n") == 1,
                 got,
             )

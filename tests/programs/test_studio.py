@@ -131,10 +131,10 @@ class Server(Case):
         """The answer to a call that is no refusal."""
         return self.answer(call, **asked)["answer"]
 
-    def refuses(self, name, words, call, /, **asked):
+    def refuses(self, name, sentence, call, /, **asked):
         """The row of a call that is refused in words."""
         got = self.answer(call, **asked)
-        self.note(name, words in got.get("wrong", ""), got)
+        self.note(name, sentence in got.get("wrong", ""), got)
 
 
 class Refusals(Server):
@@ -193,8 +193,8 @@ class Refusals(Server):
             ("steps", {"list": "c a list\nput 1 0\nput 1 0"}, "line 3: `put 1 0` isn't"),
             ("steps", {"list": "take 1 0 1"}, "overtakes"),
         ]
-        for call, fields, words in rows:
-            self.refuses(f"{call} {fields}", words, call, **{"network": TRIANGLE} | fields)
+        for call, fields, sentence in rows:
+            self.refuses(f"{call} {fields}", sentence, call, **{"network": TRIANGLE} | fields)
         wrong: tuple[tuple[dict, str], ...] = (
             ({}, "lacks its field network"),
             ({"network": 7}, "field network of the call: a text"),
@@ -203,8 +203,8 @@ class Refusals(Server):
             ({"network": TRIANGLE, "vertex": 4}, "field vertex: there is no node 4"),
             ({"network": TRIANGLE, "vertex": 1, "vertx": 1}, "no field vertx"),
         )
-        for given, words in wrong:
-            self.refuses(f"nonsense {given}", words, "why", **given)
+        for given, sentence in wrong:
+            self.refuses(f"nonsense {given}", sentence, "why", **given)
         twice = self.ask("/call/why", '{"vertex": 1, "vertex": 2}')
         self.note("a field twice", twice[0] == 400 and "vertex twice" in twice[1], twice)
         for size in ("", "1e2", "-1", None, float("inf"), 401):
@@ -326,8 +326,8 @@ class Answers(Server):
         self.same("its form is asked", forms, wanted)
         asked = self.opened("x.txt", table, *asked["choices"][0]["stated"])["answer"]
         self.same("its columns are asked", asked["titles"], ["a", "b"])
-        words = ("--as", "pairs", "--columns", '"source=a","target=b"')
-        got = self.opened("x.txt", table, *words)["answer"]
+        arguments = ("--as", "pairs", "--columns", '"source=a","target=b"')
+        got = self.opened("x.txt", table, *arguments)["answer"]
         self.same("it is read", (got["edges"], got["nodes"][0]["name"]), ([[1, 2]], "Oslo"))
         got = self.opened("x.csv", table, "--no-heading")["answer"]
         self.same("without a heading", got["edges"], [[1, 2], [3, 4]])
@@ -505,17 +505,17 @@ class Answers(Server):
         """What goes wrong without a rule, here or on a smallest network; pages/test_studio_page.py has the matching."""
         right = "the rounds of this network go right without it"
         got = self.found("broken", network=EDGE, without="shift")
-        self.note("without a shift", "<svg" in got["picture"] and got["words"], got["words"])
+        self.note("without a shift", "<svg" in got["picture"] and got["lines"], got["lines"])
         all_right = f"{right}, and so do those of all 1,094 networks of up to 5 nodes"
-        for program, rule, words, bars in (
+        for program, rule, sentence, bars in (
             ("recolouring", "bars", right, [[1], [], []]),
             ("matching", "last", all_right, None),
         ):
             got = self.found("broken", network=EDGE, program=program, without=rule)
             found = got["found"] and [node["bars"] for node in got["found"]["nodes"]]
             drawn = "<svg" in (got["picture"] or "")
-            shown = (got["here"], got["words"], found, drawn)
-            self.same(f"without {rule}", shown, (False, [words], bars, rule != "last"))
+            shown = (got["here"], got["lines"], found, drawn)
+            self.same(f"without {rule}", shown, (False, [sentence], bars, rule != "last"))
         asked = {"network": EDGE, "program": "leader", "without": "partner"}
         self.refuses("no rule of the leader", "no such rule", "broken", **asked)
 

@@ -309,7 +309,7 @@ class OwnFiles(FilesCase):
         """Of a file with a fault only the fault is said, once; and so of one that is gone, or too large."""
         path = self.file("first.py", FIRST)
         session = session_of(path)
-        for name, text, words in (
+        for name, text, sentence in (
             ("no Python", "def start(me:\n", "first.py line 1: "),
             ("no function", "def on_x(me, port):\n    pass\n", "no function start"),
             ("another form", ROUNDS, "end the studio and begin it again"),
@@ -319,13 +319,13 @@ class OwnFiles(FilesCase):
             found = answer(session, "file_text", own="first", seen="0")
             self.same(f"{name}: no text", set(found), {"version", "fault"})
             said = found["fault"]
-            self.note(f"{name}: one line", words in said and "\n" not in said, said)
+            self.note(f"{name}: one line", sentence in said and "\n" not in said, said)
             again = answer(session, "file_text", own="first", seen=found["version"])
             self.same(f"{name}: once", again, {"version": found["version"]})
             if name != "too large":
                 self.note(
                     f"{name}: no run",
-                    words in self.refused(session, "steps", network=ROW, program="first"),
+                    sentence in self.refused(session, "steps", network=ROW, program="first"),
                 )
         os.remove(path)
         gone = answer(session, "file_text", own="first")
@@ -432,10 +432,10 @@ class OwnFiles(FilesCase):
             ("inside", "always", "1_2_1", True, "in 3 steps"),
             ("inside", "always", "1_1_2", False, "`always` is true so far, in 3 steps"),
         )
-        for name, dare, steps, is_won, words in rows:
+        for name, dare, steps, is_won, sentence in rows:
             found = self.found(session, program=name, dare=dare, steps=steps)["dare"]
             self.same(f"{name} {dare} {steps}", found["won"], is_won)
-            self.note(f"{name} {dare} {steps} says", words in found["said"], found["said"])
+            self.note(f"{name} {dare} {steps} says", sentence in found["said"], found["said"])
             self.same("nothing is proved of it", found["impossible"], "")
             link = (
                 f"x#net=0.0_1.0_0.1~1-2_1-3&tab=adversary&program={name}&dare={dare}&steps={steps}"

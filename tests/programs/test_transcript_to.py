@@ -46,14 +46,14 @@ class Forms(Case):
         self.same("shiviz", call("shiviz", data=RUN), (0, SHIVIZ, ""))
 
     def test_refusals(self):
-        for words, data, wanted, end in (
+        for arguments, data, wanted, end in (
             (["json", "nowhere"], "", 1, "transcript: nowhere: No such file or directory\n"),
             (["json"], "transcript 1 2|", 1, "edition 1 has no order of all entries"),
             (["shiviz"], RUN.replace("put", "take"), 1, "LinkEmpty"),
             (["json"], "plan|1 1|", 1, "X1"),
             (["xml"], RUN, 2, "invalid choice"),
         ):
-            self.refusal(f"{words}", call(*words, data=data), wanted, end)
+            self.refusal(f"{arguments}", call(*arguments, data=data), wanted, end)
 
     def test_long_row(self):
         """A message that goes along a row of n nodes has clocks of 1, 2, 2, 3, 3, .. n entries: n*n in all."""

@@ -83,8 +83,8 @@ def said_of(net, data, program=COLOURING):
     try:
         return whole_run(net, data, program)[1], ""
     except WrongEntry as wrong:
-        line, code, words = wrong.line, wrong.word, wrong.words()
-        return f"line {line}: {code}", words
+        line, code, sentence = wrong.line, wrong.word, wrong.sentence()
+        return f"line {line}: {code}", sentence
 
 
 def said_by(network, data, *arguments, play=PLAY):
@@ -142,17 +142,17 @@ class Transcripts(Case):
         network, transcript = self.file("edge.col", text(EDGE)), self.file("edge.transcript", whole)
         why = "node 1 takes close from 2, and 2 never puts it (is the text cut?)"
         nowhere = f"transcript: {transcript}x: No such file or directory\n".encode()
-        for words, data, wanted in (
+        for arguments, data, wanted in (
             ([network, transcript], b"x", (0, EDGE_WHOLE.encode() + b"\n", b"")),
             ([network], whole, (0, EDGE_WHOLE.encode() + b"\n", b"")),
             ([network], wrong, (1, b"", f"line 2: LinkEmpty: {why}\n".encode())),
             ([transcript + "x"], b"", (1, b"", nowhere)),
             ([network, transcript + "x"], b"", (1, b"", nowhere)),
         ):
-            self.same(f"check {words}", check(*words, data=data), wanted)
+            self.same(f"check {arguments}", check(*arguments, data=data), wanted)
         self.refusal("a text that is no network", check(transcript), 1, b"transcript line 1: `")
-        for words in ([], [network, transcript, "x"]):
-            self.refusal(f"the words {words}", check(*words), 2, b"error: ")
+        for arguments in ([], [network, transcript, "x"]):
+            self.refusal(f"the words {arguments}", check(*arguments), 2, b"error: ")
         for data, verdict in (
             (whole, {"right": True, "words": EDGE_WHOLE}),
             (wrong, {"right": False, "line": 2, "code": "LinkEmpty", "words": why}),
@@ -169,7 +169,7 @@ class Transcripts(Case):
         edge, lines = network_of(text(EDGE)), EDGE_RUN.split(b"\n")[:-1]
         pulse = lines.index(b"2 pulse %d" % EDGE_LAST)
         said = [said_of(edge, b"\n".join(lines[:count]) + b"\n") for count in range(2, pulse + 1)]
-        unasked = [words for _, words in said if not words.endswith("(is the text cut?)")]
+        unasked = [sentence for _, sentence in said if not sentence.endswith("(is the text cut?)")]
         self.note("each beginning without the last pulse may be cut", not unasked, unasked[:1])
 
     @needs("forestplan", "forestplay")
@@ -178,13 +178,15 @@ class Transcripts(Case):
         """`forestlab transcript replay`, which puts the entries in an order and has the program play them."""
         network = self.file("edge.col", text(EDGE[:-1]))
         own = ["--program", os.path.join(TOP, "examples", "algorithms", "tree_count.py")]
-        for words, data, said in (
+        for arguments, data, said in (
             ([network, "nowhere"], b"", b"transcript: nowhere: No such file"),
             ([network], EDGE_RUN[:100], b"cut"),
             (["-"], EDGE_RUN, b"standard input has one text"),
             ([network, *own], EDGE_RUN, b"no proved program runs tree_count"),
         ):
-            self.refusal(f"replay {words} of {len(data)} bytes", replay(*words, data=data), 1, said)
+            self.refusal(
+                f"replay {arguments} of {len(data)} bytes", replay(*arguments, data=data), 1, said
+            )
         layers = ["--program", "layers", "--root", "2"]
         run = forestlab("simulate", "two", *layers)[1]
         self.note("replay of layers", replay("two", "-", *layers, data=run)[::2] == (0, b""))

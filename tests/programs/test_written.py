@@ -126,7 +126,7 @@ def spreadsheet_writers() -> list[Writer]:
         def write(one: Meant) -> bytes:
             return table_of(titles, one.edges, *more)
 
-        return Writer(form, "net.CSV", write, words, has_lone=False)
+        return Writer(form, "net.CSV", write, arguments, has_lone=False)
 
     return [
         row("CSV with a mark", ("Source", "Target"), ",", "utf-8-sig"),

@@ -35,8 +35,8 @@ def igraph_writers() -> list[Writer]:
     ]
 
 
-def piped(words, data: bytes) -> bytes:
-    return subprocess.run(words, input=data, stdout=subprocess.PIPE, check=True).stdout
+def piped(arguments, data: bytes) -> bytes:
+    return subprocess.run(arguments, input=data, stdout=subprocess.PIPE, check=True).stdout
 
 
 def gv2gml_writers() -> list[Writer]:

@@ -46,8 +46,8 @@ def options_of(assignment, *arguments, **options):
 def played(assignment, name, *commands, policy="random", seed="1", **options):
     """One run, in this process, with these options of the command line."""
     case = Case(0, network(name) if isinstance(name, str) else name, policy, seed)
-    words = [word for command in commands for word in ("--", *command)]
-    Player(options_of(assignment, *words, **options)).play(case)
+    arguments = [word for command in commands for word in ("--", *command)]
+    Player(options_of(assignment, *arguments, **options)).play(case)
     return case
 
 
@@ -61,8 +61,8 @@ class Played(Rows):
         """The row of a run with what is wrong in it, (verdict, node, pulse), or None; returns the finding."""
         finding = played(assignment, given, *commands, **more).finding
         got = finding and (finding.kind, finding.node, finding.pulse)
-        words = " ".join([*commands[0][-2:], *map(str, more.values())])
-        name = f"{assignment} on {getattr(given, 'name', given)} of {words}"
+        text = " ".join([*commands[0][-2:], *map(str, more.values())])
+        name = f"{assignment} on {getattr(given, 'name', given)} of {text}"
         self.note(name, got == right, finding and finding.text())
         return finding
 

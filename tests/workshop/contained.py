@@ -60,7 +60,7 @@ def program(attacks, more=""):
 def started(guard, command):
     pipe = subprocess.PIPE
     told = guard.start(Limits(LIMIT, 2048, 1), guard.tasks())
-    return subprocess.Popen(guard.words(command), stdout=pipe, stderr=pipe, text=True, **told)
+    return subprocess.Popen(guard.arguments(command), stdout=pipe, stderr=pipe, text=True, **told)
 
 
 def done(guard, command):

@@ -57,7 +57,7 @@ class Attacks(Submitted):
 
     def test_words_of_a_command(self):
         """They name nothing outside of the folder, whoever reads them."""
-        words = "files are named as they are in the folder itself"
+        sentence = "files are named as they are in the folder itself"
         for number, command in enumerate(
             (
                 f"java -cp . AlphaNode {JAVA}",
@@ -73,7 +73,7 @@ class Attacks(Submitted):
         ):
             self.submit(f"anna{number}", commands=f"alpha: {command}\n")
             self.note(
-                command, words in self.why_not(f"anna{number}"), self.why_not(f"anna{number}")
+                command, sentence in self.why_not(f"anna{number}"), self.why_not(f"anna{number}")
             )
         for command in ("./alpha_node --fast", "python3 -O alpha_node.py", "java AlphaNode.java"):
             self.submit("ben", commands=f"alpha: {command}\n")
@@ -93,8 +93,12 @@ class Attacks(Submitted):
             open(os.path.join(many, str(number)), "wb").close()
         deep = self.submit("eve", alpha_node_py="x")
         subprocess.run(["mkdir", "-p", os.path.join(deep, "d/" * 70)], check=True)
-        for student, words in (("cleo", "megabytes"), ("dora", "1,000 files"), ("eve", "too deep")):
-            self.note(student, words in self.why_not(student), self.why_not(student))
+        for student, sentence in (
+            ("cleo", "megabytes"),
+            ("dora", "1,000 files"),
+            ("eve", "too deep"),
+        ):
+            self.note(student, sentence in self.why_not(student), self.why_not(student))
 
     @needs("bin/forestplan", "bin/forestplay")
     def test_verdicts_that_a_program_prints(self):

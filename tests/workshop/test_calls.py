@@ -124,16 +124,16 @@ COMPARES = {0x15: operator.eq, 0x25: operator.gt, 0x35: operator.ge}
 
 
 def answer(
-    programs: tuple[bytes, ...], machine: int, number: int, words: tuple[int, ...] = ()
+    programs: tuple[bytes, ...], machine: int, number: int, arguments: tuple[int, ...] = ()
 ) -> int:
     """What the filters say of a call together: what one refuses is refused."""
-    found = [answer_of(program, machine, number, words) for program in programs]
+    found = [answer_of(program, machine, number, arguments) for program in programs]
     return min(found, key=lambda said: said == ALLOWED)
 
 
-def answer_of(program: bytes, machine: int, number: int, words: tuple[int, ...]) -> int:
+def answer_of(program: bytes, machine: int, number: int, arguments: tuple[int, ...]) -> int:
     """What a filter says of a call: a machine of its own for the few steps that such filters have."""
-    given = struct.pack("<IIQ6Q", number, machine, 0, *words, *[0] * (6 - len(words)))
+    given = struct.pack("<IIQ6Q", number, machine, 0, *arguments, *[0] * (6 - len(arguments)))
     steps = list(struct.iter_unpack("<HBBI", program))
     at, value = 0, 0
     while True:
@@ -158,11 +158,11 @@ class Calls(Case):
     def test_each_machine(self) -> None:
         for name, (machine, numbers) in MACHINES.items():
             filters = filters_of_calls(name)
-            for call, words, wanted in ROWS:
-                if max(words, default=0) >> 32 and not machine & OF_64_BITS:
+            for call, arguments, wanted in ROWS:
+                if max(arguments, default=0) >> 32 and not machine & OF_64_BITS:
                     continue
-                found = answer(filters, machine, numbers[call], words)
-                self.same(f"{name}: {call}{words}", hex(found), hex(wanted))
+                found = answer(filters, machine, numbers[call], arguments)
+                self.same(f"{name}: {call}{arguments}", hex(found), hex(wanted))
             if "socketcall" in numbers:
                 found = answer(filters, machine, numbers["socketcall"], (1,))
                 self.same(f"{name}: all of sockets", found, NO_CALL)

@@ -26,7 +26,7 @@ class Command(Played):
         return os.path.join(self.folder, *names)
 
     def test_statuses(self):
-        for words, status, said in (
+        for arguments, status, said in (
             (["rounds", "two", "--", *ROUNDS], 0, ""),
             (["rounds", "two", "--timeout", ".1", "--", *WAITS], 1, ""),
             (["rounds", "two"], 2, "there is no command after `--`"),
@@ -45,9 +45,9 @@ class Command(Played):
                 "Permission denied; is it `chmod +x`",
             ),
         ):
-            done = call(*words)
+            done = call(*arguments)
             self.note(
-                f"{words[:4]}",
+                f"{arguments[:4]}",
                 done.returncode == status
                 and said in done.stderr
                 and bool(said) == (not done.stdout)
@@ -57,13 +57,13 @@ class Command(Played):
 
     def test_standard_input(self):
         """It is read once for all runs."""
-        words = ("rounds", "-", "--runs", "2", "--", *ROUNDS)
-        done = call(*words, input="p edge 2 1\ne 1 2\n")
+        arguments = ("rounds", "-", "--runs", "2", "--", *ROUNDS)
+        done = call(*arguments, input="p edge 2 1\ne 1 2\n")
         self.note("two runs", done.returncode == 0 and "2 of 2 runs right" in done.stdout, done)
 
     def test_the_result_for_a_program(self):
         wrong = self.wrong_node("close_never", "alpha_node.py")
-        words = (
+        arguments = (
             "alone4",
             "path1",
             "--policies",
@@ -73,7 +73,7 @@ class Command(Played):
             "--json",
             "--one-process",
         )
-        done = call("alpha", *words, "--", *wrong)
+        done = call("alpha", *arguments, "--", *wrong)
         got = json.loads(done.stdout)
         head = {name: got[name] for name in ("workshop", "assignment", "program", "seed", "right")}
         wanted = {"workshop": 1, "assignment": "alpha", "program": "colouring", "seed": "1"}
@@ -111,9 +111,11 @@ class Command(Played):
     def test_a_case_by_its_number(self):
         all_of, one = (
             json.loads(
-                call("rounds", "random6", *words, "--json", "--one-process", "--", *ROUNDS).stdout
+                call(
+                    "rounds", "random6", *arguments, "--json", "--one-process", "--", *ROUNDS
+                ).stdout
             )
-            for words in (["--runs", "4"], ["--case", "2"])
+            for arguments in (["--runs", "4"], ["--case", "2"])
         )
         self.assertEqual(one["cases"], [row for row in all_of["cases"] if row["case"] == 2])
 
@@ -134,8 +136,8 @@ class Command(Played):
             with self.subTest(kind):
                 kept = f"kept of {kind}"
                 program = [] if kind == "open" else ["--program", "layers"]
-                words = [kind, "path3", *program, "--keep", kept, "--", *command]
-                self.assertEqual(call(*words, cwd=here).returncode, 1)
+                arguments = [kind, "path3", *program, "--keep", kept, "--", *command]
+                self.assertEqual(call(*arguments, cwd=here).returncode, 1)
                 lines = (
                     text_in(here, kept, "verdict.txt")
                     .partition("The same without the workshop:\n")[2]
@@ -160,7 +162,7 @@ class Command(Played):
             v = next(int(line.split()[1]) for line in lines if line.startswith("identifier"))
             kinds = ("take ", "put ", "pulse ")
             own = [line.replace(" 0", f" {3 - v}", 1) for line in lines if line.startswith(kinds)]
-            self.same(f"node {v}", own, [words for u, words in rows if u == str(v)])
+            self.same(f"node {v}", own, [text for u, text in rows if u == str(v)])
             did += own
         self.same("all of it", len(did), len(rows))
 

@@ -213,12 +213,12 @@ class Grades(Submitted):
         self.assertLessEqual({case["verdict"] for case in found["anna"]["open"]["cases"]}, {"late"})
 
     def test_statuses(self):
-        for words, status, said in (
+        for arguments, status, said in (
             (("nowhere",), 2, "nowhere: No such file or directory"),
             ((self.folder, "--jobs", "0"), 2, "0 is no number"),
             ((), 2, "required: FOLDER"),
         ):
-            done = call("grade", *words)
+            done = call("grade", *arguments)
             self.assertEqual((done.returncode, done.stdout), (status, ""), done)
             self.assertIn(said, done.stderr)
         os.makedirs(self.subs)

@@ -127,10 +127,10 @@ class Memory(Contained):
         return guard
 
     def test_what_a_program_takes(self) -> None:
-        for name, (begin, words) in AT_START.items():
+        for name, (begin, arguments) in AT_START.items():
             within, _ = self.guards()
             found = self.found(within, node(begin))
-            self.note(name, words in found, found)
+            self.note(name, arguments in found, found)
             self.same(f"{name}: an attack", self.found(self.unlooked(), node(begin)), "answers")
 
     def test_what_a_program_takes_without_a_container(self) -> None:
@@ -168,7 +168,7 @@ class Memory(Contained):
         limits = Limits(20, MEGABYTES, 2)
         begin = f"for _ in range(3):\n{TAKE}"
         slow, grows = (
-            Process(words, limits, within, 0) for words in (node(seconds=4.0), node(begin))
+            Process(command, limits, within, 0) for command in (node(seconds=4.0), node(begin))
         )
         try:
             slow.send(["pulse"])

@@ -80,11 +80,11 @@ def left():
     found = []
     for pid in filter(str.isdecimal, os.listdir("/proc")):
         try:
-            words = contents(f"/proc/{pid}/cmdline").decode("utf-8", "replace").split("\0")
+            command = contents(f"/proc/{pid}/cmdline").decode("utf-8", "replace").split("\0")
         except OSError:
             continue
-        if MARK in words:
-            found.append(" ".join(words))
+        if MARK in command:
+            found.append(" ".join(command))
     return found
 
 
@@ -109,13 +109,13 @@ class Misbehaving(Played):
     def tearDown(self):
         self.assertEqual(left_at_last(), [])
 
-    def named(self, how, kind, words, *nodes, timeout=2):
+    def named(self, how, kind, sentence, *nodes, timeout=2):
         """What it says is harmless: it has no letter that a terminal obeys."""
         found = played("rounds", "two", *nodes, timeout=timeout).finding
         said = dict(found.lines) if found else {}
         good = (
             (found and found.kind) == kind
-            and (not kind or words in said["wrong"])
+            and (not kind or sentence in said["wrong"])
             and "".join(said.values()).isprintable()
         )
         place = re.fullmatch(
@@ -125,15 +125,15 @@ class Misbehaving(Played):
         self.same(f"{how}: none is left", left_at_last(), [])
 
     def test_each_is_named(self):
-        for code, kind, words in ROWS:
+        for code, kind, sentence in ROWS:
             self.named(
                 code,
                 kind,
-                words,
+                sentence,
                 command(code.replace("{file!r}", repr(os.path.join(self.folder, "big")))),
             )
-        for code, kind, words in AT_ONCE:
-            self.named(code, kind, words, command(code, 1), timeout=0.3 if kind else 2)
+        for code, kind, sentence in AT_ONCE:
+            self.named(code, kind, sentence, command(code, 1), timeout=0.3 if kind else 2)
         self.named("goes at once", "ended", "status 0", [sys.executable, "-S", "-c", "", MARK])
         # The other answers late, so that the end of this one's output is there before its next message.
         self.named(

@@ -305,9 +305,9 @@ def tried(name):
 class Mistakes(Played):
     def is_right(self, name):
         """Whether a mistake shows in none of the runs with which the pages have it tried."""
-        kind, program, words = tried(name)
+        kind, program, text = tried(name)
         node = self.wrong_node(name, f"{kind}_node.py", *program)
-        done = call(kind, *words, "--one-process", "--first", "--", *RESERVED, *node)
+        done = call(kind, *text, "--one-process", "--first", "--", *RESERVED, *node)
         return done.returncode == 0
 
     def test_all_but_two_show(self):
@@ -341,7 +341,7 @@ class Mistakes(Played):
             is_early = not re.search(
                 r"came at pulse (\d+), and is to be kept until pulse \1 ", text
             )
-            self.note(name, is_early and all(words in text for words in row[3:]), text)
+            self.note(name, is_early and all(sentence in text for sentence in row[3:]), text)
 
     def test_of_other_programs(self):
         for program, names in OTHERS.items():
@@ -455,21 +455,21 @@ class Results(Played):
             "alpha": ("alpha_node", "AlphaNode"),
             "open": ("greedy_node", "GreedyNode"),
         }
-        for assignment, when, lines, right, words in RESULTS:
+        for assignment, when, lines, right, sentence in RESULTS:
             file, node = names[assignment]
             told = {"path": os.path.dirname(ROUNDS[-1]), "file": file, "node": node}
             code = CHANGED.format(when=when, lines=lines, **told)
             command = [sys.executable, "-S", "-c", code]
             found = self.found(right, assignment, "two", command, policy="oldest")
             said = dict(found.lines)["wrong"]
-            self.note(f"{assignment}, {when}: {lines}", words in said, said)
+            self.note(f"{assignment}, {when}: {lines}", sentence in said, said)
 
 
 @needs("bin/forestplan", "bin/forestplay")
 class Lines(Played):
     def test_what_is_no_line_or_no_wire_of_the_program(self):
         forms = "`layer N by PORT`, `layer 0`, `layer none` and `end`"
-        for program, assignment, line, words in (
+        for program, assignment, line, sentence in (
             ("layers", "rounds", "colour 0 1", f"which are `put PORT WORD NUMBER`, {forms}"),
             (
                 "layers",
@@ -507,7 +507,7 @@ class Lines(Played):
             said = dict(found.lines)["wrong"]
             self.note(
                 f"{assignment} of {program}: {line}",
-                found.kind == "garbage" and words in said,
+                found.kind == "garbage" and sentence in said,
                 found.text(),
             )
 

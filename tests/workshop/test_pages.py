@@ -47,7 +47,7 @@ class Pages(Case):
     def test_numbers(self):
         workshop, talking, teaching = page("WORKSHOP.md"), page("PROTOCOL.md"), page("WEEK.md")
         defaults = options.parsed(["rounds", "two", "--", "x"])
-        for text, number, words in (
+        for text, number, sentence in (
             (workshop, defaults.timeout, r"An answer may take ([\d,]+) seconds"),
             (talking, defaults.timeout, r"no answer within ([\d,]+) seconds"),
             (workshop, defaults.memory, r"([\d,]+)\s+megabytes of\s+memory"),
@@ -69,8 +69,8 @@ class Pages(Case):
             (teaching, len(cases.NETWORKS.split(",")), r"of which all (\w+) runs are right"),
         ):
             # A line may end at any blank of a page.
-            found = found_in(words, " ".join(text.split()))[1].replace(",", "")
-            self.same(words, NUMBERS.get(found, found), f"{number:.0f}")
+            found = found_in(sentence, " ".join(text.split()))[1].replace(",", "")
+            self.same(sentence, NUMBERS.get(found, found), f"{number:.0f}")
         self.assertEqual(guard.Limits(1, 1, 17).written < guard.Limits(1, 1, 16).written, True)
 
     def test_the_protocol_shows_a_message_and_its_answer(self):
@@ -182,7 +182,7 @@ class ClassFolder(FolderCase):
         self.assertLessEqual({"README.md", "LICENSE-MIT", "LICENSE-APACHE"}, self.found)
         environment = {"PATH": os.environ["PATH"], "HOME": self.folder}
         node = ["python3", "examples/workshop/skeletons/node.py"]
-        for words, status in (
+        for arguments, status in (
             (["workshop", "rounds", "two", "--", *node], 1),
             (["network", "tell", "petersen"], 0),
             *(
@@ -192,8 +192,8 @@ class ClassFolder(FolderCase):
         ):
             done = called(
                 os.path.join(self.folder, "bin", "forestlab"),
-                *words,
+                *arguments,
                 cwd=self.folder,
                 env=environment,
             )
-            self.note(words[0], done[0] == status and b"Traceback" not in done[2], done)
+            self.note(arguments[0], done[0] == status and b"Traceback" not in done[2], done)

@@ -65,8 +65,8 @@ REFUSED = (
 )
 
 
-def picture(words, text):
-    kind, *options = words.split()
+def picture(arguments, text):
+    kind, *options = arguments.split()
     status, drawn, fault = painter(kind, "two", "--transcript", "-", *options, data=text.encode())
     return status, drawn.decode(), fault.decode()
 
@@ -108,8 +108,8 @@ class Pictures(Played):
         self.note("said", "All payloads of these pulses: " in right, right)
 
     def test_refused(self):
-        for words, text, status, said in REFUSED:
-            self.refusal(f"{words} of {text[-30:]!r}", picture(words, text), status, said)
+        for arguments, text, status, said in REFUSED:
+            self.refusal(f"{arguments} of {text[-30:]!r}", picture(arguments, text), status, said)
 
     @needs("bin/forestplan", "bin/forestplay")
     def test_the_workshop_draws_what_is_wrong(self):

@@ -144,7 +144,7 @@ class Reach(Contained):
             attacks, names = attacks | COPIES | OF_ROOT, names | self.away()
             for path in (f"/{MARK}", f"/dev/{MARK}"):
                 self.addCleanup(remove, path)
-        tried = {name: words.format(**names) for name, words in attacks.items()}
+        tried = {name: command.format(**names) for name, command in attacks.items()}
         within, without = (got(done(guard, program(tried, BEGIN))) for guard in self.guards())
         self.same("all are tried", within.keys(), attacks.keys())
         for name in attacks:

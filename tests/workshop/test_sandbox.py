@@ -111,7 +111,7 @@ class Sandboxed(Contained):
     def test_nothing_outside_is_reached(self):
         names = self.names()
         of_root = OF_ROOT if os.geteuid() == 0 else {}
-        attacks = {name: words.format(**names) for name, words in (ATTACKS | of_root).items()}
+        attacks = {name: command.format(**names) for name, command in (ATTACKS | of_root).items()}
         self.addCleanup(remove, f"/dev/{MARK}")
         if of_root:  # a folder of the system that is open to all
             os.makedirs(f"/opt/{MARK}")
@@ -180,7 +180,7 @@ class Sandboxed(Contained):
 
     def test_what_it_takes(self):
         """Files, and memory that is shared or has no name."""
-        for name, more, words in (
+        for name, more, sentence in (
             (
                 "many files",
                 "for n in range(11_000):\n    open(str(n), 'w')\n",
@@ -194,11 +194,11 @@ class Sandboxed(Contained):
             ),
         ):
             found = self.fault_of(f"{more}time.sleep(60)\n", 200)
-            self.note(name, found.startswith("flood") and words in found, found)
+            self.note(name, found.startswith("flood") and sentence in found, found)
 
     def test_how_it_ends(self):
         """By a signal, with a status, or without a start, of which bubblewrap says why."""
-        for command, words in (
+        for command, sentence in (
             (["sh", "-c", "kill -9 $$"], "it ended with signal SIGKILL"),
             (["sh", "-c", "exit 3"], "it ended with status 3"),
             (["sh", "-c", "exit 200"], "it ended with status 200"),
@@ -210,7 +210,7 @@ class Sandboxed(Contained):
                 process.send(["workshop 1 rounds"])
                 process.receive()
             process.stop(0)
-            self.note(f"{command}", words in found.exception.message, found.exception.message)
+            self.note(f"{command}", sentence in found.exception.message, found.exception.message)
 
     def test_a_compiler_that_a_student_tells_what_to_do(self):
         """A plugin that javac starts copies another's node; in the container there is nothing to copy, and the classes

@@ -210,10 +210,10 @@ class Transcripts(Case):
     @needs("bin/forestplan", "bin/forestplay")
     def test_bars_that_a_program_ignores(self):
         """Each command that reads a network for another program says so once; the colouring minds bars."""
-        for words in (["simulate"], ["explore", "--limit", "100000"], ["picture", "watch"]):
+        for arguments in (["simulate"], ["explore", "--limit", "100000"], ["picture", "watch"]):
             for program, noted in (("colouring", 0), ("leader", 1), ("layers", 1)):
                 done = said_by(
-                    *words, "-", "--program", program, data=b"p edge 2 1\ne 1 2\nb 1 3\n"
+                    *arguments, "-", "--program", program, data=b"p edge 2 1\ne 1 2\nb 1 3\n"
                 )
-                count = done[2].count(f"{words[0]}: {program} ignores the bars of the network")
-                self.note(f"{words[0]} of {program}", (done[0], count) == (0, noted), done)
+                count = done[2].count(f"{arguments[0]}: {program} ignores the bars of the network")
+                self.note(f"{arguments[0]} of {program}", (done[0], count) == (0, noted), done)

@@ -210,7 +210,7 @@ class Paths(Case):
         closed = [os.path.join(home, "subs")]
         data = os.path.join(home, "data")
         self.same("data", grade.shown(line, data, closed), data)
-        for path, words in (
+        for path, sentence in (
             (home, f"would show {closed[0]}, or is in it"),
             (os.path.join(home, "subs", "anna"), f"would show {closed[0]}, or is in it"),
             (os.path.join(home, "data", "x"), "there is no such folder"),
@@ -222,4 +222,4 @@ class Paths(Case):
                 env={**os.environ, "PYTHONPATH": os.path.dirname(EXAMPLES.rpartition("/")[0])},
             )
             self.same(f"{path}: status", (done.returncode, done.stdout), (2, ""))
-            self.note(path, words in done.stderr, done.stderr)
+            self.note(path, sentence in done.stderr, done.stderr)

@@ -131,10 +131,10 @@ class Words(Case):
         """
         for given, program, rows in ASKED:
             rounds = RightRounds(given, program).work_out()
-            for v, p, of, words in rows:
+            for v, p, of, sentence in rows:
                 said = Why(rounds, v).of(p, **of)
                 name = f"{program} on {given.name}: node {v} in pulse {p}"
-                self.same(name, said[-len(words) :], words)
+                self.same(name, said[-len(sentence) :], sentence)
 
 
 PYTHON = """\
@@ -159,7 +159,7 @@ Exception in thread "main" java.lang.NullPointerException: Cannot read "String.l
 
 class StandardError(Case):
     def test_the_place_of_a_mistake_is_among_the_last_lines(self):
-        for text, words in (
+        for text, sentence in (
             (
                 PYTHON,
                 '`File "my_node.py", line 19, in pulse | return self.to(self.ports[0]) + self.to(port) | File '
@@ -173,7 +173,7 @@ class StandardError(Case):
             ),
             ("\n  ^^^ \n", ""),
         ):
-            self.same(repr(text[:20]), last_errors(text.encode()), words)
+            self.same(repr(text[:20]), last_errors(text.encode()), sentence)
 
     def test_how_far_it_is_is_said_now_and_then(self):
         errors = io.StringIO()

@@ -68,10 +68,10 @@ export function kindsIn(pictures) {
 }
 /** @type {WeakMap<HTMLElement, string>} */
 const shown = new WeakMap();
-// Shows the legend of some pictures; `words` has what some kinds mean there.
-/** @param {HTMLElement} place @param {Element[]} pictures @param {Record<string, string>} words */
-export function legend(place, pictures, words = {}) {
-  const kinds = kindsIn(pictures), said = kinds.map(kind => words[kind] || KINDS[kind][1]), key = kinds.concat(said).join();
+// Shows the legend of some pictures; `meanings` has what some kinds mean there.
+/** @param {HTMLElement} place @param {Element[]} pictures @param {Record<string, string>} meanings */
+export function legend(place, pictures, meanings = {}) {
+  const kinds = kindsIn(pictures), said = kinds.map(kind => meanings[kind] || KINDS[kind][1]), key = kinds.concat(said).join();
   if (shown.get(place) === key) return;
   shown.set(place, key);
   place.replaceChildren(...kinds.map((kind, k) => {

@@ -41,7 +41,7 @@ function update(element, wanted) {
   for (const key in before) if (!(key in now)) element.removeAttribute(key);
   element.shown = now;
   if (Array.isArray(wanted.inside)) patch(element, wanted.inside);
-  else if (element.words !== wanted.inside) element.textContent = element.words = wanted.inside;
+  else if (element.inside !== wanted.inside) element.textContent = element.inside = wanted.inside;
 }
 
 // What an event is of, which is an element of the page.
@@ -50,10 +50,10 @@ export function targetOf(event) { return /** @type {HTMLElement} */ (event.targe
 // An element of the page by its name, which it has to have.
 /** @type {<K extends keyof Elements>(id: K) => Elements[K]} */
 export function element(id) { return /** @type {any} */ (document.getElementById(id)); }
-/** @type {<K extends keyof HTMLElementTagNameMap>(name: K, words?: string | number | null, attributes?: Attributes) => HTMLElementTagNameMap[K]} */
-export function html(name, words = null, attributes = {}) {
+/** @type {<K extends keyof HTMLElementTagNameMap>(name: K, text?: string | number | null, attributes?: Attributes) => HTMLElementTagNameMap[K]} */
+export function html(name, text = null, attributes = {}) {
   const element = document.createElement(name);
-  if (words !== undefined && words !== null) element.textContent = String(words);
+  if (text !== undefined && text !== null) element.textContent = String(text);
   for (const key in attributes) element.setAttribute(key, String(attributes[key]));
   return element;
 }
@@ -72,7 +72,7 @@ export function sentence(said, attributes = {}) {
 /** @param {"th" | "td"} name @param {(string | number)[]} cells */
 export function row(name, cells) {
   const line = html("tr");
-  cells.forEach(words => line.append(html(name, words)));
+  cells.forEach(text => line.append(html(name, text)));
   return line;
 }
 // What a channel looks like: its hue, whether it is a ring, and the ink and the size of its number. The looks of channels
@@ -93,11 +93,11 @@ function digitsOf(number) { return BigInt(number).toString(2).length; }
 // A number as a mark has room for: 128d is one of 128 binary digits.
 /** @param {Numeral} number */
 export function short(number) {
-  const words = String(number);
-  return words.length > MOST_DIGITS ? digitsOf(words) + "d" : words;
+  const digits = String(number);
+  return digits.length > MOST_DIGITS ? digitsOf(digits) + "d" : digits;
 }
 /** @param {number} x @param {number} y @param {number} wanted @param {string} fill @param {string | number} said @param {Attributes} more */
-export function words(x, y, wanted, fill, said, more = {}) {
+export function textMark(x, y, wanted, fill, said, more = {}) {
   const size = Math.max(LEAST_SIZE, wanted);
   return mark("text", {x, y: y + 0.36 * size, "font-size": size.toFixed(1), fill, "text-anchor": "middle", ...more},
     String(said));
@@ -107,7 +107,7 @@ export function words(x, y, wanted, fill, said, more = {}) {
 export function resultWords(x, y, size, said, wide) {
   const most = Math.max(4, Math.min(MOST_LETTERS, Math.floor(wide / size / 0.6))), fits = said.length <= most;
   return [fits ? null : mark("title", {}, said),
-    words(x, y, size, "var(--ink)", fits ? said : said.slice(0, most - 1) + "…", HALO)];
+    textMark(x, y, size, "var(--ink)", fits ? said : said.slice(0, most - 1) + "…", HALO)];
 }
 const BOLD = {"font-weight": "bold"};
 export const HALO = {"paint-order": "stroke", stroke: "var(--paper)", "stroke-width": 3};
@@ -117,7 +117,7 @@ export function channelCircle(x, y, r, channel) {
   const {hue, is_ring: isRing, ink, size} = lookOf(channel), wide = Math.max(LEAST_RING, r * RING_WIDTH);
   return [isRing && mark("circle", {cx: x, cy: y, r: r - wide / 2, fill: WHITE, stroke: hue, "stroke-width": wide}),
     mark("circle", {cx: x, cy: y, r, fill: isRing ? "none" : hue, stroke: "var(--rim)", "data-mark": "channel"}),
-    words(x, y, r * size, ink, channel, BOLD)];
+    textMark(x, y, r * size, ink, channel, BOLD)];
 }
 // A colour of 0 to 5 in a forest, or in grey a number that is none yet.
 /** @param {number} x @param {number} y @param {number} half @param {Numeral} colour @param {boolean} isColour @returns {Marks} */
@@ -127,18 +127,18 @@ export function colourSquare(x, y, half, colour, isColour) {
   // What is as wide as its square is set closer.
   const close = said.length > 3 ? {textLength: 1.7 * half, lengthAdjust: "spacingAndGlyphs"} : {};
   return [mark("rect", {x: x - half, y: y - half, width: 2 * half, height: 2 * half, rx: half * 0.25, fill,
-    stroke: "var(--rim)", "data-mark": isColour ? "colour" : said === String(colour) ? "name" : "long_name"}), words(x, y, size, ink, said, {...BOLD, ...close})];
+    stroke: "var(--rim)", "data-mark": isColour ? "colour" : said === String(colour) ? "name" : "long_name"}), textMark(x, y, size, ink, said, {...BOLD, ...close})];
 }
 /** @param {number} x @param {number} y @param {number} r @param {string | number} [said] @returns {Marks} */
 export function blank(x, y, r, said) {
   return [mark("circle", {cx: x, cy: y, r, fill: "var(--paper)", stroke: "var(--ink)", "stroke-width": 1.6, "data-mark": "blank"}),
-    said === undefined ? null : words(x, y, r * 0.9, "var(--ink)", said, BOLD)];
+    said === undefined ? null : textMark(x, y, r * 0.9, "var(--ink)", said, BOLD)];
 }
 /** @param {number} x @param {number} y @param {number} r @param {number} channel @returns {Marks} */
 export function barMark(x, y, r, channel) {
   return [mark("circle", {cx: x, cy: y, r, fill: WHITE, stroke: lookOf(channel).hue, "data-mark": "bar"}),
     mark("line", {x1: x - 0.9 * r, y1: y + 0.9 * r, x2: x + 0.9 * r, y2: y - 0.9 * r, stroke: WRONG,
-      "stroke-width": 1.5}), words(x, y, r * sizeIn(BAR_SIZES, String(channel)), INK, channel, BOLD)];
+      "stroke-width": 1.5}), textMark(x, y, r * sizeIn(BAR_SIZES, String(channel)), INK, channel, BOLD)];
 }
 /** @param {string} said @param {number} size */
 export function pillWidth(said, size) { return said.length * size * 0.62 + 9; }
@@ -149,12 +149,12 @@ export const FADED = {fill: "var(--paper)", stroke: "var(--edge)", "stroke-dasha
 export function pill(x, y, said, kind, size, {ink = INK, ...more} = {}) {
   const wide = pillWidth(said, size), high = size + 6;
   return [mark("rect", {x: x - wide / 2, y: y - high / 2, width: wide, height: high, rx: high / 2, fill: PALE[kind],
-    stroke: WIRES[kind], "stroke-width": 1.6, "data-mark": kind, ...more}), words(x, y, size, ink, said)];
+    stroke: WIRES[kind], "stroke-width": 1.6, "data-mark": kind, ...more}), textMark(x, y, size, ink, said)];
 }
 // A red note on a white ground.
 /** @param {number} x @param {number} y @param {string} said @returns {Marks} */
 export function note(x, y, said) {
   const wide = said.length * 7 + 12;
   return [mark("rect", {x: x - wide / 2, y: y - 10, width: wide, height: 20, rx: 10, fill: WHITE, stroke: WRONG,
-    "stroke-width": 1.5}), words(x, y, 11.5, WRONG, said, BOLD)];
+    "stroke-width": 1.5}), textMark(x, y, 11.5, WRONG, said, BOLD)];
 }

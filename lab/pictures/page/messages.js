@@ -1,6 +1,6 @@
 // Nodes that react to messages, without rounds, and their messages.
 import {HUES} from "./hues.js";
-import {mark, resultWords, words} from "./marks.js";
+import {mark, resultWords, textMark} from "./marks.js";
 
 // Each word of messages has a hue, and the ink on it, in the order in which they are first seen.
 /** @type {Map<string, [string, string]>} */
@@ -21,7 +21,7 @@ export const MESSAGES = {
 /** @param {Stage} stage @param {ReactedLook} is @param {number} x @param {number} y @param {number} r @returns {Marks} */
 export function reactedMarks(stage, is, x, y, r) {
   return [mark("circle", {cx: x, cy: y, r, fill: "var(--paper)", stroke: "var(--ink)", "stroke-width": 1.6, "data-mark": "reacting"}),
-    words(x, y, r * 0.9, "var(--ink)", is.acts || "", {"font-weight": "bold"}),
+    textMark(x, y, r * 0.9, "var(--ink)", is.acts || "", {"font-weight": "bold"}),
     ...resultWords(x, y + r + 14, stage.largest / 2, is.found, stage.least)];
 }
 // What a node has found, how often it has acted and whether it may, in words.

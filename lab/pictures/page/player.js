@@ -21,9 +21,9 @@ function show(at) {
 }
 /** @param {string} place */
 function follow(place) {
-  const words = /^#pulse-(\d+)(?:-forest-(\d+))?$/.exec(place);
-  if (words) forest = Math.min(+words[2] || 0, Math.max(0, film.forests - 1));
-  time.set(words ? +words[1] : 0);
+  const found = /^#pulse-(\d+)(?:-forest-(\d+))?$/.exec(place);
+  if (found) forest = Math.min(+found[2] || 0, Math.max(0, film.forests - 1));
+  time.set(found ? +found[1] : 0);
 }
 const time = openPage([stage], {show, follow, rate: () => 0.8, click(v) { chosen = v === chosen ? null : v; },
   step: way => time.set(way > 0 ? Math.floor(time.at + 1) : Math.ceil(time.at - 1))});

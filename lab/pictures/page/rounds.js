@@ -1,7 +1,7 @@
 // The rounds of a network, pulse by pulse, by what lab/ has worked out.
 import {WIRES} from "./hues.js";
 import {FADED, HALO, blank, channelCircle, colourSquare, discOf, html, mark, pill, pillWidth, resultWords, short,
-  words} from "./marks.js";
+  textMark} from "./marks.js";
 
 const ORIENT = 1, SEED = 2, LAST_BIT_STEP = 6, LAST_COLOUR = 12;
 // Above so many messages they are dots, this wide.
@@ -77,7 +77,7 @@ export class RoundsFilm {
   reasonTells(p) { return Boolean(this.found.pulses[p].results || this.found.pulses[p].step); }
   // What a node has at a pulse, in words.
   /** @param {number} v @param {number} p @param {number | null} forest */
-  words(v, p, forest) {
+  stateText(v, p, forest) {
     const {results, colours} = this.found.pulses[p];
     if (results) return results[v - 1] || "nothing found yet";
     const channel = v in this.merged[p] ? `channel ${this.merged[p][v] + 1}` : "no channel yet";
@@ -111,7 +111,7 @@ export class RoundsFilm {
     if (this.channels) return channelCircle(x, y, r, Number(colour) + 1);
     const [fill, ink] = discOf(colour || 0);
     const disc = colour === null ? blank(x, y, r, v) : [mark("circle", {cx: x, cy: y, r, fill,
-      stroke: "var(--ink)", class: "found-colour", "data-mark": "found"}), words(x, y, r * 0.9, ink, v)];
+      stroke: "var(--ink)", class: "found-colour", "data-mark": "found"}), textMark(x, y, r * 0.9, ink, v)];
     return [...disc, ...resultWords(x, y + r + 12, Math.min(11.5, r), pulse.results[v - 1], stage.least)];
   }
   // The colour of a node in a forest after one of the pulses 2 to 12.
@@ -126,7 +126,7 @@ export class RoundsFilm {
     const old = v in this.merged[p] ? this.merged[p][v] : this.found.first[v - 1], half = 0.45 * r;
     const colour = this.colourAt(LAST_COLOUR, v, forest);
     return [...colourSquare(x - 0.9 * r, y + 1.55 * r, half, colour, true),
-      words(x + 0.15 * r, y + 1.55 * r, half * 1.9, "var(--ink)", old, {...HALO, "font-weight": "bold", "data-mark": "pair"})];
+      textMark(x + 0.15 * r, y + 1.55 * r, half * 1.9, "var(--ink)", old, {...HALO, "font-weight": "bold", "data-mark": "pair"})];
   }
   /** @param {Stage} stage @param {number} p @param {number | null} forest */
   arrows(stage, p, forest) {
@@ -178,7 +178,7 @@ export class RoundsFilm {
     stage.draw({node: (v, x, y, r) => [...this.node(stage, p, shown, v, x, y, r), ...turn(v, x, y, r)], links: () => this.arrows(stage, p, shown),
       above: () => quiet ? [] : this.messages(stage, p, at - p, forest, {why, node}),
       below: Boolean(pulse.results && !this.channels || pulse.step && !plain),
-      says: v => `pulse ${p}, ${this.words(v, p, shown)}`,
+      says: v => `pulse ${p}, ${this.stateText(v, p, shown)}`,
       label: pulse.results && !this.channels ? v => this.net.nodes[v - 1].label
         : quiet ? v => stage.radius < 9 ? "" : String(v) : null,
       ring: v => v === node ? "var(--glow)" : names.has(v) ? "var(--edge)" : null,
@@ -221,11 +221,11 @@ export class RoundsFilm {
     }
     for (let q = SEED; q <= LAST_COLOUR; q++) {
       const x = 132 + (q - 2) * 20;
-      parts.push(words(x, 7, 9, "var(--soft)", q, {"font-weight": q === p ? "bold" : "normal"}));
+      parts.push(textMark(x, 7, 9, "var(--soft)", q, {"font-weight": q === p ? "bold" : "normal"}));
     }
     rows.forEach(([who, f, said], k) => {
       const y = 16 + k * (side + 3) + side / 2;
-      parts.push(words(0, y, 10.5, who === v ? "var(--ink)" : "var(--soft)", said, {"text-anchor": "start"}));
+      parts.push(textMark(0, y, 10.5, who === v ? "var(--ink)" : "var(--soft)", said, {"text-anchor": "start"}));
       for (let q = SEED; q <= LAST_COLOUR; q++) {
         const colour = this.colourAt(q, who, f), x = 132 + (q - 2) * 20;
         parts.push(...colourSquare(x, y, side / 2 - 0.5, colour, q > SEED && Number(colour) <= 5),

@@ -1,6 +1,6 @@
 // A run without a clock: rows that lab/pictures/watch_page.py has worked out of a transcript.
 import {WIRES} from "./hues.js";
-import {FADED, channelCircle, html, mark, pill, pillWidth, resultWords, row, words} from "./marks.js";
+import {FADED, channelCircle, html, mark, pill, pillWidth, resultWords, row, textMark} from "./marks.js";
 import {nameOf} from "./stage.js";
 
 /** @type {Record<string, string>} */
@@ -51,7 +51,7 @@ export function alphaMarks(stage, is, v, x, y, r) {
   const [fill, kind] = stageOf(is);
   /** @type {Marks} */
   const parts = [mark("circle", {cx: x, cy: y, r, fill, stroke: "var(--ink)", "stroke-width": 1.6, "data-mark": kind}),
-    words(x, y, r * 0.9, "var(--ink)", is.pulse, {"font-weight": "bold"})];
+    textMark(x, y, r * 0.9, "var(--ink)", is.pulse, {"font-weight": "bold"})];
   parts.push(...portMarks(stage, is, v, x, y, r));
   if (typeof is.found === "string") parts.push(...resultWords(x, y + r + 10, 11, is.found, stage.least));
   else if (is.found) parts.push(...channelCircle(x + 0.95 * r, y + 0.75 * r, Math.max(6, r * 0.5), is.found));

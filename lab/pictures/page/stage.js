@@ -1,6 +1,6 @@
 // A picture of a network: where things are on the screen, what is drawn, and what is under the pointer.
 import {HEAD, LITTLE, MOST_BARS, SHORT, SIDES} from "./hues.js";
-import {HALO, barMark, mark, patch, words} from "./marks.js";
+import {HALO, barMark, mark, patch, textMark} from "./marks.js";
 
 const RING = 7;
 
@@ -273,10 +273,10 @@ export class Stage {
     const wide = said.length * size * 0.3, spot = this.outside(v, this.labelAt(v, wide, size, below), wide, size);
     /** @type {Marks} */
     const parts = [colour && mark("circle", {cx: x, cy: y, r: r + RING - 2, fill: "none", stroke: colour, "stroke-width": 4, "data-mark": colour.replace(/var\(--(\w+)\)/, "ring_$1")}),
-      ...node(v, x, y, r), words(...spot, size, "var(--soft)", said, HALO)];
+      ...node(v, x, y, r), textMark(...spot, size, "var(--soft)", said, HALO)];
     if (bars) own.slice(0, MOST_BARS).forEach((bar, n) => parts.push(...barMark(x + r + 8 + n * 19, y + r + 5, 9, bar)));
     const more = `+${own.length - MOST_BARS}`;
-    if (bars && own.length > MOST_BARS) parts.push(words(x + r + 90, y + r + 5, 11, "var(--wrong)", more, HALO));
+    if (bars && own.length > MOST_BARS) parts.push(textMark(x + r + 90, y + r + 5, 11, "var(--wrong)", more, HALO));
     return mark("g", {class: "node", tabindex: 0, role: "button", "data-node": v, "aria-label": [`node ${said || v}`, says(v)].filter(Boolean).join(": ")},
       parts);
   }

@@ -13,7 +13,7 @@ interface Mark { name: string; attributes: Attributes; inside: Inside; }
 type Marks = (Mark | null | undefined | boolean | 0 | "")[];
 type Inside = string | null | Marks;
 // An element that was made of a mark; it knows the mark, and what it shows.
-interface Shown extends SVGElement { mark?: Mark; shown?: Attributes; words?: string | null; }
+interface Shown extends SVGElement { mark?: Mark; shown?: Attributes; inside?: string | null; }
 // A node's circle on the stage: its number, its place and its radius.
 type OfNode<Result> = (v: number, x: number, y: number, r: number) => Result;
 

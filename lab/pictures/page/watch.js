@@ -53,8 +53,8 @@ function step(way) {
 }
 /** @param {string} place */
 function follow(place) {
-  const words = /^#(entry|pulse)-(\d+)(?:-node-(\d+))?$/.exec(place), n = words ? +words[2] : 0;
-  const isPulse = words !== null && words[1] === "pulse", v = words ? Number(words[3] || 0) : 0;
+  const found = /^#(entry|pulse)-(\d+)(?:-node-(\d+))?$/.exec(place), n = found ? +found[2] : 0;
+  const isPulse = found !== null && found[1] === "pulse", v = found ? Number(found[3] || 0) : 0;
   chosen = v <= D.net.nodes.length && v || null;
   if (two) time.set(isPulse ? n : D.pulses[0]);
   else time.set(isPulse ? stampOfPulse(n) : stampOfEntry(n));

@@ -6,10 +6,10 @@ import {Stage} from "./stage.js";
 import {Time} from "./time.js";
 
 export const by = element;
-/** @type {(words: string) => HTMLElement[]} */
-export const all = words => Array.from(document.querySelectorAll(words));
-/** @type {(words: string) => HTMLInputElement[]} */
-export const inputs = words => Array.from(document.querySelectorAll(words));
+/** @type {(selector: string) => HTMLElement[]} */
+export const all = selector => Array.from(document.querySelectorAll(selector));
+/** @type {(selector: string) => HTMLInputElement[]} */
+export const inputs = selector => Array.from(document.querySelectorAll(selector));
 // What is seen. `hello` is what there is to choose from, `program` what the nodes run; `slow` and `lazy` are the links
 // and the nodes that wait, `without` the rule of the synchroniser that is left out.
 /** @type {Seen} */
@@ -79,16 +79,16 @@ export function sayLast({asked = 0}, last, what) {
 }
 // What a screen reader says: at most once a second, and nothing while it plays.
 let announcing = 0, announced = 0;
-/** @param {string} words */
-export function announce(words) {
+/** @param {string} text */
+export function announce(text) {
   clearTimeout(announcing);
   if (time.timer) return;
-  announcing = setTimeout(() => { announced = Date.now(); say("live", words); },
+  announcing = setTimeout(() => { announced = Date.now(); say("live", text); },
     Math.max(150, announced + 1000 - Date.now()));
 }
 // Makes anew what a place says only if it is something else: what is left as it is needs no layout.
-/** @param {keyof Elements} id @param {string} words */
-export function say(id, words) { if (by(id).textContent !== words) by(id).textContent = words; }
+/** @param {keyof Elements} id @param {string} text */
+export function say(id, text) { if (by(id).textContent !== text) by(id).textContent = text; }
 /** @type {Map<string, string>} */
 const filled = new Map();
 /** @param {keyof Elements} id @param {string} key @param {() => (Node | string)[]} parts */
@@ -181,11 +181,11 @@ export function ruleBoxes(id, rules, left, choose) {
   const place = by(id), names = left.split(",").filter(Boolean);
   by(`${id}said`).textContent = "leave out: " + (names.join(", ") || "no rule");
   place.replaceChildren(...Object.entries(rules).map(([name, {says}]) => {
-    const label = html("label"), box = html("input", null, {type: "checkbox", value: name}), words = html("span");
+    const label = html("label"), box = html("input", null, {type: "checkbox", value: name}), text = html("span");
     box.checked = names.includes(name);
     box.onchange = () => choose(inputs(`#${id} :checked`).map(one => one.value).join());
-    words.append(html("b", name), `: ${says}`);
-    label.append(box, words);
+    text.append(html("b", name), `: ${says}`);
+    label.append(box, text);
     return label;
   }));
 }

@@ -174,7 +174,7 @@ interface BadPlan {
   said: string;
   at: number[];
   code: string;
-  words: string;
+  sentence: string;
   do: string;
   ok: false;
 }
@@ -187,7 +187,7 @@ interface WhyFound {
 
 interface Broken {
   here: boolean;
-  words: string[];
+  lines: string[];
   found: Net | null;
   picture: string | null;
 }

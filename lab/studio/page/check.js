@@ -41,7 +41,7 @@ function showPlan() {
     + `node, and the greatest is ${is.greatest}.`]
     : is.code === "C1" && left ? [`${left} of ${net.nodes.length} nodes have no channel yet (C1)`,
       `The check names the first, node ${is.at[0]}. Dashed edges are clashes that this page sees.`]
-    : [`${capital(is.words)}${is.code === "C4" ? `, ${plan[at[0] - 1]}` : ""} (${is.code})`, `What to do: ${is.do}.`];
+    : [`${capital(is.sentence)}${is.code === "C4" ? `, ${plan[at[0] - 1]}` : ""} (${is.code})`, `What to do: ${is.do}.`];
   place.replaceChildren(html("b", head), html("p", more, {class: is.ok ? "" : "soft"}));
   announce(`${head}. ${more}`);
 }

@@ -189,9 +189,9 @@ export async function openFile(file, stated = [], name = null) {
   by("notes").textContent = "";
   if (file.size > 4e6) return wrong("That file is larger than the studio reads.");
   const bytes = new Uint8Array(await file.arrayBuffer());
-  let words = "";
-  for (let k = 0; k < bytes.length; k += 32768) words += String.fromCharCode(...bytes.subarray(k, k + 32768));
-  await asks("read", {name: file.name, data: btoa(words), stated}, "reading the file", found => {
+  let letters = "";
+  for (let k = 0; k < bytes.length; k += 32768) letters += String.fromCharCode(...bytes.subarray(k, k + 32768));
+  await asks("read", {name: file.name, data: btoa(letters), stated}, "reading the file", found => {
     if (found.unsaid !== undefined) return askWhat(file, stated, name, found);
     model.load({...found, name: name === null ? found.name : name});
     if (seen.tab !== "draw") go("draw");
@@ -202,10 +202,10 @@ export async function openFile(file, stated = [], name = null) {
 // Nothing is guessed: what isn't said of a file is asked. Of a table without standard titles any columns may be meant.
 /** @param {File} file @param {string[]} stated @param {string | null} name @param {FileUnsaid} found */
 function askWhat(file, stated, name, {unsaid, choices, wanted, titles}) {
-  /** @type {(means: string, words: () => string[]) => HTMLButtonElement} */
-  const say = (means, words) => {
+  /** @type {(means: string, choice: () => string[]) => HTMLButtonElement} */
+  const say = (means, choice) => {
     const button = html("button", means);
-    button.onclick = () => openFile(file, [...stated, ...words()], name);
+    button.onclick = () => openFile(file, [...stated, ...choice()], name);
     return button;
   };
   const choosers = wanted.map((column, k) => {
@@ -229,10 +229,10 @@ function askWhat(file, stated, name, {unsaid, choices, wanted, titles}) {
   if (columns.length) by("unsaidchoices").append(...columns, say("read these", chosen));
 }
 // What is saved is a text or a page, for whoever has no studio.
-/** @param {string} words @param {string} ending What comes after the network's name. */
-function download(words, ending) {
+/** @param {string} text @param {string} ending What comes after the network's name. */
+function download(text, ending) {
   const type = ending === ".html" ? "text/html" : "text/plain", name = (net.name || "network") + ending;
-  const link = html("a", null, {href: URL.createObjectURL(new Blob([words], {type})), download: name});
+  const link = html("a", null, {href: URL.createObjectURL(new Blob([text], {type})), download: name});
   link.click();
   setTimeout(() => URL.revokeObjectURL(link.href), 1000);
 }

@@ -11,10 +11,10 @@ export function kept(name) {
     return here.get(name) || "";
   }
 }
-/** @param {string} name @param {string} words */
-export function keep(name, words) {
-  here.set(name, words);
-  try { localStorage.setItem(name, words); } catch { isKept = false; }
+/** @param {string} name @param {string} text */
+export function keep(name, text) {
+  here.set(name, text);
+  try { localStorage.setItem(name, text); } catch { isKept = false; }
 }
 // A list that is kept, or what is kept by names. What isn't one, as somebody else has kept it, is as good as nothing.
 /** @param {string} name @returns {string[]} */
@@ -28,7 +28,7 @@ export function keptNumbers(name) {
   const pairs = found && typeof found === "object" && !Array.isArray(found) ? Object.entries(found) : [];
   return new Map(pairs.filter(([, number]) => Number.isInteger(number)));
 }
-/** @param {string} words @returns {unknown} */
-function parsed(words) {
-  try { return JSON.parse(words || "null"); } catch { return null; }
+/** @param {string} text @returns {unknown} */
+function parsed(text) {
+  try { return JSON.parse(text || "null"); } catch { return null; }
 }

@@ -66,11 +66,11 @@ function isOther({exercise}) {
   const {steps: all_} = lessonSeen() || {steps: []}, place = all_.slice(0, seen.step || 1).map(one => one.place).filter(Boolean).pop() || "";
   return place.startsWith("example=") && net.name === "" && !(exercise && exercise.kind === "seen");
 }
-/** @param {string} words @param {string} what */
-function head(words, what) {
+/** @param {string} title @param {string} what */
+function head(title, what) {
   const box = html("div", null, {class: "head"}), close = html("button", "×", {class: "quiet", "aria-label": `close ${what}`});
   close.onclick = () => { Object.assign(seen, {lesson: null, step: null, lecture: null}); showCard(); hooks.link(); };
-  box.append(html("h2", words), close);
+  box.append(html("h2", title), close);
   return box;
 }
 function partsOfStep() {
@@ -100,7 +100,7 @@ function arrows(where, again, back, on) {
   const box = html("nav", null, {class: "arrows", "aria-label": "back and on"});
   /** @type {(way: Way, more: Attributes) => HTMLElement} */
   const button = (way, more) => {
-    const [words, name, does] = way || ["", "", () => 0], one = html("button", words, {"aria-label": name, title: name, ...more});
+    const [label, name, does] = way || ["", "", () => 0], one = html("button", label, {"aria-label": name, title: name, ...more});
     one.onclick = does;
     one.hidden = !way;
     return one;
@@ -187,28 +187,28 @@ async function judged(lesson, is, what) {
   }
 }
 // What is lacking, as a sentence: a published page says in whole ones what it can't judge.
-/** @param {string} words */
-function notYet(words) { return `Not yet: ${words}${words.endsWith(".") ? "" : "."}`; }
+/** @param {string} text */
+function notYet(text) { return `Not yet: ${text}${text.endsWith(".") ? "" : "."}`; }
 /** @param {number} lesson @param {Exercise} is */
 function isOpen(lesson, is) {
   const step = stepSeen();
   return seen.lesson === lesson && step !== undefined && step.exercise === is;
 }
-/** @param {number} lesson @param {Exercise} is @param {string} words */
-function finish(lesson, is, words) {
+/** @param {number} lesson @param {Exercise} is @param {string} text */
+function finish(lesson, is, text) {
   const isNew = !isDone(lesson, is);
   tick(lesson, is);
   if (isNew) showTicks();
-  say(lesson, is, words);
+  say(lesson, is, text);
 }
 // What is said of an exercise, behind a box that is ticked if it is done.
-/** @param {number} lesson @param {Exercise} is @param {string} words */
-function say(lesson, is, words) {
+/** @param {number} lesson @param {Exercise} is @param {string} text */
+function say(lesson, is, text) {
   // The answer to a question is written as the steps are, with words in italics.
   const isIt = isDone(lesson, is), parted = isIt && is.kind === "said" ? partsOf : coded, notKept = isIt && !isKept ? " This browser keeps no ticks, so they go with this page." : "";
   all("#lesson .judged").forEach(place => {
     place.className = `judged ${isIt ? "good" : ""}`;
-    place.replaceChildren(html("span", isIt ? "☑ " : "☐ ", {class: "box"}), ...parted(capital(words || "Not done yet.") + notKept));
+    place.replaceChildren(html("span", isIt ? "☑ " : "☐ ", {class: "box"}), ...parted(capital(text || "Not done yet.") + notKept));
   });
 }
 // The footer, and the menu of the lessons, with what is done now.
@@ -244,22 +244,22 @@ hooks.answered = asked_ => {
   if (("pulse" in asked_ ? asked_.pulse : 0) === is.pulse) finish(lesson, is, "done");
 };
 // A text that is made when it is opened.
-/** @param {string} title @param {string} words */
-function folded(title, words) {
+/** @param {string} title @param {string} text */
+function folded(title, text) {
   const place = html("details");
   place.append(html("summary", title));
-  place.addEventListener("toggle", () => { if (place.open) place.append(...textOf(words)); }, {once: true});
+  place.addEventListener("toggle", () => { if (place.open) place.append(...textOf(text)); }, {once: true});
   return place;
 }
 
 // The lecture. What the speaker says isn't on a screen for the class, which is the large one.
 /** @param {number} at */
 function partsOfPlace(at) {
-  const {lecture} = hello(), place = lecture[at - 1], words = html("div", null, {class: "speaker"});
+  const {lecture} = hello(), place = lecture[at - 1], speech = html("div", null, {class: "speaker"});
   if (!place) return [];
-  words.append(...textOf(place.say), html("p", "In the large mode (the key F) these words aren’t seen. A second window with the lecture"
+  speech.append(...textOf(place.say), html("p", "In the large mode (the key F) these words aren’t seen. A second window with the lecture"
     + " goes along with this one, and keeps them.", {class: "soft"}));
-  return [head(capital(place.title), "the lecture"), words,
+  return [head(capital(place.title), "the lecture"), speech,
     arrows(`${at} of ${lecture.length}, minutes ${place.minutes}`, ["↺", "this place from its beginning", () => goTo(at)], at > 1 ? ["◂", "the place before", () => goTo(at - 1)] : undefined,
       at < lecture.length ? ["next ▸", "the next place", () => goTo(at + 1)] : undefined)];
 }

@@ -27,7 +27,7 @@ export class Question {
     this.key = key;
     this.tries = 0;
     this.isTold = false;
-    place.replaceChildren(html("p", is.words));
+    place.replaceChildren(html("p", is.text));
     if (is.call) place.append(this.form(is), html("div", null, {role: "status"}));
   }
   // Of an answer that is a list its parts are ticked.

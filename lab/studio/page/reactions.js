@@ -15,11 +15,11 @@ export function keptLine(is) {
 /** @param {ReactionsFound} is @param {number | null} node @param {Omit<SendsCall, "said" | "step">} asked @returns {Asked} */
 export function sendsQuestion(is, node, asked) {
   const step = is.steps.find(one => parseInt(one, 10) === node) || is.steps[0], kinds = wordsOfFile();
-  if (!step || !kinds.length) return {words: step ? "The file is being read." : "Nothing can happen any more."};
+  if (!step || !kinds.length) return {text: step ? "The file is being read." : "Nothing can happen any more."};
   const [v, w] = step.split("-").map(Number), link = is.wires.find(one => one[0] === w && one[1] === v);
   const does = link ? `takes ${link[2][0]} from ${w}` : "acts";
   const choices = neighbours(v).flatMap(to => kinds.map(kind => `${kind} ${to}`));
-  return {words: `Node ${v} ${does}. What does it send then? Tick it, or nothing.`, call: "sends", choices, asked: {...asked, step}};
+  return {text: `Node ${v} ${does}. What does it send then? Tick it, or nothing.`, call: "sends", choices, asked: {...asked, step}};
 }
 // What the file says of where the run is, and why nothing goes on.
 /** @param {ReactionsFound} is @param {boolean} isHeld */

@@ -117,7 +117,7 @@ async function exercise(asked) {
 async function judgedPlan(is, asked) {
   const plan = asked.plan || [], verdict = await checked({network: asked.network, plan}), left = plan.filter(one => !one).length;
   if (verdict.ok) return {done: true, said: is.proper[new Set(plan).size - 1]};
-  return {done: false, said: left ? is.blank[left - 1] : verdict.words};
+  return {done: false, said: left ? is.blank[left - 1] : verdict.sentence};
 }
 /** @param {StepsJudged} is @param {ExerciseCall} asked @returns {Promise<ExerciseJudged>} */
 async function judgedSteps({dare, enough, more, before, after}, asked) {

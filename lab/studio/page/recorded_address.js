@@ -126,8 +126,8 @@ function valuesOf(pairs, hello, here, before) {
   const unread = before.slice();
   // In the order of the grammar: what comes later may be of the program or the lesson.
   for (const name of Object.keys(hello.address).filter(one => pairs.has(one))) {
-    const said = pairs.get(name) || "", words = name === "net" ? said : decoded(said), fits = FITS[name];
-    const value = words === undefined ? undefined : READ[hello.address[name]](words, name);
+    const said = pairs.get(name) || "", text = name === "net" ? said : decoded(said), fits = FITS[name];
+    const value = text === undefined ? undefined : READ[hello.address[name]](text, name);
     if (value === undefined || fits && !fits(value, hello, here, values)) unread.push(`${name}=${said}`);
     else Object.assign(values, {[name]: value});
   }
@@ -167,8 +167,8 @@ const ADDS = {
     return isChannel && !bars.includes(+said) ? {bars: [...bars, +said]} : null;
   },
   n: ({name}, said) => {
-    const words = decoded(said);
-    return name || words === undefined ? null : {name: words};
+    const text = decoded(said);
+    return name || text === undefined ? null : {name: text};
   },
 };
 // Whether a part of the network's code says something of nodes, which then have it.

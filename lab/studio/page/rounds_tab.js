@@ -14,10 +14,10 @@ const question = new Question("question", () => {
   const film = ready();
   if (!rounds.predicts || !film) return null;
   const p = Math.floor(time.at), {forest} = rounds, {node} = seen;
-  if (!node) return {words: "Click a node: what will it have after the next pulse?"};
+  if (!node) return {text: "Click a node: what will it have after the next pulse?"};
   const found = film.question(node, p, forest);
-  if (!found) return {words: p < 1 ? "Go on to pulse 1." : "This is the last pulse."};
-  return {words: found[0], picks: found[1], call: "predict", compared: film.compared(node, p, forest),
+  if (!found) return {text: p < 1 ? "Go on to pulse 1." : "This is the last pulse."};
+  return {text: found[0], picks: found[1], call: "predict", compared: film.compared(node, p, forest),
     tells: film.reasonTells(p + 1), asked: {network: text(), program: programNamed(), vertex: node, pulse: p + 1, forest}};
 }, () => time.set(Math.floor(time.at) + 1));
 
@@ -68,7 +68,7 @@ function showAt() {
   say("when", `pulse ${p} of ${film.last}`);
   markRan(p ? ["step", "next"] : ["greet"], 0);
   if (isFirst) say("story", storyOf(film, p));
-  const ofNode = node ? ` Node ${node}: ${film.words(node, p, film.forestAt(p, rounds.forest))}.` : "";
+  const ofNode = node ? ` Node ${node}: ${film.stateText(node, p, film.forestAt(p, rounds.forest))}.` : "";
   announce(`pulse ${p}. ${said}${ofNode}`);
   fill("said", caption + said, () => [said, html("br"), html("span", caption, {class: "soft"})]);
   const hasFocus = by("forests").contains(document.activeElement);
@@ -134,13 +134,13 @@ function askBroken() {
   place.replaceChildren();
   if (!isLeft) return stage.fit();
   const asked = {network: text(), name: net.name, without: rounds.without, program: programNamed()};
-  asks("broken", asked, "looking for what goes wrong", ({here, words, found, picture: svg}) => {
+  asks("broken", asked, "looking for what goes wrong", ({here, lines, found, picture: svg}) => {
     if (seen.tab !== "rounds") return;
     const draw = html("button", "draw this smallest network"), back = html("button", "back to all rules");
     draw.onclick = () => { if (found) load_(found); };
     back.onclick = () => leaveOut("");
     place.append(html("p", leftOutWords(rulesHere(), rounds.without), {class: "soft"}), sentence(
-      words.map(capital).join(". ") + (found ? "; the picture is of a smallest network on which they go wrong." : "."),
+      lines.map(capital).join(". ") + (found ? "; the picture is of a smallest network on which they go wrong." : "."),
       {class: here ? "bad" : ""}), found ? draw : "", " ", back);
     if (svg) hang(svg, "without " + rounds.without); else { stageHas(false); stage.fit(); show(); }
   });

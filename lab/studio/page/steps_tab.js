@@ -19,10 +19,10 @@ function questionHere() {
   const {node} = seen, {without, made, found} = steps, program = programNamed();
   if (!steps.predicts) return null;
   if (found && found.nodes) return sendsQuestion(found, node, {network: text(), program, without, steps: made.join("_")});
-  if (!node || !found) return {words: "Click a node that can’t make its pulse: what does it wait for?"};
+  if (!node || !found) return {text: "Click a node that can’t make its pulse: what does it wait for?"};
   const look = found.looks[node - 1], kinds = look && look.pulse < found.last ? ["ack", "safe"] : ["close"];
   const choices = neighbours(node).flatMap(w => kinds.map(kind => `${kind} ${w}`));
-  return {words: `What does node ${node} wait for? Tick it, or nothing.`, call: "waits", choices,
+  return {text: `What does node ${node} wait for? Tick it, or nothing.`, call: "waits", choices,
     asked: {network: text(), program, without, steps: made.join("_"), vertex: node}};
 }
 const question = new Question("question2", questionHere, () => {

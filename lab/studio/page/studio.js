@@ -42,8 +42,8 @@ hooks.show = () => {
   document.title = titleSeen();
   by("slider").setAttribute("aria-valuetext", by("when").textContent || "");
   by("legend").hidden = seen.tab === "pictures";
-  const words = seen.tab === "adversary" && reacts() ? {ring_good: "it may act now: click it"} : LEGENDS[seen.tab];
-  legend(by("legend"), [stage.svg, by("second")].filter(one => !one.hasAttribute("hidden")), words);
+  const meanings = seen.tab === "adversary" && reacts() ? {ring_good: "it may act now: click it"} : LEGENDS[seen.tab];
+  legend(by("legend"), [stage.svg, by("second")].filter(one => !one.hasAttribute("hidden")), meanings);
   showCard();
   hooks.link();
 };
@@ -338,7 +338,7 @@ function showPlaceOf({network}, given) {
 /** @type {CopyLink} */
 hooks.copy = async (button, more = {}) => {
   link();
-  const words = button.textContent || "", place = "#" + written({...stateSeen(), ...more}, hello().address);
+  const label = button.textContent || "", place = "#" + written({...stateSeen(), ...more}, hello().address);
   /** @param {string} said */
   const say_ = said => { button.textContent = said; };
   try { await navigator.clipboard.writeText(location.href.split(/[?#]/)[0] + place); say_("copied"); } catch {
@@ -346,7 +346,7 @@ hooks.copy = async (button, more = {}) => {
     location.assign(place);
     say_("see the address");
   }
-  setTimeout(() => say_(words), 2000);
+  setTimeout(() => say_(label), 2000);
 };
 by("copy").onclick = () => hooks.copy(by("copy"));
 // A menu has its title again once something is chosen. An arrow on a closed one opens it: it would choose at once.

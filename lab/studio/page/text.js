@@ -5,18 +5,18 @@ const INLINE = /`([^`]+)`|\*\*([^*]+)\*\*|\*([^*\s][^*]*)\*|!\[([^\]]*)\]\(([^)]
 const ITEM = /^(- |\d+\. )/, STUDIO = "http://127.0.0.1:8321/";
 
 // A link to a place of the studio leads there; one to another page has its words alone.
-/** @param {string} words @param {string} to */
-function link(words, to) {
+/** @param {string} text @param {string} to */
+function link(text, to) {
   const place = /^#\w+=/.test(to) ? to : to.startsWith(STUDIO + "#") ? to.slice(STUDIO.length) : null;
-  return place ? html("a", words, {href: place}) : words;
+  return place ? html("a", text, {href: place}) : text;
 }
 /** @param {RegExpMatchArray} found */
-function shown([whole, code, bold, italic, said, picture, words, to]) {
+function shown([whole, code, bold, italic, said, picture, text, to]) {
   if (code) return html("code", code);
   if (bold) return html("b", bold);
   if (italic) return html("i", italic);
   if (picture) return html("img", null, {alt: said, src: picture.replace(/^\.\.\//, "")});
-  return words ? link(words, to) : whole;
+  return text ? link(text, to) : whole;
 }
 /** @param {"p" | "td" | "th"} name @param {string} said */
 function inline(name, said) {
@@ -75,9 +75,9 @@ function blockOf(lines) {
 // One line as the parts of a paragraph.
 /** @param {string} said */
 export function partsOf(said) { return Array.from(inline("p", said).childNodes); }
-/** @param {string} words */
-export function textOf(words) {
-  const lines = words.split("\n"), blocks = [];
+/** @param {string} text */
+export function textOf(text) {
+  const lines = text.split("\n"), blocks = [];
   while (lines.length) if (lines[0].trim()) blocks.push(blockOf(lines)); else lines.shift();
   return blocks;
 }

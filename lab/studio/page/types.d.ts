@@ -77,9 +77,9 @@ interface Seen {
 // A question on a node, and the call that judges its answer, if it can be answered. A pick is an answer that is tapped;
 // of `choices` those are ticked that are part of the answer. `compared` are the numbers of which it is made, each with
 // whose it is; `tells` says that the reason has the answer in it.
-interface Hint { words: string; call?: undefined; }
+interface Hint { text: string; call?: undefined; }
 interface OfRounds {
-  words: string;
+  text: string;
   call: "predict";
   asked: PredictOf;
   picks: string[];
@@ -88,7 +88,7 @@ interface OfRounds {
   choices?: undefined;
 }
 interface OfWaits {
-  words: string;
+  text: string;
   call: "waits";
   asked: WaitsOf;
   choices: string[];
@@ -97,7 +97,7 @@ interface OfWaits {
   tells?: undefined;
 }
 interface OfSends {
-  words: string;
+  text: string;
   call: "sends";
   asked: Omit<SendsCall, "said">;
   choices: string[];

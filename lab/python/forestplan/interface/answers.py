@@ -43,10 +43,10 @@ class Refused(ValueError):
     from 1."""
 
     def __init__(
-        self, words: str, code: str = "", nodes: Iterable[Node] = (), plan: "Plan | None" = None
+        self, message: str, code: str = "", nodes: Iterable[Node] = (), plan: "Plan | None" = None
     ) -> None:
-        super().__init__(words)
-        self.words = words
+        super().__init__(message)
+        self.words = message
         self.code = code
         self.nodes = list(nodes)
         self.plan = plan
@@ -64,9 +64,9 @@ class _Answer:
         with tempfile.NamedTemporaryFile("w", suffix=".txt") as file:
             file.write(self.text)
             file.flush()
-            words = [self.option, file.name] if self.option else []
-            words = ["picture", self.kind, "-", *words, "--title", self.title]
-            return lab_called(words, self.network)[1] or None
+            arguments = [self.option, file.name] if self.option else []
+            arguments = ["picture", self.kind, "-", *arguments, "--title", self.title]
+            return lab_called(arguments, self.network)[1] or None
 
 
 class Plan(_Answer, dict[Node, int]):

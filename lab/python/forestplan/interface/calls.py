@@ -37,9 +37,9 @@ def plan(
     found.order = order
     most = max(number.values(), default=0)
     if licence is not None and most > len(licence):
-        words = f"the plan takes {most} channels, and the licence has {len(licence)}"
+        message = f"the plan takes {most} channels, and the licence has {len(licence)}"
         lacking = [node for node, k in found.items() if k > len(licence)]
-        raise Refused(words, "licence", lacking, found)
+        raise Refused(message, "licence", lacking, found)
     if licence is not None:
         found.update((node, int(licence[k - 1])) for node, k in found.items())
     found.licence = Licence(licence)
@@ -80,14 +80,14 @@ def rounds(G: Graph, bars: Bars = None, licence: Channels = None) -> Rounds:
     found = Rounds()
     found.network, order, found.text = _asked(["forestplay", "rounds"], G, bars, licence)
     for line in found.text.splitlines()[1:]:
-        first, *words = line.split()
+        first, *fields = line.split()
         if first == "pulse":
-            found.append(Pulse(int(words[0]), " ".join(words[1:]), [], []))
-        elif words[0] == "put":
-            ends = order[int(first) - 1], order[int(words[1]) - 1]
-            found[-1].messages.append(Message(*ends, words[4], int(words[5])))
+            found.append(Pulse(int(fields[0]), " ".join(fields[1:]), [], []))
+        elif fields[0] == "put":
+            ends = order[int(first) - 1], order[int(fields[1]) - 1]
+            found[-1].messages.append(Message(*ends, fields[4], int(fields[5])))
         else:
-            found[-1].states.append((order[int(first) - 1], " ".join(words)))
+            found[-1].states.append((order[int(first) - 1], " ".join(fields)))
     return found
 
 
@@ -101,9 +101,9 @@ def transcript(
     >>> transcript({"Ulm": ["Aue"], "Aue": []}, workers=1)[0]
     Entry(stamp=1, node='Ulm', kind='put', other='Aue', wire='payload 0 hello 1')
     """
-    words = ["transcript", *_workers(workers)]
+    arguments = ["transcript", *_workers(workers)]
     found = Transcript()
-    found.network, order, found.text = _asked(["forestplan", *words], G, bars, licence)
+    found.network, order, found.text = _asked(["forestplan", *arguments], G, bars, licence)
     for line in found.text.splitlines()[1:]:
         stamp, v, kind, other, *wire = line.split()
         beside = order[int(other) - 1] if kind != "pulse" else int(other)
