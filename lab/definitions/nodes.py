@@ -215,7 +215,7 @@ class AlphaNode(Node):
         self.last = program.last_pulse(net)
         self.ports = [Port() for _ in net.neighbours[v]]
         self.pulse_number = 0
-        self.said = False
+        self.safe_sent = False
         self.enter(self.simulated.greet())
 
     def enter(self, sent: list[Slot]) -> None:
@@ -232,7 +232,7 @@ class AlphaNode(Node):
     def settle(self) -> None:
         """Without an acknowledgement still to come, it says safe to all neighbours."""
         if self.pulse_number < self.last and not any(port.waits for port in self.ports):
-            self.said = True
+            self.safe_sent = True
             for port in self.ports:
                 port.out.append(safe(self.pulse_number))
 
@@ -244,7 +244,7 @@ class AlphaNode(Node):
         """Whether it may begin its next pulse: it has said safe, and all neighbours have."""
         return (
             self.pulse_number != self.last
-            and self.said
+            and self.safe_sent
             and all(port.safe for port in self.ports)
             and self.can_take()
         )
@@ -276,7 +276,7 @@ class AlphaNode(Node):
         if not self.may_act():
             raise Refused(Code.NOT_READY)
         sent = self.simulated.next(self.pulse_number + 1, [port.present for port in self.ports])
-        self.pulse_number, self.said = self.pulse_number + 1, False
+        self.pulse_number, self.safe_sent = self.pulse_number + 1, False
         for port in self.ports:
             port.present, port.early = port.early, None
             port.safe, port.early_safe = port.early_safe, False
@@ -287,7 +287,7 @@ class AlphaNode(Node):
         refusal it is isn't said."""
         p, expected = self.pulse_number, self.pulse_number + port.safes()
         # The pulse to which a neighbour may have come.
-        horizon = min(p + 1, self.last) if self.said else p
+        horizon = min(p + 1, self.last) if self.safe_sent else p
         match wire.word, wire.fields:
             case "safe", (q,):
                 return q == expected <= horizon and expected < self.last

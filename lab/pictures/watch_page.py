@@ -42,7 +42,7 @@ def look_of(state: NetState[AlphaNode], v: int) -> Look:
     early += [("safe", w) for w, port in ports if port.early_safe]
     return Look(
         pulse=node.pulse_number,
-        safe=node.said,
+        safe=node.safe_sent,
         done=node.drained(),
         waits=tuple(waits_of(state, v)),
         has=tuple((str(port.present), w) for w, port in ports if port.present),

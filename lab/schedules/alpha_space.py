@@ -141,7 +141,7 @@ class AlphaSpace(Space[RuledNode]):
         if p == self.last:
             waits = [("close", w) for w, port in ports if not port.closed]
             return ("last" if waits else "whole"), waits
-        if not node.said:
+        if not node.safe_sent:
             return "asks", [(f"ack {p}", w) for w, port in ports if port.waits]
         if "safes" in self.without:
             return "ready", []

@@ -44,7 +44,7 @@ class RuledNode(AlphaNode, SearchedNode):
 
     def may_act(self) -> bool:
         if "safes" in self.without:
-            return self.pulse_number != self.last and self.said and self.can_take()
+            return self.pulse_number != self.last and self.safe_sent and self.can_take()
         return super().may_act()
 
     def lacks_safe(self, port: Port) -> bool:
@@ -102,7 +102,7 @@ class RuledNode(AlphaNode, SearchedNode):
         """Equal for equal nodes of one vertex."""
         return (
             self.pulse_number,
-            self.said,
+            self.safe_sent,
             self.wrong,
             self.key_of_simulated,
             tuple(

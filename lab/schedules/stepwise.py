@@ -32,7 +32,7 @@ class ByHand(Player[AnyNode]):
         self.without = without
         self.chosen: list[str] = []
         self.lines: list[str] = []
-        self.said = ""
+        self.last_step = ""
         self.fault: str | None = None
         self.is_over = False
         for v in self.state.nodes:
@@ -117,12 +117,12 @@ class ByHand(Player[AnyNode]):
         v, w, event = step.node, step.neighbour, self.event_of(step)
         fault = None
         if event.port is None:
-            self.said = self.own_step_words(v)
+            self.last_step = self.own_step_words(v)
             fault = self.fault_of_own_step(v)
         else:
             wires = self.state.link_to(v, event.port)
             wires.insert(0, wires.pop(place))
-            self.said = f"node {v} takes {wires[0]} from {w}"
+            self.last_step = f"node {v} takes {wires[0]} from {w}"
         self.note_step(step, event, place)
         self.fault = self.fault or fault
         if not self.is_over:

@@ -1,5 +1,5 @@
 """The connections of the studio's server before a process answers them. One that says nothing, or says it slowly, holds
-no process: what it has said is kept here until the head of its request is whole, or its time is up."""
+no process: what it has sent is kept here until the head of its request is whole, or its time is up."""
 import io
 import selectors
 import socket
@@ -16,17 +16,17 @@ MOST_HEAD, MOST_WAITING = 1 << 16, 256
 
 @dataclass
 class Connection:
-    """A connection, what it has said, and when its time is up."""
+    """A connection, what it has sent, and when its time is up."""
 
     socket: socket.socket
     address: Any
     until: float = field(default_factory=lambda: time.monotonic() + SECONDS_TO_ASK)
-    said: bytes = b""
+    received: bytes = b""
 
     @property
     def has_asked(self) -> bool:
         """Whether the head of its request is whole."""
-        return b"\r\n\r\n" in self.said or b"\n\n" in self.said
+        return b"\r\n\r\n" in self.received or b"\n\n" in self.received
 
 
 class Connections:
@@ -64,17 +64,17 @@ class Connections:
 
     def take(self, one: Connection) -> None:
         try:
-            part = one.socket.recv(MOST_HEAD + 1 - len(one.said))
+            part = one.socket.recv(MOST_HEAD + 1 - len(one.received))
         except BlockingIOError:
             return
         except OSError:
             part = b""
-        one.said += part
+        one.received += part
         # What comes with a head may be the beginning of a long call.
         if one.has_asked:
             self.forget(one)
             self.asked.append(one)
-        elif not part or len(one.said) > MOST_HEAD:
+        elif not part or len(one.received) > MOST_HEAD:
             self.drop(one)
 
     def forget(self, one: Connection) -> None:
@@ -98,19 +98,19 @@ class Connections:
         yield from self.asked
 
 
-class Said(io.RawIOBase):
-    """What a connection says: first what it has said already."""
+class Received(io.RawIOBase):
+    """What a connection sends: first what has come of it already."""
 
-    def __init__(self, said: bytes, connection: socket.socket) -> None:
-        self.said, self.connection = said, connection
+    def __init__(self, received: bytes, connection: socket.socket) -> None:
+        self.received, self.connection = received, connection
 
     def readable(self) -> bool:
         return True
 
     def readinto(self, place: Any) -> int:
-        if not self.said:
+        if not self.received:
             return self.connection.recv_into(place)
-        count = min(len(place), len(self.said))
-        place[:count] = self.said[:count]
-        self.said = self.said[count:]
+        count = min(len(place), len(self.received))
+        place[:count] = self.received[:count]
+        self.received = self.received[count:]
         return count

@@ -72,7 +72,7 @@ def reactions_found(
         made=player.chosen,
         steps=[] if player.is_over else player.possible(),
         wires=player.words_under_way(),
-        said=player.said,
+        said=player.last_step,
         fault=player.fault,
         over=player.is_over,
         list=player.lines,

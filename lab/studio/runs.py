@@ -258,7 +258,7 @@ def pulses_found(
         last=player.state.nodes[1].last,
         looks=[look_of(player.state, v) for v in network.vertices],
         wires=player.words_under_way(),
-        said=player.said,
+        said=player.last_step,
         fault=player.fault,
         over=player.is_over,
         list=player.lines,

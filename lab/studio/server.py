@@ -31,7 +31,7 @@ from lab.pictures.page_data import as_object
 from lab.studio import limits
 from lab.studio.building import Building
 from lab.studio.calls import CALLS
-from lab.studio.connections import Connection, Connections, SECONDS_TO_ASK, Said
+from lab.studio.connections import Connection, Connections, SECONDS_TO_ASK, Received
 from lab.studio.fields import object_of
 from lab.studio.session import Session
 
@@ -77,7 +77,7 @@ class Server(socketserver.ForkingMixIn, http.server.HTTPServer):
         self.active_children: set[int] = set()
         self.calls: set[int] = set()
         super().__init__((HOST, port), Handler)
-        self.connections, self.said = Connections(self.socket), b""
+        self.connections, self.received = Connections(self.socket), b""
 
     def serve_forever(self, poll_interval: float = 0.3) -> None:
         while True:
@@ -93,14 +93,14 @@ class Server(socketserver.ForkingMixIn, http.server.HTTPServer):
 
     def begin_answer(self, one: Connection) -> None:
         """Has a process answer it, if there is one for it. A call waits for one; who has no token only for a while."""
-        is_call = self.has_token(one.said)
+        is_call = self.has_token(one.received)
         others = len(self.active_children) - len(self.calls)
         if len(self.calls) >= MOST_CALLS if is_call else others >= MOST_OTHERS:
             if not is_call and one.until < time.monotonic():
                 self.connections.asked.remove(one)
                 one.socket.close()
             return
-        before, self.said = set(self.active_children), one.said
+        before, self.received = set(self.active_children), one.received
         self.connections.asked.remove(one)
         try:
             self.process_request(one.socket, one.address)
@@ -173,7 +173,7 @@ class Handler(http.server.BaseHTTPRequestHandler):
         # One limit for the whole request, however slowly its bytes come: this process ends.
         signal.alarm(SECONDS_TO_ASK)
         super().setup()
-        self.rfile = io.BufferedReader(Said(self.server.said, self.connection))
+        self.rfile = io.BufferedReader(Received(self.server.received, self.connection))
 
     def log_message(self, *_: object) -> None:
         pass

@@ -122,7 +122,7 @@ class ClockRun(Rounds, ABC):
 
 
 class RoundsRun(ClockRun):
-    """`said[v]`, what a node said of itself in this pulse, by what it is about: `colour 0`, `chose`, `result`."""
+    """`told[v]`, what a node said of itself in this pulse, by what it is about: `colour 0`, `chose`, `result`."""
 
     assignment = "rounds"
     kept = "said.puts"
@@ -132,7 +132,7 @@ class RoundsRun(ClockRun):
         self.rounds = rounds
         self.program = rounds.program
         self.own_lines = rounds.own_lines
-        self.said: dict[int, dict[str, str]] = {}
+        self.told: dict[int, dict[str, str]] = {}
 
     def pulse_words(self, p: int) -> str:
         """`pulse 3 (step)`; a program without phases has `pulse 3`."""
@@ -140,20 +140,20 @@ class RoundsRun(ClockRun):
         return super().pulse_words(p) + (f" ({phase})" if phase else "")
 
     def read(self, v: int, answer: list[str]) -> None:
-        self.said[v] = {}
+        self.told[v] = {}
         super().read(v, answer)
 
     def hear(self, v: int, line: str, fields: tuple[str, ...]) -> None:
         about = {"colour": " ".join(fields[:2]), "chose": "chose"}.get(fields[0], "result")
-        if about in self.said[v]:
-            sentence = f"it has said `{self.said[v][about]}` in this answer already"
+        if about in self.told[v]:
+            sentence = f"it has said `{self.told[v][about]}` in this answer already"
             raise NoAnswer("garbage", f"{shown(line)}: {sentence}")
-        self.said[v][about] = " ".join(fields)
+        self.told[v][about] = " ".join(fields)
 
     def difference(self, p: int, v: int) -> Finding | None:
-        if p < self.rounds.last and "result" in self.said[v]:
+        if p < self.rounds.last and "result" in self.told[v]:
             lines = [
-                ("wrong", self.said[v]["result"]),
+                ("wrong", self.told[v]["result"]),
                 ("right", "nothing yet of what it has found"),
                 ("why", f"a node says that once, in its last pulse, {self.rounds.last}"),
             ]
@@ -170,7 +170,7 @@ class RoundsRun(ClockRun):
         """What it said, what is right, whether that is nothing, and of what `Why` says why. What it says of its colours
         needn't be said."""
         rounds = self.rounds
-        said = self.said[v]
+        said = self.told[v]
         puts = self.puts[p][v]
         for forest, colour in enumerate(rounds.colours[p].get(v, [])):
             right = f"colour {forest} {colour}"

@@ -68,7 +68,7 @@ def table(submissions: dict[str, list[Part]]) -> list[str]:
         cells = [word for part in own for word in (part.counts(), str(part.points))]
         rows.append([clean(student), *cells, in_all(own)])
         said = [
-            f"{part.assignment}: {part.said()}"
+            f"{part.assignment}: {part.remark()}"
             for part in own
             if part.points < POINTS[part.assignment]
         ]
@@ -119,7 +119,7 @@ def write_reports(submissions: dict[str, list[Part]], folder: str) -> None:
             for part in own
             for line in (
                 f"{part.assignment}: {part.points} of {POINTS[part.assignment]} points",
-                *part.found.get("report", [part.said()]),
+                *part.found.get("report", [part.remark()]),
                 "",
             )
         ]

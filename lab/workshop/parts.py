@@ -108,7 +108,7 @@ def play_all(parts: list[Part], given: argparse.Namespace, jobs: int, room: str)
                     del running[pipe]
                     part.found = finished(process, pipe)
                     end_all([other.pid for _, other, _ in running.values()])
-                    say(part, clean(f"{part.counts()} {part.said()}".strip()))
+                    say(part, clean(f"{part.counts()} {part.remark()}".strip()))
     finally:
         with held():
             for _, process, _ in running.values():

@@ -40,11 +40,11 @@ class Player:
         self.over = over
         self.is_shown = is_shown
         self.guard = guard or Guard()
-        self.said = time.monotonic()
+        self.last_line_at = time.monotonic()
 
     def say(self, text: str) -> None:
-        if self.is_shown and time.monotonic() - self.said > PROGRESS_SECONDS:
-            self.said = time.monotonic()
+        if self.is_shown and time.monotonic() - self.last_line_at > PROGRESS_SECONDS:
+            self.last_line_at = time.monotonic()
             print(f"workshop: {text}", file=sys.stderr, flush=True)
 
     def nodes(self, case: Case) -> Nodes:

@@ -85,7 +85,7 @@ class Part:
             return most * len(policies - wrong) // len(policies)
         return most * (right == len(cases))
 
-    def said(self) -> str:
+    def remark(self) -> str:
         """The verdicts of wrong runs, or why there is no result."""
         verdicts = {case["verdict"] for case in self.result["cases"]} if self.result else set()
         return self.found.get("why") or ", ".join(sorted(verdicts - {"right"}))

@@ -135,7 +135,7 @@ READS = {
     ("lab/studio/connections.py", "Connections.take: one.socket.recv"): "64 KiB: `MOST_HEAD`",
     (
         "lab/studio/connections.py",
-        "Said.readinto: self.connection.recv_into",
+        "Received.readinto: self.connection.recv_into",
     ): "what its caller has room for, which is 8 MiB at most (Handler.do_POST)",
     ("lab/studio/limits.py", "all_of: os.read"): "1 MiB (MOST_SAID), and 64 KiB of the next part",
     # What the system says.

@@ -90,7 +90,7 @@ def shown(state, v):
             "whole" if node.drained() else "last",
             [("close", w) for w, port in ports if not port.closed],
         )
-    if not node.said:
+    if not node.safe_sent:
         return p, "asks", [(f"ack {p}", w) for w, port in ports if port.waits]
     return (
         p,

@@ -30,7 +30,12 @@ EVERY_RULES = [rules for size in range(5) for rules in itertools.combinations(OF
 def key_of(player: Stepwise) -> str:
     """Equal for players in the same state."""
     nodes = [
-        (node.pulse_number, node.said, [vars(port) for port in node.ports], vars(node.simulated))
+        (
+            node.pulse_number,
+            node.safe_sent,
+            [vars(port) for port in node.ports],
+            vars(node.simulated),
+        )
         for node in player.state.nodes.values()
     ]
     return repr((nodes, player.state.link, player.is_over))

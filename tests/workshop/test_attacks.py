@@ -53,7 +53,7 @@ class Attacks(Submitted):
         self.same("the thief ran", os.path.exists(self.loot), False)
 
     def why_not(self, student):
-        return part_of(student, os.path.join(self.subs, student), "alpha").said()
+        return part_of(student, os.path.join(self.subs, student), "alpha").remark()
 
     def test_words_of_a_command(self):
         """They name nothing outside of the folder, whoever reads them."""
