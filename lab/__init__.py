@@ -4,13 +4,13 @@ make, search and check.
 Nothing here is proved. It needs the standard library alone. Each package names its modules, so ``help("lab.networks")``
 leads to ``help("lab.networks.kinds")``, and that to ``help("lab.networks.kinds.ring")``:
 
-    definitions     what a network's nodes do: the colouring and five other programs, in rounds and without a clock
-    networks        networks: made, read in other forms, numbered, described; plans, and real channel numbers
-    transcripts     what a run without a clock has written down: read, judged, converted
-    schedules       runs without a clock: by a policy, step by step, or every order of events; with rules left out
-    pictures        pictures and pages of networks, plans, rounds, runs and schedules
-    workshop        students' programs as the nodes of a network: played, judged and graded
-    studio          the page on which a network is drawn and everything of it moves, and its server
+    definitions         what a network's nodes do: the colouring and five other programs, in rounds and without a clock
+    networks            networks: made, read in other forms, numbered, described; plans, and real channel numbers
+    transcripts         what a run without a clock has written down: read, judged, converted
+    schedules           runs without a clock: by a policy, step by step, or every order of events; with rules left out
+    pictures            pictures and pages of networks, plans, rounds, runs and schedules
+    workshop            students' programs as the nodes of a network: played, judged and graded
+    studio              the page on which a network is drawn and everything of it moves, and its server
 
 Make a network: of a kind with its size, an example, or a file. Vertices are numbers from 1.
 
@@ -60,19 +60,19 @@ Draw a picture: ``lab.pictures.picture.KINDS`` has the kinds.
 
 What all packages share:
 
-    network         what a network is: vertices, edges, identifiers, barred channels, forests
-    limits          the programs' limits: nodes, edges, neighbours, channels, workers, passes
-    fault_codes     the codes of all faults
-    faults          the exception `Fault`, with a code, a place and a subject
-    sentences       the sentence of each code
-    files           texts, read with a limit and written
-    parsers         the parsers of the command lines, and options that mean one thing in all commands
-    wording         numbers, lists and lines put into words
-    proved_programs calls the two proved programs
-    build_hint      what to say of a program that isn't built
-    progress        what is shown of a call that takes minutes
-    processors      how many processors may be used
-    folders         where the package is, and what belongs to it
-    version         which forestplan this is
-    process_exit    how a command ends, whatever happens
+    network             what a network is: vertices, edges, identifiers, barred channels, forests
+    limits              the programs' limits: nodes, edges, neighbours, channels, workers, passes
+    fault_codes         the codes of all faults
+    faults              the exception `Fault`, with a code, a place and a subject
+    sentences           the sentence of each code
+    files               texts, read with a limit and written
+    parsers             the parsers of the command lines, and options that mean one thing in all commands
+    wording             numbers, lists and lines put into words
+    proved_programs     calls the two proved programs
+    build_hint          what to say of a program that isn't built
+    progress            what is shown of a call that takes minutes
+    processors          how many processors may be used
+    folders             where the package is, and what belongs to it
+    version             which forestplan this is
+    process_exit        how a command ends, whatever happens
 """
