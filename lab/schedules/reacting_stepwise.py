@@ -69,7 +69,7 @@ class ReactingStepwise(ByHand[ReactingNode]):
             return str(why)
         if not self.refused:
             return None
-        return refused_words(counted(len(self.chosen), "step"), self.refused)
+        return refused_by_always(counted(len(self.chosen), "step"), self.refused)
 
     def said_by_always(self) -> str:
         """What isn't right in this state, by the file's `always`."""
@@ -96,7 +96,7 @@ class ReactingStepwise(ByHand[ReactingNode]):
                 yield name, call(self.program.file.path, where, in_python, value)
 
 
-def refused_words(steps: str, why: str) -> str:
+def refused_by_always(steps: str, why: str) -> str:
     """What is said of a state that `always` refuses."""
     return f"`always` refuses the state after {steps}: {why}"
 

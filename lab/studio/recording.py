@@ -23,7 +23,7 @@ from lab.network import Network
 from lab.networks.verdicts import Verdict
 from lab.pictures.page_data import Look, Net, NetNode, as_object
 from lab.pictures.program_rounds import ProgramRounds, program_rounds
-from lab.schedules.reacting_stepwise import refused_words
+from lab.schedules.reacting_stepwise import refused_by_always
 from lab.schedules.rules import OF_LINKS, OF_PROGRAMS, OF_SCHEDULES
 from lab.studio import dares
 from lab.studio.address import pairs_of, program_named
@@ -582,7 +582,7 @@ def reactions_of(found: LocalReactions) -> AllReactions:
         dares=own_dares_of(found.program),
         kept=always_words("", STEPS),
         refused=always_words(MOST, STEPS),
-        fault=refused_words(STEPS, MOST),
+        fault=refused_by_always(STEPS, MOST),
         no_end=NO_END_YET,
     )
 
