@@ -186,9 +186,11 @@ class Files(Case):
             with self.subTest(writer.form):
                 if writer.file.endswith(BY_NETWORKX):
                     need(self, "networkx")
-                files = writer.files(FILES)
-                said = {writer.verdict(self.folder, data, wanted) for data, wanted in files}
-                self.assertEqual(said | REFUSED, {"read"} | REFUSED)
+                files = list(writer.files(FILES))
+                said = [writer.verdict(self.folder, data, wanted) for data, wanted in files]
+                self.assertEqual(set(said) | REFUSED, {"read"} | REFUSED)
+                with_edges = [one for one, (_, (_, edges)) in zip(said, files) if edges]
+                self.assertIn("read", with_edges, "no file with an edge is read")
 
 
 class Written(Files):
