@@ -49,7 +49,7 @@ def predict(call: PredictCall, session: Session, _tell: Tell) -> Predicted:
     if program != COLOURING:
         rounds = program_rounds(network, program)
     found, why = found_after(rounds, v, pulse, call.forest)
-    return Predicted(plain_text(call.said) == plain_text(found), found, why)
+    return Predicted(small_text(call.said) == small_text(found), found, why)
 
 
 def found_after(rounds: Rounds | ProgramRounds, v: int, pulse: int, forest: int) -> tuple[str, str]:
@@ -59,7 +59,7 @@ def found_after(rounds: Rounds | ProgramRounds, v: int, pulse: int, forest: int)
     return of_program(rounds, v, pulse)
 
 
-def plain_text(said: str) -> str:
+def small_text(said: str) -> str:
     """As it is compared: in small letters, with single blanks."""
     return " ".join(said.lower().split())
 
@@ -120,7 +120,7 @@ def waits(call: WaitsCall, session: Session, _tell: Tell) -> Predicted:
 
 def is_list(said: str, found: list[str]) -> bool:
     """Whether a student has said all of a list, with commas between; of none it is `nothing`."""
-    parts = sorted(filter(None, map(plain_text, said.split(","))))
+    parts = sorted(filter(None, map(small_text, said.split(","))))
     return parts == found or not found and parts == ["nothing"]
 
 

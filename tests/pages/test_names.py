@@ -31,7 +31,7 @@ SEVERAL = {
             "of_nodes pairs_of place_of places_of plan plan_of plan_text played "
             "program_asked program_at program_of quoted read refuse_words replayed results_of "
             "rounds rounds_text row rows_of rules_of say smallest_wrong summary "
-            "wire_of wires_of words words_of write "
+            "wire_of wires_of words_of write "
         ).split(),
         2,
     ),
