@@ -30,7 +30,7 @@ from lab.schedules.stepwise import Stepwise
 from lab.studio import publishing, studio
 from lab.studio.calls import CALLS
 from lab.studio.judges import MACHINE, PYTHON
-from lab.studio.lessons import LESSONS, SaidExercise
+from lab.studio.lessons import LECTURE, LESSONS, SaidExercise
 from lab.studio.networks import opened_by
 from lab.studio.own_dares import own_dares_of
 from lab.studio.recording import Recording, spots, tell, text_of_page
@@ -250,6 +250,14 @@ class Folder(Case):
         assert found is not None
         commit = r"[0-9a-f]{12}(, with changes)?|unknown.*"
         self.note("a commit", re.fullmatch(commit, found.commit), found.commit)
+
+    def test_places(self) -> None:
+        """Each step of each lesson is recorded, and each place of the lecture."""
+        found = list(spots())
+        wanted = [(n, k) for n, one in enumerate(LESSONS, 1) for k in range(1, len(one.steps) + 1)]
+        self.same("steps", [(one.lesson, one.step) for one in found if one.lesson], wanted)
+        places = [one.place for one in found if one.piece == "lecture"]
+        self.same("places", places, [one.place for one in LECTURE])
 
     def test_command_line(self) -> None:
         """What the page can't have is refused, and nothing is written."""
