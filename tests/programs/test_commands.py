@@ -1,4 +1,5 @@
 """The table of all commands (tests/commands.py) beside the help texts and bin/: none is missing."""
+import argparse
 import contextlib
 import os
 import pty
@@ -9,6 +10,7 @@ import sys
 from build import completion, help_texts, page_types
 from build.__main__ import MODULES
 from lab.__main__ import COMMANDS as OF_LAB
+from lab.parsers import count
 from tests import TOP
 from tests.cases import Case, called, contents, forestlab, text_in
 from tests.commands import HELPS, SCRIPTS, commands_of
@@ -106,6 +108,20 @@ def completed(script: str, line: str) -> tuple[set[str], bytes]:
 
 
 class Commands(Case):
+    def test_version(self) -> None:
+        """It names each kit for which the sources are."""
+        kits = text_in("build", "kits.txt").split("\n")
+        status, out, _ = forestlab("--version")
+        lines = out.decode().splitlines()
+        self.same("the kits", (status, lines[2]), (0, f"kit {' or '.join(filter(None, kits))}"))
+
+    def test_numbers_of_options(self) -> None:
+        for text, number in (("1", 1), ("007", 7), ("999999999", 999_999_999)):
+            self.same(text, count(text), number)
+        for text in ("0", "1000000000", "0000000001", "-1", "+1", "1.0", "1_0", "", " 1", "\u0663"):
+            with self.subTest(text), self.assertRaises(argparse.ArgumentTypeError):
+                count(text)
+
     def test_page_types(self):
         """The types of what the pages ask and get are those that `python3 build page-types` writes."""
         for path, text in page_types.page_types().items():

@@ -114,6 +114,15 @@ class Sites(Case):
         farther = self.read(None, table, "--reach 20001")
         self.refusal("farther", farther, 2, b"to 20,000 km")
 
+    def test_the_last_degrees(self):
+        """Latitudes up to the poles, and longitudes from 180 in the west up to 360 in the east."""
+        for place, status in (
+            *(("90,0", 0), ("-90,0", 0), ("90.1,0", 1), ("-90.1,0", 1)),
+            *(("0,-180", 0), ("0,360", 0), ("0,-180.1", 1), ("0,360.1", 1)),
+        ):
+            done = self.read(None, f"site,lat,lon\nUlm,{place}\nAue,48,10\n", "--reach 3")
+            self.same(place, done[0], status)
+
     def test_columns(self):
         """A title that is stated is looked for in each table, and has to be in one."""
         sites = self.file("sites.csv", "Ort;x_km;y_km\nUlm;0;0\nAue;1;0\n")
