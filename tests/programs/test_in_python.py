@@ -277,6 +277,17 @@ class InPython(Case):
             for fact in ("names", "edges", "places"):
                 self.same(f"{unit}: {fact}", getattr(network, fact), getattr(wanted, fact))
 
+    def test_the_last_places(self):
+        """Latitudes up to the poles, and longitudes from 180 in the west up to 360 in the east, as in a table."""
+        for place in ((90, 0), (-90, 0), (0, -180), (0, 360)):
+            self.same(place, forestplan.sites({"Ulm": place}, 3), {"Ulm": []})
+        for place in ((90.1, 0), (-90.1, 0), (0, -180.1), (0, 360.1)):
+            self.refused(ValueError, functools.partial(forestplan.sites, {"Ulm": place}, 3))
+        for reach in (1e-6, 20_000):
+            self.same(reach, forestplan.sites({"Ulm": (0, 0)}, reach), {"Ulm": []})
+        for reach in (9e-7, 20_001):
+            self.refused(ValueError, functools.partial(forestplan.sites, {"Ulm": (0, 0)}, reach))
+
     def test_kinds(self):
         """What is no graph, no list and no whole number is refused, and says where it is; it isn't taken letter by
         letter."""
