@@ -160,6 +160,13 @@ class Transcripts(Case):
             alone, "line 14: NotReady: node 1 makes pulse 13; pulse 12 is the last", network="path1"
         )
 
+    def test_the_last_stamp(self):
+        """A stamp has 64 bits: with a greater number a line is no entry, whatever the clock says."""
+        for stamp, is_entry in ((2**64 - 1, True), (2**64, False)):
+            data = f"transcript 2 2\n{stamp} 1 put 2 {HELLO_1}\n".encode()
+            status, _, said = said_by("transcript", "check", "two", data=data)
+            self.same(stamp, (status, "not an entry" in said), (1, not is_entry))
+
     def test_of_edition_1(self):
         line = f"line 3: NotReady: node 1 makes pulse 2, but it lacks ack 0 of 2; safe 0 of 2; {PULSE}; {NO_ACK}"
         self.says(f"transcript 1 2|1 put 2 {HELLO_1}|1 pulse 2|1 put 2 odd|", line)
