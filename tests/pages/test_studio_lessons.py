@@ -668,6 +668,8 @@ class Cards(Page):
         """A step that asks something of an example lets nobody change it by a click; with the card closed, and where
         the exercise is to change it, a click does."""
         for place in ("lesson=1", "lesson=1&step=2", "lesson=2&step=3"):
+            # Of a drawing that is replaced the hint says how to bring it back; an example isn't a drawing.
+            self.go_to("example=two")
             self.go_to(place)
             self.sees("its card", "lesson.textContent.includes('step ')")
             box = self.value("(b => [b.x + 12, b.y + 12])(net.getBoundingClientRect())")

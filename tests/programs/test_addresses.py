@@ -21,7 +21,7 @@ from lab.pictures.page_data import Net, as_object
 from lab.schedules.policies import POLICIES
 from lab.schedules.rules import OF_PROGRAMS, OF_SCHEDULES
 from lab.schedules.stepwise import Stepwise
-from lab.studio import limits
+from lab.studio import limits, links
 from lab.studio.address import NAMES, Here
 from lab.studio.answers import PictureKind, TabName, Values
 from lab.studio.dares import DARES
@@ -483,8 +483,13 @@ class Links(Case):
 
     def test_limits(self):
         """Each link has a process with the limits of a call; what takes too much is said, and the others go on."""
-        with mock.patch.object(limits, "MEMORY", 300 << 20):
-            found = list(judge([complete(60), f"#{TWO}&dare=apart"], Session()))
+        judged = links.judged_link
+        with mock.patch.object(limits, "MEMORY", 300 << 20), mock.patch.object(
+            links,
+            "judged_link",
+            lambda link, session: bytes(1 << 30) if link == "large" else judged(link, session),
+        ):
+            found = list(judge(["large", f"#{TWO}&dare=apart"], Session()))
         said = ["1: can't be judged: it took too much memory, so it was ended", False]
         self.same("too much memory", list(found[0]), said)
         self.note("the next one", found[1][0].startswith("2: not won"), found[1])

@@ -129,19 +129,23 @@ function barsOf(said) {
 }
 /** @param {number | null} v @param {Edge | null} edge */
 function choose(v, edge = null) { seen.node = v; seen.edge = edge; inspect(); show(); }
+/** @param {number | null} v */
+function chooseOrNot(v) { choose(v === seen.node ? null : v); }
 function remove() {
   if (seen.edge) model.toggleEdge(...seen.edge);
   else if (seen.node) { const v = seen.node; seen.node = null; model.removeNode(v); }
 }
+// With the shift key `from` stays chosen, for another neighbour.
+/** @param {number} from @param {number} v @param {boolean} isKept */
+function joinOrPart(from, v, isKept) {
+  if (!isKept) seen.node = null;
+  model.toggleEdge(from, v);
+}
 /** @param {number | null} v @param {Edge | null} edge @param {MouseEvent | KeyboardEvent} event */
 function click(v, edge, event) {
-  if (isOnlyLookedAt()) return choose(v === seen.node ? null : v);
-  if (v && seen.node && v !== seen.node) {
-    const from = seen.node;
-    if (!event.shiftKey) seen.node = null;
-    return model.toggleEdge(from, v);
-  }
-  if (v) return choose(v === seen.node ? null : v);
+  if (isOnlyLookedAt()) return chooseOrNot(v);
+  if (v && seen.node && v !== seen.node) return joinOrPart(seen.node, v, event.shiftKey);
+  if (v) return chooseOrNot(v);
   if (edge) return choose(null, isEdge(...edge) ? null : edge);
   if (seen.node || seen.edge) return choose(null);
   if (event instanceof MouseEvent) change(n => n.nodes.push({...stage.placeOf(event), id: "", name: "", bars: [], label: "", side: 2}));

@@ -230,15 +230,18 @@ function pull(drag, event) {
   }
   drag.moved = {x: event.clientX, y: event.clientY};
 }
+// The end of a drag: a node that lies on another one goes beside it.
+/** @param {Drag} drag */
+function dropped({v, key, radius}) {
+  const place = v && seen.tab === "draw" ? stage.roomBeside(v, radius) : null;
+  if (v && place) change(n => { Object.assign(n.nodes[v - 1], place); }, key, "move");
+  show();
+}
 svg.onpointerup = event => {
   const was = drag;
   drag = null;
   apart = null;
-  if (was && was.moved) {
-    const {v, key, radius} = was, place = v && seen.tab === "draw" ? stage.roomBeside(v, radius) : null;
-    if (v && place) change(n => { Object.assign(n.nodes[v - 1], place); }, key, "move");
-    show();
-  }
+  if (was && was.moved) dropped(was);
   fingers.delete(event.pointerId);
   if (!was || was.moved) return was && hooks.link();
   if (seen.tab !== "draw" && !net.nodes.length) return;
