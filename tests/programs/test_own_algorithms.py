@@ -335,7 +335,7 @@ class OwnAlgorithms(Case):
         listed = self.told(text, "--list")
         self.same("its list of events", (listed[0], len(listed[1].splitlines())), (1, 28))
         page = text_in("docs", "learn", "OWN_ALGORITHM.md")
-        rest = re.split(r"Of an\s+independent\s+set:\n\n", page)[1].splitlines(keepends=True)
+        rest = re.split(r"For an\s+independent\s+set:\n\n", page)[1].splitlines(keepends=True)
         block = "".join(itertools.takewhile(lambda line: line.startswith("    "), rest))
         text = text_in(SET) + "\n" + textwrap.dedent(block) + "\n"
         for change, first in (

@@ -3,6 +3,7 @@
 Expected counts are formulas of the published algorithms, worked by hand, or come from a search written here, which
 plays every list of events on the machine of lab/definitions/machine.py one by one, without states in common."""
 import copy
+import itertools
 import json
 import os
 import re
@@ -193,8 +194,9 @@ class Samples(Case):
     def test_the_page(self) -> None:
         """The page has lines of the echo, with comments of its own."""
         page = text_in("docs", "learn", "OWN_ALGORITHM.md")
-        block = page.partition("`examples/algorithms/echo.py`:\n\n")[2].partition("\n\nThen")[0]
-        lines = [line.partition("#")[0].strip() for line in block.splitlines()]
+        rest = page.partition("`examples/algorithms/echo.py`:\n\n")[2].splitlines()
+        block = list(itertools.takewhile(lambda line: not line or line.startswith("    "), rest))
+        lines = [line.partition("#")[0].strip() for line in block]
         self.note("it is there", len(lines) > 20, block)
         source = iter([line.strip() for line in ECHO.splitlines()])
         self.same("other lines", [line for line in lines if line and line not in source], [])

@@ -156,4 +156,4 @@ class WrittenElsewhere(test_written.Files):
 
     @needs("networkx")
     def test_by_hand(self):
-        self.read_files(writers_by_hand())
+        self.read_files(writers_by_hand(), refused=("yEd group",))
