@@ -1,6 +1,6 @@
 """Compares the channels of a plan, and those that are left after passes of choosing anew, with greedy colourings.
 
-  python3 -m bench.quality
+  PYTHONPATH=src python3 -m bench.quality
 
 It prints the channels and the processor seconds: of a program, with reading and writing, or of networkx, whose graph is
 there already. The programs have to be built, and networkx has to be installed. What isn't proper ends it.
@@ -15,11 +15,11 @@ import sys
 
 import networkx
 
-from lab import proved_programs
-from lab.network import Network
-from lab.networks import kinds
-from lab.networks.places import near
-from lab.networks.texts import plain_text
+from forestplan import proved_programs
+from forestplan.network import Network
+from forestplan.networks import kinds
+from forestplan.networks.places import near
+from forestplan.networks.texts import plain_text
 
 PASSES = ("1", "8", "64")
 

@@ -1,5 +1,5 @@
 """The door of what proves, builds and installs: `python3 build NAME [arguments]`, as the scripts call it. How a command
-ends in place of a traceback is in lab/process_exit.py."""
+ends in place of a traceback is in src/forestplan/process_exit.py."""
 import importlib
 import os
 import sys
@@ -31,7 +31,8 @@ def main() -> int:
         print(f"build: Python 3.10 or later is needed, and python3 is {found}", file=sys.stderr)
         return 2
     # Run as a folder, its own place comes first where modules are looked for; the package's is one above.
-    sys.path[0] = os.path.dirname(os.path.dirname(os.path.realpath(__file__)))
+    top = os.path.dirname(os.path.dirname(os.path.realpath(__file__)))
+    sys.path[:1] = [top, os.path.join(top, "src")]
     name = sys.argv[1] if len(sys.argv) > 1 else ""
     if name not in (*MODULES, "--version"):
         is_asked = name in ("-h", "--help")
@@ -41,8 +42,10 @@ def main() -> int:
         )
         return 0 if is_asked else 2
     sys.argv[:2] = sys.argv[1:2]
-    module = "lab.version" if "--version" in (name, *sys.argv[1:2]) else f"build.{MODULES[name]}"
-    process_exit = importlib.import_module("lab.process_exit")
+    module = (
+        "forestplan.version" if "--version" in (name, *sys.argv[1:2]) else f"build.{MODULES[name]}"
+    )
+    process_exit = importlib.import_module("forestplan.process_exit")
     status: int = process_exit.run(name, lambda: importlib.import_module(module).main)
     return status
 

@@ -1,7 +1,7 @@
 #!/bin/sh -e
-# Lays out an installed folder as a system has it: below.sh MADE PREFIX [FOLDER]. The folder gets its place in PREFIX/lib,
-# and what a system looks for is where it looks, Python's package in FOLDER below PREFIX. Packages have their manual pages
-# and their list of changes compressed.
+# Lays out an installed folder as a system has it: below.sh MADE PREFIX [FOLDER]. The folder gets its place in
+# PREFIX/lib, and what a system looks for is where it looks, Python's package in FOLDER below PREFIX. Packages have
+# their manual pages and their list of changes compressed.
 home=$2/lib/forestplan share=$2/share pages=$2/share/doc/forestplan
 mkdir -p "$2/bin" "$2/lib"
 mv "$1" "$home"
@@ -20,4 +20,4 @@ gzip -9n "$pages/changelog" "$share"/man/man1/*.1
 for name in docs examples LICENSE-MIT LICENSE-APACHE; do ln -s "../../../lib/forestplan/$name" "$pages"; done
 for name in forestplan forestplay forestlab; do ln -s "../lib/forestplan/bin/$name" "$2/bin"; done
 for name in forestplan forestplay; do ln -s forestlab "$share/bash-completion/completions/$name"; done
-[ -z "${3-}" ] || { mkdir -p "$2/$3" && ln -sr "$home/lab/python/forestplan" "$2/$3"; }
+[ -z "${3-}" ] || { mkdir -p "$2/$3" && ln -sr "$home/src/forestplan" "$2/$3"; }

@@ -5,13 +5,13 @@ import os
 import re
 
 from build.crate_lists import PROGRAMS, TOP
-from lab.__main__ import READERS
+from forestplan.__main__ import READERS
 
 PAGE = "README.md"
 BEGIN = "<!-- Written by `python3 build command-table` from the help texts: -->\n"
 END = "<!-- Up to here. -->\n"
 HELP = """\
-Writes the table of commands in README.md again, from the help texts of lab/help/ and of
+Writes the table of commands in README.md again, from the help texts of src/forestplan/help/ and of
 forestlab.
 
 Example:
@@ -27,7 +27,11 @@ def read(*path: str) -> str:
 def of_program(program: str) -> list[tuple[str, str]]:
     """The commands in a help text, each with its line. If a line names another command, the name is marked as code: it
     comes after `of` or `while`, where no other word of these lines is the name of a command."""
-    block = read("lab", "help", f"{program}.txt").partition("\nCommands:\n")[2].partition("\n\n")[0]
+    block = (
+        read("src", "forestplan", "help", f"{program}.txt")
+        .partition("\nCommands:\n")[2]
+        .partition("\n\n")[0]
+    )
     found = re.findall(r"^ +([a-z]+) +(\S.*)$", block, re.M)
     names = "|".join(name for name, _ in found)
     marked = rf"\b(of|while) ({names})\b"

@@ -8,13 +8,13 @@ import sys
 from collections.abc import Iterable, Iterator
 
 from build.crate_lists import TOP
-from lab.networks.forms import ENDINGS
-from lab.pictures.run_picture import KINDS
-from lab.pictures.sheet import LESSONS
-from lab.schedules.policies import POLICIES
-from lab.schedules.rules import OF_ANY_ROUNDS, OF_SCHEDULES
-from lab.transcripts.conversions import FORMS, ROUNDS
-from lab.transcripts.fields import PAYLOADS
+from forestplan.networks.forms import ENDINGS
+from forestplan.pictures.run_picture import KINDS
+from forestplan.pictures.sheet import LESSONS
+from forestplan.schedules.policies import POLICIES
+from forestplan.schedules.rules import OF_ANY_ROUNDS, OF_SCHEDULES
+from forestplan.transcripts.conversions import FORMS, ROUNDS
+from forestplan.transcripts.fields import PAYLOADS
 
 COMMANDS = ("forestplan", "forestplay", "forestlab")
 # The words of a command, what their help prints, and the commands below.

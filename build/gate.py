@@ -20,7 +20,7 @@ from typing import TextIO
 
 from build import kit
 from build.crate_lists import TOP, copy, listed, with_below
-from lab.wording import duration
+from forestplan.wording import duration
 
 # What `rt ci` isn't given of a crate: what was built of it, and edits.
 LEFT_OUT = ("out", "must-fail", "wrong-bodies")

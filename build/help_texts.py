@@ -1,5 +1,5 @@
-"""Writes lab/help/, the help texts that the scripts print before anything is built, from their source: the texts, the
-commands and the options in crates/command_line/src/, laid out as the programs lay them out."""
+"""Writes src/forestplan/help/, the help texts that the scripts print before anything is built, from their source: the
+texts, the commands and the options in crates/command_line/src/, laid out as the programs lay them out."""
 import argparse
 import os
 import re
@@ -8,9 +8,9 @@ from dataclasses import dataclass
 from build.crate_lists import TOP
 
 SOURCE = os.path.join("crates", "command_line", "src")
-FOLDER = os.path.join("lab", "help")
+FOLDER = os.path.join("src", "forestplan", "help")
 HELP = """\
-Writes the help texts of lab/help/ again, from crates/command_line/src/: the texts of
+Writes the help texts of src/forestplan/help/ again, from crates/command_line/src/: the texts of
 help.rt, the commands of commands.rt and their options of command_options.rt.
 
 Example:

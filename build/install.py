@@ -8,12 +8,12 @@ import sys
 from build import kit, program
 from build.completion import COMMANDS, completion, manual
 from build.crate_lists import PROGRAMS, TOP
-from lab import version
-from lab.parsers import parser_of
-from lab.workshop.class_files import is_free, make_folder, write, write_scripts, write_sums
+from forestplan import version
+from forestplan.parsers import parser_of
+from forestplan.workshop.class_files import is_free, make_folder, write, write_scripts, write_sums
 
 # What is copied, each at the path that it has here.
-FOLDERS = ("examples", "docs", "lab")
+FOLDERS = ("examples", "docs", "src")
 FILES = ("CHANGELOG.md", "LICENSE-MIT", "LICENSE-APACHE", "bin/forestlab", "pyproject.toml")
 # Where shells look for what completes words, below share/.
 OF_SHELLS = ("bash-completion/completions/forestlab", "zsh/site-functions/_forestlab")

@@ -6,10 +6,10 @@ import re
 
 from build.crate_lists import TOP, lines_of
 from build.kit import PARTS
-from lab.fault_codes import Code
-from lab.faults import Fault, InText
-from lab.parsers import parser_of
-from lab.workshop.class_files import write
+from forestplan.fault_codes import Code
+from forestplan.faults import Fault, InText
+from forestplan.parsers import parser_of
+from forestplan.workshop.class_files import write
 
 # What a crate is called as a crate, as a type, and as a name in texts.
 Model = tuple[str, str, str]

@@ -1,6 +1,7 @@
 """Writes the types of what the pages ask and get, for the checker of their JavaScript: of the classes of
-lab/pictures/page_data.py into lab/pictures/page/data.d.ts, and of lab/studio/messages.py, answers.py and
-recorded_answers.py, with the table of calls, into lab/studio/page/calls.d.ts."""
+src/forestplan/pictures/page_data.py into src/forestplan/pictures/page/data.d.ts, and of
+src/forestplan/studio/messages.py, answers.py and recorded_answers.py, with the table of calls, into
+src/forestplan/studio/page/calls.d.ts."""
 import argparse
 import os
 from collections.abc import Collection, Iterator, Mapping, Sequence
@@ -9,14 +10,14 @@ from types import ModuleType, NoneType, UnionType
 from typing import Annotated, Literal, Union, get_args, get_origin, get_type_hints
 
 from build.crate_lists import TOP
-from lab.pictures import page_data
-from lab.studio import answers, messages, recorded_answers
-from lab.studio.calls import CALLS
-from lab.studio.fields import word, words_by_name
+from forestplan.pictures import page_data
+from forestplan.studio import answers, messages, recorded_answers
+from forestplan.studio.calls import CALLS
+from forestplan.studio.fields import word, words_by_name
 
 HELP = """\
 Writes the types of the pages' JavaScript again, from the dataclasses of what the pages
-ask and get: lab/pictures/page/data.d.ts and lab/studio/page/calls.d.ts.
+ask and get: src/forestplan/pictures/page/data.d.ts and src/forestplan/studio/page/calls.d.ts.
 
 Example:
   python3 build page-types
@@ -154,13 +155,13 @@ def page_types() -> dict[str, str]:
         module_types(recorded_answers),
     ]
     return {
-        os.path.join("lab", "pictures", "page", "data.d.ts"): WRITTEN_BY.format(
-            "lab/pictures/page_data.py"
+        os.path.join("src", "forestplan", "pictures", "page", "data.d.ts"): WRITTEN_BY.format(
+            "src/forestplan/pictures/page_data.py"
         )
         + "\n"
         + module_types(page_data),
-        os.path.join("lab", "studio", "page", "calls.d.ts"): WRITTEN_BY.format(
-            "lab/studio/answers.py, messages.py, calls.py and recorded_answers.py"
+        os.path.join("src", "forestplan", "studio", "page", "calls.d.ts"): WRITTEN_BY.format(
+            "src/forestplan/studio/answers.py, messages.py, calls.py and recorded_answers.py"
         )
         + "\n"
         + "\n".join(studio),

@@ -12,7 +12,7 @@ from collections.abc import Iterable
 
 from build import gate, kit
 from build.crate_lists import PROGRAMS, TOP
-from lab.parsers import parser_of
+from forestplan.parsers import parser_of
 
 # The status if a program can't be built.
 NOT_BUILT = 70

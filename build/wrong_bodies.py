@@ -28,9 +28,9 @@ from collections.abc import Collection, Iterable, Mapping
 
 from build import gate, kit
 from build.crate_lists import TOP, listed
-from lab.fault_codes import Code
-from lab.faults import Fault
-from lab.parsers import parser_of
+from forestplan.fault_codes import Code
+from forestplan.faults import Fault
+from forestplan.parsers import parser_of
 
 # What the kit says of a refusal for a name alone.
 NAME_ALONE = "only because a proof file names"

@@ -19,7 +19,7 @@ from collections.abc import Callable, Iterator
 from contextlib import AbstractContextManager
 from typing import IO, AnyStr, TypeVar
 
-from lab.faults import Fault
+from forestplan.faults import Fault
 from tests import FORESTLAB, TOP
 from tests.tools import without_rt
 

@@ -32,7 +32,7 @@ STEPS = [
 
 @dataclass(frozen=True)
 class Command:
-    """A command of a program. Its help text is lab/help/PROGRAM-NAME.txt."""
+    """A command of a program. Its help text is src/forestplan/help/PROGRAM-NAME.txt."""
 
     program: str
     name: str
@@ -115,7 +115,7 @@ COMMANDS = (
 )
 PROGRAM_OF = {command.name: command.program for command in COMMANDS}
 PROGRAMS = ("forestplan", "forestplay")
-# The words of each call for help, and the name of its text in lab/help/.
+# The words of each call for help, and the name of its text in src/forestplan/help/.
 HELPS = [([program], program) for program in PROGRAMS] + [
     ([command.program, command.name], f"{command.program}-{command.name}") for command in COMMANDS
 ]

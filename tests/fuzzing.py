@@ -130,7 +130,9 @@ class Tried:
 def place_of(fault: BaseException) -> str:
     """What was raised, and in which line of the project."""
     frames = [
-        f for f in traceback.extract_tb(fault.__traceback__) if f"{os.sep}lab{os.sep}" in f.filename
+        f
+        for f in traceback.extract_tb(fault.__traceback__)
+        if f"{os.sep}forestplan{os.sep}" in f.filename
     ]
     where = f"{os.path.basename(frames[-1].filename)} line {frames[-1].lineno}" if frames else "?"
     return f"{type(fault).__name__} in {where}"

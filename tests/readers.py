@@ -11,18 +11,18 @@ import unittest.mock
 from collections.abc import Callable, Iterator
 from dataclasses import dataclass
 
-from lab.definitions.own_program import code_of
-from lab.faults import Fault
-from lab.networks import channels, network
-from lab.pictures import picture
-from lab.schedules import simulate
-from lab.studio.fields import object_of
-from lab.studio.networks import opened_by
-from lab.studio.session import Session
-from lab.transcripts import transcript
-from lab.workshop.findings import NoAnswer
-from lab.workshop.protocol import END, fields_of, forms_of, lines_of
-from lab.workshop.submissions import said_command
+from forestplan.definitions.own_program import code_of
+from forestplan.faults import Fault
+from forestplan.networks import channels, network
+from forestplan.pictures import picture
+from forestplan.schedules import simulate
+from forestplan.studio.fields import object_of
+from forestplan.studio.networks import opened_by
+from forestplan.studio.session import Session
+from forestplan.transcripts import transcript
+from forestplan.workshop.findings import NoAnswer
+from forestplan.workshop.protocol import END, fields_of, forms_of, lines_of
+from forestplan.workshop.submissions import said_command
 from tests import TOP
 
 Main = Callable[[list[str]], int]

@@ -1,5 +1,5 @@
 /* Synchroniser alpha with the colouring on a network of 2 to 4 nodes: every schedule. It is written apart from
-   lab/schedules, to be searched by Spin, which the script `search` beside it calls.
+   src/forestplan/schedules, to be searched by Spin, which the script `search` beside it calls.
 
    The network and what each round's inbox holds come from a header, as triangle.h: N, ADJ(v,w), DELTA, U, R,
    DEGREE(v), CHANNEL(v), and DUE(v,p,w), one more than what w sends v at pulse p - 1, or 0. Nodes count from 0 here.

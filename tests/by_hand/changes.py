@@ -17,7 +17,7 @@ LOOKS = re.compile(
     r"|look|look_at_files|grace|sleep|limit|until|bold|ink|paper|spot|places?|level)$"
 )
 # Modules that draw: there a number counts only where it is an index, or is counted or compared with.
-DRAWING = re.compile(r"lab/(pictures/|studio/drawn)")
+DRAWING = re.compile(r"src/forestplan/(pictures/|studio/drawn)")
 COUNTING = {"range", "islice", "enumerate", "window_of"}
 # Of a function with such a hint, what is returned instead of a value.
 BY_HINT = {"bool": "not ({})", "int": "({}) + 1", "float": "({}) + 1"}
@@ -61,9 +61,9 @@ def changed(file: str, data: bytes, line: int, begin: int, end: int, new: str) -
 
 
 def package_of(file: str) -> str:
-    """`networks` of lab/networks/search_order.py; a module of lab/ itself is of `lab`."""
-    folders = file.split("/")[1:-1]
-    return folders[0] if folders else "lab"
+    """`networks` of src/forestplan/networks/search_order.py; a module of no package is of `forestplan`."""
+    folders = file.split("/")[2:-1]
+    return folders[0] if folders else "forestplan"
 
 
 class Changes(ast.NodeVisitor):

@@ -1,4 +1,4 @@
-"""Tries the readers of lab/ with texts that `hypothesis` makes from a seed (tests/fuzzing.py): none may
+"""Tries the readers of src/forestplan/ with texts that `hypothesis` makes from a seed (tests/fuzzing.py): none may
 end a command with status 70, or take long for a short text.
 
   nice -n 10 python3 -m tests.by_hand.fuzz [READER ..] [--seconds 180] [--seed 2026]

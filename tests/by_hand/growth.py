@@ -1,4 +1,4 @@
-"""Gives each reader of lab/ texts of 1 MB and of 4 MB, of many shapes (tests/growth.py): the larger one
+"""Gives each reader of src/forestplan/ texts of 1 MB and of 4 MB, of many shapes (tests/growth.py): the larger one
 takes at most 6 times as long, the fastest of up to three calls, and none ends a command with status 70.
 
   python3 -m tests.by_hand.growth [READER ..] [--size 1000000]

@@ -1,21 +1,18 @@
 """Changes the Python of the repository in one place at a time, as a mistake would (tests/by_hand/changes.py), and sees
 whether that is noticed.
 
-  python3 -m tests.by_hand.mutants nodes
-      The right nodes of the workshop, minutes with the built programs: a change that no command of the pages shows is
-      played in many runs, and printed. There it has to be right, too.
-  python3 -m tests.by_hand.mutants lab [--seed 2026] [--count 300] [--package NAME ..]
-                                       [--jobs 2] [--seconds 3] [--minutes 600] [--named FILE]
-      lab/: so many changes by chance, as many of each package as its share of lines, some at a time. Each is made in
-      a copy of the tree, where tests of its package run (tests/by_hand/trials.py) up to the first that fails twice and
-      passes without the change; they may take so many seconds of processors. After so many minutes none is begun.
-      Tests that need the built programs run if TESTS_PLAN and TESTS_PLAY name them. It needs root, or another user who
-      may make namespaces of processes. Each change is printed with the test that noticed it, and last how many were
-      noticed, survived and are equal, by package: those that are equal stand in tests/by_hand/equal.txt, each as it is
-      printed, with the reason in the next line, and aren't tried. One that survived may be noticed by a test that
-      wasn't asked, if not all were: write their lines to a FILE, and try these alone with more seconds.
-  python3 -m tests.by_hand.mutants lab --list
-      The changes that it would try."""
+  python3 -m tests.by_hand.mutants nodes The right nodes of the workshop, minutes with the built programs: a change that
+  no command of the pages shows is played in many runs, and printed. There it has to be right, too. python3 -m
+  tests.by_hand.mutants package [--seed 2026] [--count 300] [--package NAME ..] [--jobs 2] [--seconds 3] [--minutes 600]
+  [--named FILE] src/forestplan/: so many changes by chance, as many of each package as its share of lines, some at a
+  time. Each is made in a copy of the tree, where tests of its package run (tests/by_hand/trials.py) up to the first
+  that fails twice and passes without the change; they may take so many seconds of processors. After so many minutes
+  none is begun. Tests that need the built programs run if TESTS_PLAN and TESTS_PLAY name them. It needs root, or
+  another user who may make namespaces of processes. Each change is printed with the test that noticed it, and last how
+  many were noticed, survived and are equal, by package: those that are equal stand in tests/by_hand/equal.txt, each as
+  it is printed, with the reason in the next line, and aren't tried. One that survived may be noticed by a test that
+  wasn't asked, if not all were: write their lines to a FILE, and try these alone with more seconds. python3 -m
+  tests.by_hand.mutants package --list The changes that it would try."""
 import argparse
 import ast
 import copy
@@ -36,13 +33,13 @@ from tests.by_hand.trials import Outcome, Trial
 EQUAL = os.path.join(TOP, "tests", "by_hand", "equal.txt")
 
 
-# The changes of lab/.
+# The changes of src/forestplan/.
 
 
-def files_of_lab() -> list[str]:
-    """The modules of lab/, by their paths."""
+def files_of_package() -> list[str]:
+    """The modules of src/forestplan/, by their paths."""
     found = []
-    for at, _, names in os.walk(os.path.join(TOP, "lab")):
+    for at, _, names in os.walk(os.path.join(TOP, "src", "forestplan")):
         found += [os.path.relpath(os.path.join(at, name), TOP) for name in names]
     return sorted(file for file in found if file.endswith(".py"))
 
@@ -61,7 +58,7 @@ def drawn(seed: str, count: int, packages: list[str]) -> list[Change]:
     """The changes to be tried, in an order by chance: what is tried first is a fair sample, too."""
     lines: Counter[str] = Counter()
     changes: dict[str, list[Change]] = defaultdict(list)
-    for file in files_of_lab():
+    for file in files_of_package():
         with open(os.path.join(TOP, file), "rb") as text:
             data = text.read()
         lines[package_of(file)] += data.count(b"\n")
@@ -84,7 +81,7 @@ def lines_of(path: str) -> set[str]:
         return {line for line in file.read().splitlines() if not line.startswith(" ")}
 
 
-def try_lab(given: argparse.Namespace) -> None:
+def try_package(given: argparse.Namespace) -> None:
     """Tries the changes, and prints what came out."""
     until = time.monotonic() + 60 * given.minutes
     changes, known = drawn(given.seed, given.count, given.package), lines_of(EQUAL)
@@ -194,7 +191,7 @@ def main() -> None:
     parser = argparse.ArgumentParser(
         prog="mutants", description=__doc__, formatter_class=argparse.RawDescriptionHelpFormatter
     )
-    parser.add_argument("what", choices=("nodes", "lab"))
+    parser.add_argument("what", choices=("nodes", "package"))
     parser.add_argument("--seed", default="2026")
     parser.add_argument("--count", type=int, default=300)
     parser.add_argument("--package", action="append", default=[])
@@ -206,8 +203,8 @@ def main() -> None:
     given = parser.parse_args()
     # What is ended ends what it has started.
     signal.signal(signal.SIGTERM, lambda *_: sys.exit(143))
-    if given.what == "lab":
-        try_lab(given)
+    if given.what == "package":
+        try_package(given)
     else:
         try_nodes()
 

@@ -17,7 +17,7 @@ import time
 from collections import Counter
 from collections.abc import Iterator
 
-from lab.schedules import explore
+from forestplan.schedules import explore
 from tests import TOP
 from tests.cases import in_process
 

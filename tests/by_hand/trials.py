@@ -1,5 +1,5 @@
-"""Tries changes of lab/ in copies of the tree (tests/by_hand/copies.py), some at a time, each by the tests of its
-package."""
+"""Tries changes of src/forestplan/ in copies of the tree (tests/by_hand/copies.py), some at a time, each by the tests
+of its package."""
 import math
 import os
 import queue
@@ -17,7 +17,7 @@ from tests.by_hand.copies import MOST_BUSY, Copy, tests_in
 # The modules with the tests of each package, or a class of one, by folder, in the order in which they are asked: first
 # those that take little and reach much. Before all of them come those that are called as the module that is changed.
 TESTS: dict[str, dict[str, str]] = {
-    "lab": {
+    "forestplan": {
         "programs": "endings sheets simulate argument_bytes plain_networks codes calls declared own_networks commands "
         "stated transcripts program_files"
     },
@@ -52,7 +52,7 @@ TESTS: dict[str, dict[str, str]] = {
         "pages": "studio_lessons.Judged studio_lessons.Table studio_opening.Modules published.Folder",
         "programs": "calls studio_states studio_reactions addresses studio",
     },
-    "python": {"pages": "index", "programs": "in_python old_python install"},
+    "interface": {"pages": "index", "programs": "in_python old_python install"},
 }
 # The first letters of the names of a module and of its tests.
 ALIKE = 4

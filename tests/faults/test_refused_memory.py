@@ -4,8 +4,8 @@ import subprocess
 import tempfile
 from collections import Counter
 
-from lab.definitions.colours import plan_text
-from lab.networks.network_text import network_of
+from forestplan.definitions.colours import plan_text
+from forestplan.networks.network_text import network_of
 from tests.cases import Case, called, text, text_in
 from tests.commands import COMMANDS, EDGE, TRIANGLE
 from tests.programs.made_transcripts import Run

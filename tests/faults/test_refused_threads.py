@@ -4,10 +4,10 @@ answer."""
 import time
 from itertools import product
 
-from lab.definitions.colours import plan_text
-from lab.networks.network_text import network_of
-from lab.transcripts.judge import whole_run
-from lab.transcripts.reading import WrongEntry
+from forestplan.definitions.colours import plan_text
+from forestplan.networks.network_text import network_of
+from forestplan.transcripts.judge import whole_run
+from forestplan.transcripts.reading import WrongEntry
 from tests.cases import Case, example, text
 from tests.commands import EDGE
 from tests.commands import TRIANGLE as THREE

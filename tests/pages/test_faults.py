@@ -1,17 +1,18 @@
-"""A fault is a code, a place and a subject, and lab/sentences.py alone has words for it: each code has one sentence,
-which names what the subject has. No code of lab/ looks into a sentence, one of its own or of another program."""
+"""A fault is a code, a place and a subject, and src/forestplan/sentences.py alone has words for it: each code has one
+sentence, which names what the subject has. No code of src/forestplan/ looks into a sentence, one of its own or of
+another program."""
 import ast
 import pathlib
 import re
 import string
 from collections.abc import Iterator
 
-from lab.fault_codes import Code
-from lab.sentences import SENTENCES
+from forestplan.fault_codes import Code
+from forestplan.sentences import SENTENCES
 from tests import TOP
 from tests.cases import Case
 
-LAB = pathlib.Path(TOP, "lab")
+LAB = pathlib.Path(TOP, "src")
 SOURCES = [*sorted(LAB.rglob("*.py")), *sorted(pathlib.Path(TOP, "build").glob("*.py"))]
 # What makes a fault of a code, and of what its keywords are all of the subject.
 MAKERS = ("Fault", "WrongEntry", "NoEntry")
@@ -25,12 +26,15 @@ PATTERNS = set("match search fullmatch findall finditer sub split".split())
 SAYING = {"called", "said_by", "ask", "asked", "replayed"}
 # Places that look into a sentence all the same, with the reason.
 ALLOWED: dict[tuple[str, str], str] = {
-    ("lab/process_exit.py", "run"): "puts what Python says of a mistake of our own into one line",
     (
-        "lab/python/forestplan/interface/calls.py",
-        "_called",
-    ): "a package of its own, which reads the line",
-    ("lab/workshop/workshop.py", "draw"): "names a temporary folder as what it stands for",
+        "src/forestplan/process_exit.py",
+        "run",
+    ): "puts what Python says of a mistake of our own into one line",
+    ("src/forestplan/interface/calls.py", "_called"): "a package of its own, which reads the line",
+    (
+        "src/forestplan/workshop/workshop.py",
+        "draw",
+    ): "names a temporary folder as what it stands for",
 }
 
 

@@ -8,7 +8,7 @@ import re
 
 from build import command_table, crate_tables
 from build.crate_lists import PROGRAMS, listed, with_below
-from lab.__main__ import COMMANDS as OF_LAB
+from forestplan.__main__ import COMMANDS as OF_FORESTLAB
 from tests import TOP
 from tests.cases import FilesCase, found_in, text_in
 from tests.commands import COMMANDS
@@ -72,14 +72,17 @@ SAID_OF_LIMITS = {
     ),
     "docs/learn/LESSON_6.md": ("every network of up to {MAX_NODES:,} nodes",),
     "docs/work/LOOKUP.md": ("{MAX_DEGREE:,} + {MAX_BARS:,}, below `COLOURS`, {MAX_CHANNEL:,}",),
-    "lab/limits.py": assigned(*OF_NETWORKS, "MAX_DEGREE", "MAX_WORKERS", "MAX_PASSES"),
-    "lab/networks/codes.py": ("it names one more than {MAX_EDGES:,} different edges",),
-    "lab/python/forestplan/interface/calls.py": (
+    "src/forestplan/limits.py": assigned(*OF_NETWORKS, "MAX_DEGREE", "MAX_WORKERS", "MAX_PASSES"),
+    "src/forestplan/networks/codes.py": ("it names one more than {MAX_EDGES:,} different edges",),
+    "src/forestplan/interface/calls.py": (
         "`workers`, 1 to {MAX_WORKERS},",
         "more than {MAX_DEGREE:,} neighbours",
     ),
-    "lab/studio/page/draw.js": (" > {MAX_CHANNEL})", "numbers from 1 to {MAX_CHANNEL:,},"),
-    "lab/studio/page/page.html": (
+    "src/forestplan/studio/page/draw.js": (
+        " > {MAX_CHANNEL})",
+        "numbers from 1 to {MAX_CHANNEL:,},",
+    ),
+    "src/forestplan/studio/page/page.html": (
         'id="workers" type="number" min="1" max="{MAX_WORKERS}"',
         'id="capacity" type="number" min="1" max="{MAX_CAPACITY}"',
     ),
@@ -203,7 +206,7 @@ class Index(FilesCase):
             for row in re.findall(r"^(`[^|]*`) \| ", text_in("README.md"), re.M)
         ]
         wanted = {(it.program, it.name) for it in COMMANDS} | {
-            ("forestlab", name) for name in OF_LAB
+            ("forestlab", name) for name in OF_FORESTLAB
         }
         self.same(
             "commands of README",
@@ -211,14 +214,19 @@ class Index(FilesCase):
             wanted,
         )
 
-    def test_layers_of_lab(self):
-        """A package of lab/ imports only those before it; what is in lab/ itself belongs to none."""
-        order = "definitions networks transcripts schedules pictures workshop studio".split()
-        packages = glob.glob("*/__init__.py", root_dir=os.path.join(TOP, "lab"))
+    def test_layers(self):
+        """A package of src/forestplan/ imports only those before it; what is in src/forestplan/ itself belongs to
+        none."""
+        order = (
+            "definitions networks transcripts schedules pictures interface workshop studio".split()
+        )
+        packages = glob.glob("*/__init__.py", root_dir=os.path.join(TOP, "src", "forestplan"))
         self.same("packages", sorted(order), sorted(os.path.dirname(path) for path in packages))
         for at, package in enumerate(order):
-            for path in glob.glob(os.path.join(TOP, "lab", package, "**", "*.py"), recursive=True):
-                names = re.findall(r"^\s*(?:from|import) lab\.(\w+)", text_in(path), re.M)
+            for path in glob.glob(
+                os.path.join(TOP, "src", "forestplan", package, "**", "*.py"), recursive=True
+            ):
+                names = re.findall(r"^\s*(?:from|import) forestplan\.(\w+)", text_in(path), re.M)
                 later = set(names).intersection(order[at + 1 :])
                 self.same(f"{os.path.relpath(path, TOP)}: later packages", later, set())
 
@@ -258,7 +266,7 @@ class Index(FilesCase):
         page = text_in("docs", "claim", "FORMATS.md")
         for command in ("plan", "transcript"):
             line = found_in(rf"(?m)^    forestplan {command} .*", page)[0]
-            helped = text_in("lab", "help", f"forestplan-{command}.txt")
+            helped = text_in("src", "forestplan", "help", f"forestplan-{command}.txt")
             options = set(re.findall(r"^\s+(?:-\w, )?(--\w+)", helped, re.M)) - {"--help"}
             self.note(
                 f"options of {command}",
@@ -267,7 +275,7 @@ class Index(FilesCase):
             )
 
     def test_limits(self):
-        """Pages, and what of lab/ has a limit of its own, have the numbers of the constants."""
+        """Pages, and what of src/forestplan/ has a limit of its own, have the numbers of the constants."""
         text = "".join(text_in("crates", file) for file in LIMITS)
         limits = {
             name: int(number.replace("_", ""))

@@ -1,5 +1,5 @@
-"""Functions and classes of lab/ that have one name in several modules, although they are different things: `main` of
-each command is meant so, and of the others there are to be fewer."""
+"""Functions and classes of src/forestplan/ that have one name in several modules, although they are different things:
+`main` of each command is meant so, and of the others there are to be fewer."""
 import ast
 import collections
 import pathlib
@@ -41,7 +41,7 @@ SEVERAL = {
 def defined() -> dict[str, set[str]]:
     """The modules of each name of a function or a class at the top of a module."""
     found = collections.defaultdict(set)
-    for path in pathlib.Path(TOP, "lab").rglob("*.py"):
+    for path in pathlib.Path(TOP, "src").rglob("*.py"):
         for node in ast.parse(path.read_text(encoding="utf-8")).body:
             if isinstance(node, (ast.FunctionDef, ast.AsyncFunctionDef, ast.ClassDef)):
                 found[node.name].add(str(path.relative_to(TOP)))

@@ -7,31 +7,40 @@ import re
 from tests import TOP
 from tests.cases import FilesCase
 
-FOLDERS = ("lab", "build", "tests")
+FOLDERS = ("src", "build", "tests")
 # By the file: how many places it has, and the reason.
 LOOSE = {
-    "lab/networks/networkx_graph.py": (1, "what networkx keeps of a node, which has no hints"),
-    "lab/pictures/page/marks.js": (
+    "src/forestplan/networks/networkx_graph.py": (
+        1,
+        "what networkx keeps of a node, which has no hints",
+    ),
+    "src/forestplan/pictures/page/marks.js": (
         1,
         "which element has a name is said by the page, not by the browser",
     ),
-    "lab/pictures/picture.py": (1, "the network of a picture that may have none"),
-    "lab/python/forestplan/interface/answers.py": (
-        3,
-        "a text or a property; a class of matplotlib",
-    ),
-    "lab/python/forestplan/interface/calls.py": (1, "a plan has nodes of any kind"),
-    "lab/python/forestplan/interface/graphs.py": (
+    "src/forestplan/pictures/picture.py": (1, "the network of a picture that may have none"),
+    "src/forestplan/interface/answers.py": (3, "a text or a property; a class of matplotlib"),
+    "src/forestplan/interface/calls.py": (1, "a plan has nodes of any kind"),
+    "src/forestplan/interface/graphs.py": (
         3,
         "a graph of networkx, igraph or a dictionary, with nodes of any kind",
     ),
-    "lab/python/forestplan/interface/sites.py": (2, "places have names of any kind"),
-    "lab/studio/connections.py": (2, "an address and a place for bytes, as sockets have them"),
-    "lab/studio/page/address.js": (1, "the values of an address, each of its own type"),
-    "lab/studio/page/draw.js": (1, "fields and menus, which the browser's types keep apart"),
-    "lab/studio/page/recorded.js": (1, "each call asks with fields of its own"),
-    "lab/studio/page/recorded_address.js": (1, "the values of an address, each of its own type"),
-    "lab/studio/server.py": (2, "a request and an address, as socketserver has them"),
+    "src/forestplan/interface/sites.py": (2, "places have names of any kind"),
+    "src/forestplan/studio/connections.py": (
+        2,
+        "an address and a place for bytes, as sockets have them",
+    ),
+    "src/forestplan/studio/page/address.js": (1, "the values of an address, each of its own type"),
+    "src/forestplan/studio/page/draw.js": (
+        1,
+        "fields and menus, which the browser's types keep apart",
+    ),
+    "src/forestplan/studio/page/recorded.js": (1, "each call asks with fields of its own"),
+    "src/forestplan/studio/page/recorded_address.js": (
+        1,
+        "the values of an address, each of its own type",
+    ),
+    "src/forestplan/studio/server.py": (2, "a request and an address, as socketserver has them"),
     "tests/pages/test_published.py": (
         4,
         "recorded answers of all kinds; an example is always read, so it has a network",

@@ -1,6 +1,7 @@
 """Checks what the pages README.md and docs/ show and name. Their commands are run by tests/programs/test_install.py.
 
-- Each table of the lessons (docs/learn) is worked out from the definitions (lab/definitions/), not from the program.
+- Each table of the lessons (docs/learn) is worked out from the definitions (src/forestplan/definitions/), not from the
+  program.
 - Each excerpt of code, a fence whose first line names its file, has its lines in that file, in this order; a comment
   `..` means lines that are left out.
 - No line of a page is wider than 150 columns.
@@ -12,12 +13,12 @@ import glob
 import os
 import re
 
-from lab.definitions.colours import colours
-from lab.definitions.events import Event, Kind, Message
-from lab.definitions.nodes import DROPPED, alpha_start, last_pulse, text_of_wire
-from lab.definitions.rounds import Rounds
-from lab.networks.network_text import network_of
-from lab.studio.lessons import lessons
+from forestplan.definitions.colours import colours
+from forestplan.definitions.events import Event, Kind, Message
+from forestplan.definitions.nodes import DROPPED, alpha_start, last_pulse, text_of_wire
+from forestplan.definitions.rounds import Rounds
+from forestplan.networks.network_text import network_of
+from forestplan.studio.lessons import lessons
 from tests import TOP
 from tests.cases import FilesCase, contents, found_in, text_in
 
@@ -109,7 +110,7 @@ def tutorial_table(title, rows):
 def words_of_sources():
     """The words of all files of the tree but pages, and of their names; and the script and the sample of pages."""
     found = {"draw.sh", "flood.py"}
-    for folder in ("crates", "lab", "build", "tests", "bench", "examples"):
+    for folder in ("crates", "src", "build", "tests", "bench", "examples"):
         for at, below, names in os.walk(os.path.join(TOP, folder)):
             below[:] = [name for name in below if name not in ("out", "target", "__pycache__")]
             for name in names:
@@ -181,7 +182,7 @@ def laws_of_crates():
 
 def paths_in(line):
     """The files that a line of a page names with their folder; of a crate without `crates/`."""
-    folders = "crates|docs|tests|lab|build|bin|bench|examples"
+    folders = "crates|docs|tests|src/forestplan|build|bin|bench|examples"
     of_crates = re.findall(r"`(\w+/(?:src|specs|proofs)(?:/[\w./-]+)?)`", line)
     return re.findall(rf"`((?:{folders})/[\w./-]+)`", line) + [f"crates/{it}" for it in of_crates]
 

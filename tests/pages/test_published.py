@@ -19,24 +19,24 @@ from http.server import SimpleHTTPRequestHandler, ThreadingHTTPServer
 from typing import Any
 from unittest import mock
 
-from lab import proved_programs
-from lab.definitions.programs import any_program_at
-from lab.definitions.reacting_program import Reacting
-from lab.faults import Fault
-from lab.networks.network_text import read_network
-from lab.pictures.page_data import as_object
-from lab.schedules.reacting_stepwise import ReactingStepwise
-from lab.schedules.stepwise import Stepwise
-from lab.studio import publishing, studio
-from lab.studio.calls import CALLS
-from lab.studio.judges import MACHINE, PYTHON
-from lab.studio.lessons import LECTURE, LESSONS, SaidExercise
-from lab.studio.networks import opened_by
-from lab.studio.own_dares import own_dares_of
-from lab.studio.recording import Recording, spots, tell, text_of_page
-from lab.studio.session import Session
-from lab.studio.studio import own_programs
-from tests import TOP, browser
+from forestplan import proved_programs
+from forestplan.definitions.programs import any_program_at
+from forestplan.definitions.reacting_program import Reacting
+from forestplan.faults import Fault
+from forestplan.networks.network_text import read_network
+from forestplan.pictures.page_data import as_object
+from forestplan.schedules.reacting_stepwise import ReactingStepwise
+from forestplan.schedules.stepwise import Stepwise
+from forestplan.studio import publishing, studio
+from forestplan.studio.calls import CALLS
+from forestplan.studio.judges import MACHINE, PYTHON
+from forestplan.studio.lessons import LECTURE, LESSONS, SaidExercise
+from forestplan.studio.networks import opened_by
+from forestplan.studio.own_dares import own_dares_of
+from forestplan.studio.recording import Recording, spots, tell, text_of_page
+from forestplan.studio.session import Session
+from forestplan.studio.studio import own_programs
+from tests import SOURCES, TOP, browser
 from tests.cases import Case, text_in, working_in
 from tests.pages.test_studio_lessons import APART, COINS, Cards, LATER, TICKED, TREE, WRONG, steps
 from tests.settings import PATHS
@@ -48,9 +48,9 @@ WHOLE = range(1, len(LESSONS) + 1)
 # Plays lessons 4 and 7 alone, and says a digest of each file.
 DIGESTS = """
 import hashlib, sys
-from lab.studio.publishing import published
-from lab.studio.recording import spots
-from lab.studio.session import Session
+from forestplan.studio.publishing import published
+from forestplan.studio.recording import spots
+from forestplan.studio.session import Session
 places = [spot for spot in spots() if spot.lesson in (4, 7)]
 for name, data in published(Session(), places).items():
     print(name, hashlib.sha256(data).hexdigest())
@@ -218,7 +218,14 @@ class Folder(Case):
             at = os.path.join(self.folder, name)
             if name == "empty":
                 os.mkdir(at)
-            arguments = [sys.executable, "-S", os.path.join(TOP, "lab"), "studio", "--publish", at]
+            arguments = [
+                sys.executable,
+                "-S",
+                os.path.join(TOP, "src", "forestplan"),
+                "studio",
+                "--publish",
+                at,
+            ]
             run = subprocess.Popen(arguments, stderr=subprocess.PIPE, text=True)
             until = time.monotonic() + 60
             while not self.made() and time.monotonic() < until:
@@ -278,7 +285,7 @@ class Folder(Case):
         self.note("one line", said.count("\n") == 1 and said[:-1].isprintable(), said)
 
     def called(self, *arguments: str) -> subprocess.CompletedProcess[str]:
-        path = os.path.join(TOP, "lab")
+        path = os.path.join(TOP, "src", "forestplan")
         line = [sys.executable, "-S", path, "studio", *arguments]
         return subprocess.run(line, cwd=self.folder, capture_output=True, text=True)
 
@@ -290,7 +297,7 @@ class Bytes(Case):
             subprocess.Popen(
                 [sys.executable, "-c", DIGESTS],
                 cwd=TOP,
-                env=os.environ | {"PYTHONHASHSEED": seed, "PYTHONPATH": TOP},
+                env=os.environ | {"PYTHONHASHSEED": seed, "PYTHONPATH": SOURCES},
                 stdout=subprocess.PIPE,
                 text=True,
             )

@@ -19,10 +19,15 @@ from tests import TOP
 from tests.cases import FilesCase
 from tests.tools import need
 
-FOLDERS = ("lab", "build", "tests", "bench", "examples")
+FOLDERS = ("src", "build", "tests", "bench", "examples")
 HINTED = ("network.py", "definitions/", "transcripts/", "networks/", "schedules/")
 # Here a statement gives one value to one name; in one line are swaps, whose values need the old ones, and these pairs.
-ONE_A_LINE = ("lab/networks/", "lab/workshop/", "lab/python/", "build/")
+ONE_A_LINE = (
+    "src/forestplan/networks/",
+    "src/forestplan/workshop/",
+    "src/forestplan/interface/",
+    "build/",
+)
 PAIRS = {"v w", "x y", "xs ys", "north east"}
 MOST_WAYS, MOST_PARTS, MOST_LOOPS = 12, 4, 2
 
@@ -192,7 +197,7 @@ class Python(FilesCase):
 
     def test_hinted(self):
         for file in files():
-            if file.removeprefix("lab/").startswith(HINTED):
+            if file.removeprefix("src/forestplan/").startswith(HINTED):
                 functions = hinted_of(ast.parse(pathlib.Path(TOP, file).read_text()))
                 lacks = {one.name: without_hint(one) for one in functions}
                 found = {name: what for name, what in lacks.items() if what}
@@ -210,14 +215,15 @@ class Python(FilesCase):
 
     def test_one_assignment_a_line(self):
         for file in files():
-            if file.startswith(ONE_A_LINE) or os.path.dirname(file) == "lab":
+            if file.startswith(ONE_A_LINE) or os.path.dirname(file) in ("src", "src/forestplan"):
                 tree = ast.parse(pathlib.Path(TOP, file).read_text())
                 places = [f"{file}:{node.lineno}" for node in ast.walk(tree) if is_several(node)]
                 self.same(f"{file}: several values in one line", places, [])
 
     def test_imports(self):
         trees = {
-            file.removesuffix(".py")
+            file.removeprefix("src/")
+            .removesuffix(".py")
             .removesuffix("/__init__")
             .replace("/", "."): ast.parse(pathlib.Path(TOP, file).read_text())
             for file in files()

@@ -1,5 +1,5 @@
-"""Lists every place in lab/ that opens or reads a file or a stream, or starts a process, with its limit and the reason
-for it. A place that isn't in the list fails, and so does a row of the list whose place is gone."""
+"""Lists every place in src/forestplan/ that opens or reads a file or a stream, or starts a process, with its limit and
+the reason for it. A place that isn't in the list fails, and so does a row of the list whose place is gone."""
 import ast
 import os
 import pathlib
@@ -55,17 +55,23 @@ READING = {
     ),
     *("Popen", "check_output", "check_call", "getoutput", "getstatusoutput", "communicate"),
 }
-# Functions and methods of lab/ that have such a name, and read no file.
+# Functions and methods of src/forestplan/ that have such a name, and read no file.
 OWN = {
-    ("lab/networks/network_text.py", "reading_of: read.read"): "the method of `Reading` for a line",
-    ("lab/networks/reading.py", "listed_of: foreign.read"): "the function of foreign.py for bytes",
-    ("lab/networks/foreign.py", "read: for in warned"): "a list of warnings",
     (
-        "lab/networks/network.py",
+        "src/forestplan/networks/network_text.py",
+        "reading_of: read.read",
+    ): "the method of `Reading` for a line",
+    (
+        "src/forestplan/networks/reading.py",
+        "listed_of: foreign.read",
+    ): "the function of foreign.py for bytes",
+    ("src/forestplan/networks/foreign.py", "read: for in warned"): "a list of warnings",
+    (
+        "src/forestplan/networks/network.py",
         "was_read: tables.Sites(table, given.stated).read",
     ): "the method of `Sites` for a text",
     **{
-        ("lab/networks/tables.py", f"{where}.read"): "the method of `Table` for a text"
+        ("src/forestplan/networks/tables.py", f"{where}.read"): "the method of `Table` for a text"
         for where in (
             "pairs: Table(name, stated, ('source', 'target'))",
             "licence_of: Table(name, stated, ('channel',))",
@@ -73,9 +79,18 @@ OWN = {
             "Sites.read: self.table",
         )
     },
-    ("lab/workshop/clock_run.py", "ClockRun.answered: self.read"): "the method for an answer",
-    ("lab/workshop/clock_run.py", "RoundsRun.read: super().read"): "the method for an answer",
-    ("lab/workshop/right_rounds.py", "RightRounds.work_out: self.read"): "the method for a line",
+    (
+        "src/forestplan/workshop/clock_run.py",
+        "ClockRun.answered: self.read",
+    ): "the method for an answer",
+    (
+        "src/forestplan/workshop/clock_run.py",
+        "RoundsRun.read: super().read",
+    ): "the method for an answer",
+    (
+        "src/forestplan/workshop/right_rounds.py",
+        "RightRounds.work_out: self.read",
+    ): "the method for a line",
 }
 OF_TREE = "a file of this folder, which has its size"
 OF_PROGRAM = "what a program of this folder says of a network within the limits"
@@ -83,148 +98,173 @@ WRITTEN = "it is opened to be written"
 # (file, place): its limit, with the reason.
 READS = {
     # What a user gives.
-    ("lab/files.py", "bytes_in: file.read"): "parts of 1 MiB up to the limit of the caller",
     (
-        "lab/files.py",
+        "src/forestplan/files.py",
+        "bytes_in: file.read",
+    ): "parts of 1 MiB up to the limit of the caller",
+    (
+        "src/forestplan/files.py",
         "bytes_at: sys.stdin",
     ): "256 MiB, a transcript 512 MiB: no network within the limits is longer",
-    ("lab/files.py", "bytes_at: open"): "the same",
+    ("src/forestplan/files.py", "bytes_at: open"): "the same",
     (
-        "lab/progress.py",
+        "src/forestplan/progress.py",
         "about: open",
     ): "256 MiB by `bytes_in`: the program's own input, if it is a file",
     (
-        "lab/workshop/submissions.py",
+        "src/forestplan/workshop/submissions.py",
         "said_command: open",
     ): "64 KiB: the file `commands` has a line an assignment",
-    ("lab/workshop/submissions.py", "said_command: file.read"): "64 KiB: the same",
+    ("src/forestplan/workshop/submissions.py", "said_command: file.read"): "64 KiB: the same",
     # What students' programs say.
     (
-        "lab/workshop/processes.py",
+        "src/forestplan/workshop/processes.py",
         "Process.__init__: subprocess.Popen",
     ): "its pipe is read in `receive`",
-    ("lab/workshop/processes.py", "Process.send: os.read"): "64 KiB: one part, which is refused",
     (
-        "lab/workshop/processes.py",
+        "src/forestplan/workshop/processes.py",
+        "Process.send: os.read",
+    ): "64 KiB: one part, which is refused",
+    (
+        "src/forestplan/workshop/processes.py",
         "Process.receive: os.read",
     ): "1 MiB, in parts of 64 KiB: `MOST_BYTES` of an answer",
     (
-        "lab/workshop/processes.py",
+        "src/forestplan/workshop/processes.py",
         "Process.last_errors: self.errors.read",
     ): "16 KiB: it begins so far from the end",
     (
-        "lab/workshop/compiling.py",
+        "src/forestplan/workshop/compiling.py",
         "compiled: subprocess.run",
     ): "a file, which the guard's limit keeps below 16 MiB",
-    ("lab/workshop/compiling.py", "unpack: for in classes"): "the same file",
+    ("src/forestplan/workshop/compiling.py", "unpack: for in classes"): "the same file",
     (
-        "lab/workshop/compiling.py",
+        "src/forestplan/workshop/compiling.py",
         "unpack: classes.read",
     ): "100 MB by the digits of its size, and the same file",
     (
-        "lab/workshop/parts.py",
+        "src/forestplan/workshop/parts.py",
         "finished: pipe.recv_bytes",
     ): "the report of a process of our own, on at most 120 runs",
     # What a browser says.
     (
-        "lab/studio/server.py",
+        "src/forestplan/studio/server.py",
         "Handler.do_POST: self.rfile.read",
     ): "8 MiB: `MOST_ASKED`, looked at before",
-    ("lab/studio/server.py", "has_hung_up: connection.recv"): "one byte, which is left there",
-    ("lab/studio/server.py", "Handler.refuse: self.connection.recv"): "64 KiB, which aren't kept",
-    ("lab/studio/connections.py", "Connections.take: one.socket.recv"): "64 KiB: `MOST_HEAD`",
     (
-        "lab/studio/connections.py",
+        "src/forestplan/studio/server.py",
+        "has_hung_up: connection.recv",
+    ): "one byte, which is left there",
+    (
+        "src/forestplan/studio/server.py",
+        "Handler.refuse: self.connection.recv",
+    ): "64 KiB, which aren't kept",
+    (
+        "src/forestplan/studio/connections.py",
+        "Connections.take: one.socket.recv",
+    ): "64 KiB: `MOST_HEAD`",
+    (
+        "src/forestplan/studio/connections.py",
         "Received.readinto: self.connection.recv_into",
     ): "what its caller has room for, which is 8 MiB at most (Handler.do_POST)",
-    ("lab/studio/limits.py", "all_of: os.read"): "1 MiB (MOST_SAID), and 64 KiB of the next part",
-    # What the system says.
-    ("lab/progress.py", "fields_of: open"): "a line of /proc",
-    ("lab/progress.py", "fields_of: file.read"): "a line of /proc",
-    ("lab/workshop/leftovers.py", "processes: open"): "a line of /proc",
-    ("lab/workshop/leftovers.py", "processes: file.read"): "a line of /proc",
-    ("lab/workshop/memory.py", "text_of: open"): "1 MiB of a file of /proc; more is refused",
-    ("lab/workshop/memory.py", "text_of: file.read"): "the same",
-    ("lab/workshop/calls.py", "Filter.program: os.pread"): "the filter that this process has made",
-    ("lab/workshop/sandbox.py", "Sandbox.enter: os.open"): "nothing is read of it here",
-    ("lab/process_exit.py", "status_of: os.read"): "one byte",
-    # What programs of this folder, or of the system, say.
-    ("lab/proved_programs.py", "called: subprocess.run"): OF_PROGRAM,
-    ("lab/python/forestplan/interface/programs.py", "called: subprocess.run"): OF_PROGRAM,
-    ("lab/workshop/workshop.py", "draw: subprocess.run"): "a line of `forestlab picture`",
     (
-        "lab/workshop/sandbox.py",
+        "src/forestplan/studio/limits.py",
+        "all_of: os.read",
+    ): "1 MiB (MOST_SAID), and 64 KiB of the next part",
+    # What the system says.
+    ("src/forestplan/progress.py", "fields_of: open"): "a line of /proc",
+    ("src/forestplan/progress.py", "fields_of: file.read"): "a line of /proc",
+    ("src/forestplan/workshop/leftovers.py", "processes: open"): "a line of /proc",
+    ("src/forestplan/workshop/leftovers.py", "processes: file.read"): "a line of /proc",
+    (
+        "src/forestplan/workshop/memory.py",
+        "text_of: open",
+    ): "1 MiB of a file of /proc; more is refused",
+    ("src/forestplan/workshop/memory.py", "text_of: file.read"): "the same",
+    (
+        "src/forestplan/workshop/calls.py",
+        "Filter.program: os.pread",
+    ): "the filter that this process has made",
+    ("src/forestplan/workshop/sandbox.py", "Sandbox.enter: os.open"): "nothing is read of it here",
+    ("src/forestplan/process_exit.py", "status_of: os.read"): "one byte",
+    # What programs of this folder, or of the system, say.
+    ("src/forestplan/proved_programs.py", "called: subprocess.run"): OF_PROGRAM,
+    ("src/forestplan/interface/programs.py", "called: subprocess.run"): OF_PROGRAM,
+    (
+        "src/forestplan/workshop/workshop.py",
+        "draw: subprocess.run",
+    ): "a line of `forestlab picture`",
+    (
+        "src/forestplan/workshop/sandbox.py",
         "Sandbox.try_out: subprocess.run",
     ): "what bubblewrap says of `true`",
     (
-        "lab/workshop/grade.py",
+        "src/forestplan/workshop/grade.py",
         "remove: subprocess.run",
     ): "what chmod and rm say of a folder of 1,000 files",
-    ("lab/workshop/parts.py", "play: subprocess.run"): "nothing is read of it",
-    ("lab/studio/building.py", "are_built: subprocess.run"): "nothing is read of it",
+    ("src/forestplan/workshop/parts.py", "play: subprocess.run"): "nothing is read of it",
+    ("src/forestplan/studio/building.py", "are_built: subprocess.run"): "nothing is read of it",
     (
-        "lab/studio/building.py",
+        "src/forestplan/studio/building.py",
         "Building.__init__: subprocess.Popen",
     ): "no call: the type of a field",
     (
-        "lab/studio/building.py",
+        "src/forestplan/studio/building.py",
         "Building.look: subprocess.Popen",
     ): "nothing is read of it: it writes the log",
-    ("lab/studio/building.py", "build_so_far: open"): "16 KiB: the end of the log",
-    ("lab/studio/building.py", "build_so_far: log.read"): "16 KiB: the same",
-    ("lab/version.py", "commit: subprocess.run"): "a line of git",
+    ("src/forestplan/studio/building.py", "build_so_far: open"): "16 KiB: the end of the log",
+    ("src/forestplan/studio/building.py", "build_so_far: log.read"): "16 KiB: the same",
+    ("src/forestplan/version.py", "commit: subprocess.run"): "a line of git",
     # Files of this folder.
-    **{("lab/studio/bundle.py", f"module_text: {what}"): OF_TREE for what in ("open", "file.read")},
     **{
-        ("lab/studio/publishing.py", f"{where}: {what}"): OF_TREE
+        ("src/forestplan/studio/bundle.py", f"module_text: {what}"): OF_TREE
+        for what in ("open", "file.read")
+    },
+    **{
+        ("src/forestplan/studio/publishing.py", f"{where}: {what}"): OF_TREE
         for where in ("index_page", "published")
         for what in ("open", "file.read")
     },
-    ("lab/studio/publishing.py", "write_files: open"): WRITTEN,
+    ("src/forestplan/studio/publishing.py", "write_files: open"): WRITTEN,
     **{
-        ("lab/studio/recording.py", f"linked_places: {what}"): OF_TREE
+        ("src/forestplan/studio/recording.py", f"linked_places: {what}"): OF_TREE
         for what in ("open", "file.read")
     },
-    ("lab/version.py", "text: open"): OF_TREE,
-    ("lab/version.py", "text: file.read"): OF_TREE,
-    ("lab/version.py", "text: kits.read"): OF_TREE,
-    ("lab/pictures/pages.py", "text_of: open"): OF_TREE,
-    ("lab/pictures/pages.py", "text_of: file.read"): OF_TREE,
-    ("lab/studio/lessons.py", "page_text: open"): OF_TREE,
-    ("lab/studio/lessons.py", "page_text: file.read"): OF_TREE,
-    ("lab/studio/networks.py", "example_text: open"): OF_TREE,
-    ("lab/studio/networks.py", "example_text: file.read"): OF_TREE,
-    ("lab/studio/server.py", "Handler.do_GET: open"): OF_TREE,
-    ("lab/studio/server.py", "Handler.do_GET: file.read"): OF_TREE,
-    ("lab/workshop/class_files.py", "write_sums: open"): OF_TREE,
-    ("lab/workshop/class_files.py", "write_sums: file.read"): OF_TREE,
-    ("lab/workshop/class_files.py", "copy_class: open"): OF_TREE,
-    ("lab/workshop/class_files.py", "copy_class: file.read"): OF_TREE,
-    ("lab/python/wheel_of_folder.py", "text_in: open"): OF_TREE,
-    ("lab/python/wheel_of_folder.py", "text_in: file.read"): OF_TREE,
-    ("lab/python/wheel_of_folder.py", "write_wheel: ast.parse"): OF_TREE,
+    ("src/forestplan/version.py", "text: open"): OF_TREE,
+    ("src/forestplan/version.py", "text: file.read"): OF_TREE,
+    ("src/forestplan/version.py", "text: kits.read"): OF_TREE,
+    ("src/forestplan/pictures/pages.py", "text_of: open"): OF_TREE,
+    ("src/forestplan/pictures/pages.py", "text_of: file.read"): OF_TREE,
+    ("src/forestplan/studio/lessons.py", "page_text: open"): OF_TREE,
+    ("src/forestplan/studio/lessons.py", "page_text: file.read"): OF_TREE,
+    ("src/forestplan/studio/networks.py", "example_text: open"): OF_TREE,
+    ("src/forestplan/studio/networks.py", "example_text: file.read"): OF_TREE,
+    ("src/forestplan/studio/server.py", "Handler.do_GET: open"): OF_TREE,
+    ("src/forestplan/studio/server.py", "Handler.do_GET: file.read"): OF_TREE,
+    ("src/forestplan/workshop/class_files.py", "write_sums: open"): OF_TREE,
+    ("src/forestplan/workshop/class_files.py", "write_sums: file.read"): OF_TREE,
+    ("src/forestplan/workshop/class_files.py", "copy_class: open"): OF_TREE,
+    ("src/forestplan/workshop/class_files.py", "copy_class: file.read"): OF_TREE,
+    ("src/wheel_of_folder.py", "text_in: open"): OF_TREE,
+    ("src/wheel_of_folder.py", "text_in: file.read"): OF_TREE,
+    ("src/wheel_of_folder.py", "write_wheel: ast.parse"): OF_TREE,
     (
-        "lab/python/wheel_of_folder.py",
+        "src/wheel_of_folder.py",
         "write_wheel: wheel.read",
     ): "a file of this folder, as it was packed",
-    (
-        "lab/python/forestplan/interface/programs.py",
-        "of_lab: importlib.util.spec_from_file_location",
-    ): OF_TREE,
-    ("lab/python/forestplan/interface/programs.py", "of_lab: spec.loader.exec_module"): OF_TREE,
     # What is written.
-    ("lab/files.py", "write: open"): WRITTEN,
-    ("lab/files.py", "write_apart: open"): WRITTEN,
-    ("lab/process_exit.py", "run: os.open"): WRITTEN,
-    ("lab/studio/building.py", "Building.look: open"): WRITTEN,
-    ("lab/studio/limits.py", "begin: open"): WRITTEN,
-    ("lab/studio/studio.py", "open_browser: open"): WRITTEN,
-    ("lab/studio/studio.py", "open_browser: os.open"): WRITTEN,
-    ("lab/studio/studio.py", "open_browser: webbrowser.open"): "a browser opens it",
-    ("lab/workshop/class_files.py", "write: open"): WRITTEN,
-    ("lab/workshop/compiling.py", "unpack: open"): WRITTEN,
-    ("lab/workshop/grade.py", "write_reports: open"): WRITTEN,
-    ("lab/workshop/workshop.py", "keep: open"): WRITTEN,
+    ("src/forestplan/files.py", "write: open"): WRITTEN,
+    ("src/forestplan/files.py", "write_apart: open"): WRITTEN,
+    ("src/forestplan/process_exit.py", "run: os.open"): WRITTEN,
+    ("src/forestplan/studio/building.py", "Building.look: open"): WRITTEN,
+    ("src/forestplan/studio/limits.py", "begin: open"): WRITTEN,
+    ("src/forestplan/studio/studio.py", "open_browser: open"): WRITTEN,
+    ("src/forestplan/studio/studio.py", "open_browser: os.open"): WRITTEN,
+    ("src/forestplan/studio/studio.py", "open_browser: webbrowser.open"): "a browser opens it",
+    ("src/forestplan/workshop/class_files.py", "write: open"): WRITTEN,
+    ("src/forestplan/workshop/compiling.py", "unpack: open"): WRITTEN,
+    ("src/forestplan/workshop/grade.py", "write_reports: open"): WRITTEN,
+    ("src/forestplan/workshop/workshop.py", "keep: open"): WRITTEN,
 }
 # Of the module subprocess, what starts nothing.
 NAMES_OF_SUBPROCESS = {
@@ -236,15 +276,15 @@ OF_FILES = ("IO", "TextIO", "BinaryIO", "TextIOWrapper", "BufferedReader")
 
 
 def files() -> list[str]:
-    """The modules of lab/, by their paths from the top."""
-    return sorted(str(path.relative_to(TOP)) for path in pathlib.Path(TOP, "lab").rglob("*.py"))
+    """The modules of src/forestplan/, by their paths from the top."""
+    return sorted(str(path.relative_to(TOP)) for path in pathlib.Path(TOP, "src").rglob("*.py"))
 
 
 class Places(ast.NodeVisitor):
     """The places of a module that read, each with the functions around it."""
 
     def __init__(self, own: set[str]) -> None:
-        # Names that the module defines, or has of another one of lab/.
+        # Names that the module defines, or has of another one of src/forestplan/.
         self.own = own
         self.around: list[str] = []
         self.found: list[str] = []
@@ -286,7 +326,7 @@ class Places(ast.NodeVisitor):
             self.note(node.id)
 
     def visit_ImportFrom(self, node: ast.ImportFrom) -> None:
-        if not (node.module or "").startswith("lab"):
+        if not (node.module or "").startswith("forestplan"):
             for alias in node.names:
                 if alias.name in READING:
                     self.note(f"from {node.module} import {alias.name}")
@@ -308,7 +348,7 @@ def places_of(text: str) -> set[str]:
 
 
 def own_names(tree: ast.Module) -> set[str]:
-    """The names that a module defines, gives a value, or has of another one of lab/."""
+    """The names that a module defines, gives a value, or has of another one of src/forestplan/."""
     found: set[str] = set()
     for node in ast.walk(tree):
         if isinstance(node, (ast.FunctionDef, ast.ClassDef)):
@@ -317,7 +357,7 @@ def own_names(tree: ast.Module) -> set[str]:
             found.add(node.arg)
         elif isinstance(node, ast.Name) and isinstance(node.ctx, ast.Store):
             found.add(node.id)
-        elif isinstance(node, ast.ImportFrom) and (node.module or "").startswith("lab."):
+        elif isinstance(node, ast.ImportFrom) and (node.module or "").startswith("forestplan."):
             found |= {alias.asname or alias.name for alias in node.names}
     return found
 
@@ -362,4 +402,7 @@ class Reads(Case):
         for place in sorted(listed - found):
             self.note(": ".join(place), False, "the list READS has it, and it isn't there")
         self.same("places", found, listed)
-        self.note("there are some", len(found) > 50 and os.path.isdir(os.path.join(TOP, "lab")))
+        self.note(
+            "there are some",
+            len(found) > 50 and os.path.isdir(os.path.join(TOP, "src", "forestplan")),
+        )

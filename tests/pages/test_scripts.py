@@ -14,7 +14,7 @@ from tests import TOP
 from tests.cases import FilesCase, text_in
 from tests.tools import need
 
-PAGES = {"lab/pictures/page": "alone.html", "lab/studio/page": "page.html"}
+PAGES = {"src/forestplan/pictures/page": "alone.html", "src/forestplan/studio/page": "page.html"}
 # The types of the elements that aren't just any.
 KINDS = {
     "a": "HTMLAnchorElement",
@@ -73,8 +73,9 @@ class Scripts(FilesCase):
         self.run_clean("tsc", "-p", "jsconfig.json")
 
     def test_a_call_that_the_server_does_not_know(self) -> None:
-        """A page that asks for something else than the calls of lab/studio/messages.py, or reads something else of an
-        answer, is a fault of a type: each line that `PLANTED` marks, and none of the others."""
+        """A page that asks for something else than the calls of src/forestplan/studio/messages.py, or reads something
+        else of an answer, is a fault of a type: each line that `PLANTED` marks, and none of the others.
+        """
         need(self, "tsc")
         folders = [os.path.join(TOP, folder) for folder in PAGES]
         settings = {

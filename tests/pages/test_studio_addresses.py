@@ -6,8 +6,8 @@ import random
 
 from typing import get_args
 
-from lab.studio.address import NAMES
-from lab.studio.answers import TabName
+from forestplan.studio.address import NAMES
+from forestplan.studio.answers import TabName
 from tests.pages.test_studio_page import Page
 from tests.programs.test_addresses import TWO, random_state, rounded, stored
 

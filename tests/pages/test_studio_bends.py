@@ -1,8 +1,8 @@
-"""The bends of the edges on the page and the sides and words of its labels are those of lab/pictures: the page asks for
-them after each change, and keeps them while a node is dragged."""
+"""The bends of the edges on the page and the sides and words of its labels are those of src/forestplan/pictures: the
+page asks for them after each change, and keeps them while a node is dragged."""
 
-from lab.pictures.page_data import Net, PlainNode
-from lab.pictures.pages import net_at
+from forestplan.pictures.page_data import Net, PlainNode
+from forestplan.pictures.pages import net_at
 from tests.pages.test_studio_page import Page
 
 # Node 2 lies on the edge from 1 to 3.

@@ -9,21 +9,21 @@ import time
 from collections.abc import Collection, Iterator, Sequence
 from unittest import mock
 
-from lab.definitions.colours import bit
-from lab.definitions.programs import any_program_at, program_at
-from lab.definitions.reacting_program import Reacting
-from lab.definitions.rounds import Rounds
-from lab.faults import Fault
-from lab.network import Network
-from lab.networks.network_text import read_network
-from lab.pictures.program_rounds import program_rounds
-from lab.schedules.reacting_stepwise import ReactingStepwise
-from lab.schedules.stepwise import Stepwise
-from lab.studio import lessons as table
-from lab.studio.answers import ExerciseJudged
-from lab.studio.exercises import GOALS, exercise_judged
-from lab.studio.fields import parsed_call
-from lab.studio.lessons import (
+from forestplan.definitions.colours import bit
+from forestplan.definitions.programs import any_program_at, program_at
+from forestplan.definitions.reacting_program import Reacting
+from forestplan.definitions.rounds import Rounds
+from forestplan.faults import Fault
+from forestplan.network import Network
+from forestplan.networks.network_text import read_network
+from forestplan.pictures.program_rounds import program_rounds
+from forestplan.schedules.reacting_stepwise import ReactingStepwise
+from forestplan.schedules.stepwise import Stepwise
+from forestplan.studio import lessons as table
+from forestplan.studio.answers import ExerciseJudged
+from forestplan.studio.exercises import GOALS, exercise_judged
+from forestplan.studio.fields import parsed_call
+from forestplan.studio.lessons import (
     LECTURE,
     LESSONS,
     PredictedExercise,
@@ -31,10 +31,10 @@ from lab.studio.lessons import (
     SeenExercise,
     TableStep,
 )
-from lab.studio.messages import ExerciseCall
-from lab.studio.networks import opened_by
-from lab.studio.session import Session
-from lab.studio.studio import own_programs
+from forestplan.studio.messages import ExerciseCall
+from forestplan.studio.networks import opened_by
+from forestplan.studio.session import Session
+from forestplan.studio.studio import own_programs
 from tests import TOP
 from tests.cases import Case, said_by, text_in
 from tests.pages.test_studio_page import Page

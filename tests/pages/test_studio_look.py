@@ -4,7 +4,7 @@ import re
 import time
 from typing import get_args
 
-from lab.studio.answers import TabName
+from forestplan.studio.answers import TabName
 from tests.pages.test_studio_page import Page
 
 PLACES = {

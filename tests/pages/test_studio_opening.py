@@ -339,11 +339,11 @@ class Closed(Case):
 class Modules(Case):
     def test_all_begin_at_once(self) -> None:
         """The page names each module that it loads, so that none waits until another one is there."""
-        html = text_in("lab/studio/page/page.html")
+        html = text_in("src/forestplan/studio/page/page.html")
         named = set(re.findall(r'rel="modulepreload" href="([^"]+)"', html))
         texts = {
             os.path.basename(path): text_in(path)
-            for folder in ("lab/studio/page", "lab/pictures/page")
+            for folder in ("src/forestplan/studio/page", "src/forestplan/pictures/page")
             for path in glob.glob(os.path.join(TOP, folder, "*.js"))
         }
         loaded, waiting = set(), ["studio.js"]
@@ -356,5 +356,5 @@ class Modules(Case):
 
     def test_something_is_seen(self) -> None:
         """Before any script is there the page says what it is."""
-        html = text_in("lab/studio/page/page.html")
+        html = text_in("src/forestplan/studio/page/page.html")
         self.note("a sentence", re.search(r'id="closed"><h2>.*?</h2><p>', html, re.S), html)

@@ -9,9 +9,9 @@ import subprocess
 import time
 from collections.abc import Iterator
 
-from lab.definitions.colours import colours
-from lab.networks.network_text import network_of
-from lab.pictures.palette import (
+from forestplan.definitions.colours import colours
+from forestplan.networks.network_text import network_of
+from forestplan.pictures.palette import (
     CHANNEL_HUES,
     FOREST_COLOURS,
     INK,
@@ -119,7 +119,9 @@ def rows_of_a_look(variables: str) -> Iterator[tuple[str, str, float]]:
 class Repeated(Case):
     def test_contrast(self):
         """Text has a contrast of 4.5, a mark (a fill by its rim) one of 3, in the light and in the dark."""
-        looks = re.findall(r":root\{(.*?)\}", text_in("lab/pictures/page/page.css"), re.S)
+        looks = re.findall(
+            r":root\{(.*?)\}", text_in("src/forestplan/pictures/page/page.css"), re.S
+        )
         self.note("a light and a dark look", len(looks) == 2)
         rows = [*rows_of_the_palette(), *(row for look in looks for row in rows_of_a_look(look))]
         for one, other, least in rows:
@@ -127,7 +129,7 @@ class Repeated(Case):
 
     def test_names_in_the_page(self):
         """Each element that the modules ask for by its name is in the page."""
-        folder = os.path.join(TOP, "lab", "studio", "page")
+        folder = os.path.join(TOP, "src", "forestplan", "studio", "page")
         there = set(re.findall(r'\bid="(\w+)"', text_in(folder, "page.html")))
         for name in glob.glob("*.js", root_dir=folder):
             asked = set(re.findall(r'\bby\("(\w+)"\)', text_in(folder, name)))

@@ -12,7 +12,7 @@ import os
 import re
 
 from build.crate_lists import listed, with_below
-from lab.version import NUMBER
+from forestplan.version import NUMBER
 from tests import TOP
 from tests.cases import FilesCase, found_in, text_in
 from tests.pages.statements import TESTS, named, reached, roots_of

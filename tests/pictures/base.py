@@ -1,11 +1,11 @@
 """What the tests of pictures share: how a picture is drawn, and the networks and texts that it is drawn from, by the
 definitions."""
 
-from lab.definitions.colours import plan_text
-from lab.networks.network_text import network_of
-from lab.pictures import picture
-from lab.pictures.picture import FORM
-from lab.schedules.simulate import played, text_of_run
+from forestplan.definitions.colours import plan_text
+from forestplan.networks.network_text import network_of
+from forestplan.pictures import picture
+from forestplan.pictures.picture import FORM
+from forestplan.schedules.simulate import played, text_of_run
 from tests.cases import Case, example, in_process
 
 SEED = 2026

@@ -1,10 +1,10 @@
 """Pictures of rounds without a rule: the words beside what `forestlab explore` prints, what is red in a merge beside
 the rounds of ruled_rounds.py (tests/programs/test_schedules.py compares these with nodes that hear and send), and in
 the ends of other programs by hand. What the smallest networks show is in the stored pictures."""
-from lab.definitions.rounds import Rounds
-from lab.networks.network_text import network_of
-from lab.schedules import rules
-from lab.schedules.ruled_rounds import RuledRounds
+from forestplan.definitions.rounds import Rounds
+from forestplan.networks.network_text import network_of
+from forestplan.schedules import rules
+from forestplan.schedules.ruled_rounds import RuledRounds
 from tests import TOP
 from tests.cases import example, said_by
 from tests.pictures.base import PictureCase, painter

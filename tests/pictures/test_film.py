@@ -3,8 +3,8 @@ each node has at which moment."""
 import re
 from xml.etree import ElementTree
 
-from lab.definitions.colours import colours
-from lab.networks.network_text import network_of
+from forestplan.definitions.colours import colours
+from forestplan.networks.network_text import network_of
 from tests.cases import example
 from tests.pictures.base import BARRED, PictureCase
 from tests.pictures.marks import SVG

@@ -3,12 +3,12 @@ another one. And where the vertices of a network are drawn, and their names."""
 import re
 from itertools import combinations, product
 
-from lab.networks.network_text import network_of
-from lab.networks.sources import network_bytes
-from lab.pictures.page_data import PlainNode
-from lab.pictures.pages import net_at, net_of, page_label
-from lab.pictures.places import Places, page_bends
-from lab.schedules import rules
+from forestplan.networks.network_text import network_of
+from forestplan.networks.sources import network_bytes
+from forestplan.pictures.page_data import PlainNode
+from forestplan.pictures.pages import net_at, net_of, page_label
+from forestplan.pictures.places import Places, page_bends
+from forestplan.schedules import rules
 from tests.cases import examples
 from tests.pictures.base import BARRED, PictureCase, transcript
 from tests.pictures.marks import (

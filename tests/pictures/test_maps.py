@@ -1,12 +1,12 @@
-"""Pictures of plans and the player's page, read back: marks, hues and numbers beside lab/definitions. Those of forests,
-rounds and bits are looked at as they are stored; here is which forests and columns are drawn."""
+"""Pictures of plans and the player's page, read back: marks, hues and numbers beside src/forestplan/definitions. Those
+of forests, rounds and bits are looked at as they are stored; here is which forests and columns are drawn."""
 import re
 
-from lab.definitions.colours import colours
-from lab.definitions.nodes import last_pulse
-from lab.definitions.rounds import FIRST_MERGE, Rounds, merge_step
-from lab.networks.network_text import network_of
-from lab.networks.sources import network_bytes
+from forestplan.definitions.colours import colours
+from forestplan.definitions.nodes import last_pulse
+from forestplan.definitions.rounds import FIRST_MERGE, Rounds, merge_step
+from forestplan.networks.network_text import network_of
+from forestplan.networks.sources import network_bytes
 from tests.cases import example, examples
 from tests.pictures.base import APART, BARRED, PictureCase
 from tests.pictures.marks import (

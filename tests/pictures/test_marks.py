@@ -5,9 +5,9 @@ import json
 import shutil
 from collections.abc import Callable, Sequence
 
-from lab.pictures import pages
-from lab.pictures.marks import bar_row, channel_circle, colour_square
-from lab.pictures.svg import Svg
+from forestplan.pictures import pages
+from forestplan.pictures.marks import bar_row, channel_circle, colour_square
+from forestplan.pictures.svg import Svg
 from tests.cases import Case, called
 from tests.pictures.marks import SVG, number, parsed
 from tests.tools import need

@@ -3,9 +3,9 @@ import os
 import re
 from xml.etree import ElementTree
 
-from lab.definitions.colours import plan_text
-from lab.networks.network_text import network_of
-from lab.schedules.simulate import played, text_of_run
+from forestplan.definitions.colours import plan_text
+from forestplan.networks.network_text import network_of
+from forestplan.schedules.simulate import played, text_of_run
 from tests.cases import example, examples
 from tests.pictures.base import APART, PictureCase, painter, transcript
 from tests.programs.made_transcripts import transcript_text

@@ -2,7 +2,7 @@
 independent set and of recolouring are stored."""
 import re
 
-from lab.pictures.palette import INK
+from forestplan.pictures.palette import INK
 from tests.cases import example
 from tests.pictures.base import PictureCase
 from tests.pictures.marks import (

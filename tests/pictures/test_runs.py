@@ -1,9 +1,9 @@
 """Pictures of runs without a clock, read back: into the entries of their transcripts, and what those are by
-lab/definitions/nodes.py."""
+src/forestplan/definitions/nodes.py."""
 from itertools import product
 
-from lab.definitions.nodes import last_pulse
-from lab.networks.network_text import network_of
+from forestplan.definitions.nodes import last_pulse
+from forestplan.networks.network_text import network_of
 from tests.cases import example
 from tests.pictures.base import PictureCase, transcript
 from tests.pictures.marks import SVG, ends, marks, parsed, title, texts_of

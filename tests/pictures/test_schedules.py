@@ -4,10 +4,10 @@ import functools
 from collections import Counter
 from itertools import pairwise
 
-from lab.definitions.leader import LEADER
-from lab.definitions.nodes import COLOURING
-from lab.networks.network_text import network_of
-from lab.schedules.alpha_space import AlphaSpace
+from forestplan.definitions.leader import LEADER
+from forestplan.definitions.nodes import COLOURING
+from forestplan.networks.network_text import network_of
+from forestplan.schedules.alpha_space import AlphaSpace
 from tests.cases import example
 from tests.pictures.base import PictureCase
 from tests.pictures.marks import SVG, centre, ends, marks, parsed, texts, title

@@ -2,13 +2,13 @@
 each entry is in the stored page."""
 from unittest import mock
 
-from lab.definitions.nodes import last_pulse
-from lab.definitions.rounds import Rounds
-from lab.networks.network_text import network_of
-from lab.pictures import watch_page
-from lab.pictures.watch_page import Run, Steps, steps_of_text
-from lab.schedules.policies import Policy
-from lab.schedules.simulate import AlphaPlayer, text_of_run
+from forestplan.definitions.nodes import last_pulse
+from forestplan.definitions.rounds import Rounds
+from forestplan.networks.network_text import network_of
+from forestplan.pictures import watch_page
+from forestplan.pictures.watch_page import Run, Steps, steps_of_text
+from forestplan.schedules.policies import Policy
+from forestplan.schedules.simulate import AlphaPlayer, text_of_run
 from tests.cases import example
 from tests.pictures.base import PictureCase, transcript
 from tests.pictures.marks import data_of

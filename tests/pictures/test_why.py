@@ -4,11 +4,11 @@ The channel of the triangle's node 2 is worked by hand, as in docs/learn/LESSON_
 the same if identifiers on which it is said not to depend change."""
 import random
 
-from lab.definitions.colours import three
-from lab.definitions.rounds import Rounds
-from lab.network import Network
-from lab.networks.network_text import network_of
-from lab.pictures.why_picture import Cone
+from forestplan.definitions.colours import three
+from forestplan.definitions.rounds import Rounds
+from forestplan.network import Network
+from forestplan.networks.network_text import network_of
+from forestplan.pictures.why_picture import Cone
 from tests.cases import example
 from tests.pictures.base import PictureCase
 from tests.pictures.marks import marks, parsed

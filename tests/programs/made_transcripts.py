@@ -1,12 +1,12 @@
-"""The run of one worker by the definitions (lab/definitions/nodes.py).
+"""The run of one worker by the definitions (src/forestplan/definitions/nodes.py).
 
-A run is held as its entries (lab/definitions/events.py), in the order in which they were made."""
+A run is held as its entries (src/forestplan/definitions/events.py), in the order in which they were made."""
 from collections import deque
 
-from lab.definitions.events import Event, Kind
-from lab.definitions.nodes import COLOURING
-from lab.schedules.simulate import AlphaPlayer, text_of_run
-from lab.transcripts.reading import line_of
+from forestplan.definitions.events import Event, Kind
+from forestplan.definitions.nodes import COLOURING
+from forestplan.schedules.simulate import AlphaPlayer, text_of_run
+from forestplan.transcripts.reading import line_of
 
 MOST_TAKES = 4
 

@@ -1,11 +1,11 @@
-"""What `forests` and `check` answer to any bytes, by the readers of lab/, which are compared with the programs so, and
-by the definitions. An answer is (status, standard output, standard error)."""
+"""What `forests` and `check` answer to any bytes, by the readers of src/forestplan/, which are compared with the
+programs so, and by the definitions. An answer is (status, standard output, standard error)."""
 import re
 
-from lab.definitions.colours import forests_text
-from lab.faults import Fault
-from lab.networks.network_text import read_network
-from lab.networks.plan_text import clashes, read_plan
+from forestplan.definitions.colours import forests_text
+from forestplan.faults import Fault
+from forestplan.networks.network_text import read_network
+from forestplan.networks.plan_text import clashes, read_plan
 from tests.cases import found_in
 
 # Only a line feed ends a line, only spaces and tabs separate fields, and one carriage return at the end of a line is no

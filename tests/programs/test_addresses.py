@@ -14,28 +14,28 @@ import time
 from typing import get_args
 from unittest import mock
 
-from lab.definitions.programs import program_at
-from lab.faults import Fault
-from lab.networks.network_text import read_network
-from lab.pictures.page_data import Net, as_object
-from lab.schedules.policies import POLICIES
-from lab.schedules.rules import OF_PROGRAMS, OF_SCHEDULES
-from lab.schedules.stepwise import Stepwise
-from lab.studio import limits, links
-from lab.studio.address import NAMES, Here
-from lab.studio.answers import PictureKind, TabName, Values
-from lab.studio.dares import DARES
-from lab.studio.links import judge, judged_link
-from lab.studio.messages import HelloCall
-from lab.studio.networks import hello, opened_by
-from lab.studio.recording import tell
-from lab.studio.session import SAMPLES, Session
+from forestplan.definitions.programs import program_at
+from forestplan.faults import Fault
+from forestplan.networks.network_text import read_network
+from forestplan.pictures.page_data import Net, as_object
+from forestplan.schedules.policies import POLICIES
+from forestplan.schedules.rules import OF_PROGRAMS, OF_SCHEDULES
+from forestplan.schedules.stepwise import Stepwise
+from forestplan.studio import limits, links
+from forestplan.studio.address import NAMES, Here
+from forestplan.studio.answers import PictureKind, TabName, Values
+from forestplan.studio.dares import DARES
+from forestplan.studio.links import judge, judged_link
+from forestplan.studio.messages import HelloCall
+from forestplan.studio.networks import hello, opened_by
+from forestplan.studio.recording import tell
+from forestplan.studio.session import SAMPLES, Session
 from tests import FORESTLAB, TOP
 from tests.cases import Case, called, example, found_in, said_by, text_in, written_by
 from tests.tools import need
 
 STATES, SEED = 400, 107
-PAGE = os.path.join(TOP, "lab", "studio", "page")
+PAGE = os.path.join(TOP, "src", "forestplan", "studio", "page")
 # Writes each state of standard input as the page does.
 WRITER = """\
 import {readFileSync} from "node:fs";
@@ -494,14 +494,16 @@ class Links(Case):
         self.same("too much memory", list(found[0]), said)
         self.note("the next one", found[1][0].startswith("2: not won"), found[1])
         with mock.patch(
-            "lab.studio.links.judged_link", lambda link, _: time.sleep(60)
+            "forestplan.studio.links.judged_link", lambda link, _: time.sleep(60)
         ), mock.patch.object(limits, "SECONDS", 1):
             found = list(judge(["x"], Session()))
         self.same("too much time", found, [(f"1: can't be judged: {limits.TOO_LATE}", False)])
-        with mock.patch("lab.studio.links.judged_link", side_effect=lambda link, _: os._exit(3)):
+        with mock.patch(
+            "forestplan.studio.links.judged_link", side_effect=lambda link, _: os._exit(3)
+        ):
             found = list(judge(["x"], Session()))
         self.note("an end without a word", "so it was ended" in found[0][0], found)
-        with mock.patch("lab.studio.links.judged_link", lambda link, _: 1 // 0):
+        with mock.patch("forestplan.studio.links.judged_link", lambda link, _: 1 // 0):
             found = list(judge(["x"], Session()))
         self.note("a fault of ours", "can't be judged: a fault of the studio" in found[0][0], found)
 

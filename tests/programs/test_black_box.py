@@ -1,14 +1,13 @@
 """Black-box tests: runs the built program as a user would, and compares standard output, standard error and
 status byte by byte.
 
-Expected answers are worked by hand, or come from the plain definition in lab/definitions/colours.py; none is taken from
-the program.
-"""
+Expected answers are worked by hand, or come from the plain definition in src/forestplan/definitions/colours.py; none is
+taken from the program. """
 import os
 
-from lab.definitions.colours import forests_text, plan_text
-from lab.definitions.rounds import rounds_text
-from lab.networks.network_text import network_of
+from forestplan.definitions.colours import forests_text, plan_text
+from forestplan.definitions.rounds import rounds_text
+from forestplan.networks.network_text import network_of
 from tests import TOP
 from tests.cases import Case, called, contents, examples, text
 from tests.commands import COMMANDS, EDGE, HELPS, PROGRAMS, TRIANGLE, commands_of
@@ -162,10 +161,10 @@ class BlackBox(Case):
         self.same("one more", done, (1, b"", b"forestplan: F7 line 401002\n"))
 
     def test_help(self):
-        """Each help text whole, of both programs, as lab/help/ has it, but for the words on `-h`: at both options the
-        scripts print the stored text."""
+        """Each help text whole, of both programs, as src/forestplan/help/ has it, but for the words on `-h`: at both
+        options the scripts print the stored text."""
         for (program, *arguments), name in HELPS:
-            wanted = contents("lab", "help", f"{name}.txt")
+            wanted = contents("src", "forestplan", "help", f"{name}.txt")
             said = wanted.replace(b" Print help\n", b" Print help (see a summary with '-h')\n")
             done = called(PATHS[program], *arguments, "--help")
             self.same(f"help by {program} {arguments}", done, (0, said, b""))

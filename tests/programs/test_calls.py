@@ -6,13 +6,13 @@ import json
 import os
 from unittest import mock
 
-from lab.definitions.nodes import COLOURING
-from lab.definitions.programs import PROGRAMS
-from lab.studio import limits, runs
-from lab.studio.calls import CALLS
-from lab.studio.fields import fields_of, object_of
-from lab.studio.messages import RunCall
-from lab.studio.session import Session
+from forestplan.definitions.nodes import COLOURING
+from forestplan.definitions.programs import PROGRAMS
+from forestplan.studio import limits, runs
+from forestplan.studio.calls import CALLS
+from forestplan.studio.fields import fields_of, object_of
+from forestplan.studio.messages import RunCall
+from forestplan.studio.session import Session
 from tests import TOP
 from tests.cases import FilesCase
 

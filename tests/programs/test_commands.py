@@ -9,8 +9,8 @@ import sys
 
 from build import completion, help_texts, page_types
 from build.__main__ import MODULES
-from lab.__main__ import COMMANDS as OF_LAB
-from lab.parsers import count
+from forestplan.__main__ import COMMANDS as OF_LAB
+from forestplan.parsers import count
 from tests import TOP
 from tests.cases import Case, called, contents, forestlab, text_in
 from tests.commands import HELPS, SCRIPTS, commands_of
@@ -128,26 +128,32 @@ class Commands(Case):
             self.same(path, text_in(path), text)
 
     def test_help_texts(self):
-        """The table has each command of a program, and lab/help/ their texts as `python3 build help-texts` writes them;
-        test_black_box.py compares these with the programs'."""
+        """The table has each command of a program, and src/forestplan/help/ their texts as `python3 build help-texts`
+        writes them; test_black_box.py compares these with the programs'."""
         for program in PATHS:
-            listed = completion.commands_in((program,), text_in("lab", "help", f"{program}.txt"))
+            listed = completion.commands_in(
+                (program,), text_in("src", "forestplan", "help", f"{program}.txt")
+            )
             self.same(
                 f"the commands of {program}",
                 [command.name for command in commands_of(program)],
                 listed,
             )
         self.same(
-            "lab/help/",
+            "src/forestplan/help/",
             {f"{name}.txt" for _, name in HELPS},
-            set(os.listdir(os.path.join(TOP, "lab", "help"))),
+            set(os.listdir(os.path.join(TOP, "src", "forestplan", "help"))),
         )
         written = help_texts.help_texts()
         self.same(
             "the texts that help-texts writes", {f"{name}.txt" for _, name in HELPS}, set(written)
         )
         for name, text in written.items():
-            self.same(f"lab/help/{name} as its source has it", text_in("lab", "help", name), text)
+            self.same(
+                f"src/forestplan/help/{name} as its source has it",
+                text_in("src", "forestplan", "help", name),
+                text,
+            )
 
     def test_scripts(self):
         """The table has each command of forestlab, and each command below one has an example in its help."""

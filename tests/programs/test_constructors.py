@@ -1,17 +1,17 @@
-"""A constructor of lab/ is cheap: it plays no rounds, searches nothing, reads no file and starts no process. What does
-is a method, or a function that is named by what comes out."""
+"""A constructor of src/forestplan/ is cheap: it plays no rounds, searches nothing, reads no file and starts no process.
+What does is a method, or a function that is named by what comes out."""
 import ast
 import pathlib
 from dataclasses import replace
 
-from lab.definitions.leader import LEADER
-from lab.definitions.nodes import Colouring
-from lab.definitions.matching import MATCHING
-from lab.definitions.program import Program, RoundsNode
-from lab.definitions.rounds import Rounds
-from lab.network import Network
-from lab.schedules.alpha_space import AlphaSpace
-from lab.schedules.ruled_rounds import RuledRounds, RuledSequel
+from forestplan.definitions.leader import LEADER
+from forestplan.definitions.nodes import Colouring
+from forestplan.definitions.matching import MATCHING
+from forestplan.definitions.program import Program, RoundsNode
+from forestplan.definitions.rounds import Rounds
+from forestplan.network import Network
+from forestplan.schedules.alpha_space import AlphaSpace
+from forestplan.schedules.ruled_rounds import RuledRounds, RuledSequel
 from tests import TOP
 from tests.cases import FilesCase, unittest
 
@@ -44,7 +44,7 @@ def asked(net: Network, v: int) -> RoundsNode:
 class Constructors(FilesCase):
     def test_written(self) -> None:
         count = 0
-        for path in sorted(pathlib.Path(TOP, "lab").rglob("*.py")):
+        for path in sorted(pathlib.Path(TOP, "src").rglob("*.py")):
             for of in ast.walk(ast.parse(path.read_text(encoding="utf-8"))):
                 for function in of.body if isinstance(of, ast.ClassDef) else ():
                     if getattr(function, "name", "") not in ("__init__", "__post_init__"):
@@ -68,7 +68,7 @@ class Constructors(FilesCase):
                 rounds.merged[1]
         self.same("plan without rules", RuledRounds(EDGE, ()).plan, None)
         with unittest.mock.patch(
-            "lab.schedules.ruled_rounds.synchronous_run", side_effect=AssertionError("runs")
+            "forestplan.schedules.ruled_rounds.synchronous_run", side_effect=AssertionError("runs")
         ):
             sequel = RuledSequel(EDGE, (), MATCHING)
             with self.assertRaisesRegex(AssertionError, "runs"):

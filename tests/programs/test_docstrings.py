@@ -1,5 +1,5 @@
-"""The docstrings of lab/: each example is run, each module stands in the map of its package, and in a package that is
-used as a library each function that other modules import has an example."""
+"""The docstrings of src/forestplan/: each example is run, each module stands in the map of its package, and in a
+package that is used as a library each function that other modules import has an example."""
 import ast
 import doctest
 import importlib
@@ -9,13 +9,21 @@ import re
 from tests import TOP
 from tests.cases import FilesCase
 
-# Those that `help("lab")` names, in the order in which they import each other; the last one is the whole.
+# Those that `help("forestplan")` names, in the order in which they import each other; the last one is the whole.
 ALL_PACKAGES = (
-    *("lab.definitions", "lab.networks", "lab.transcripts", "lab.schedules", "lab.pictures"),
-    *("lab.workshop", "lab.studio", "lab"),
+    *(
+        "forestplan.definitions",
+        "forestplan.networks",
+        "forestplan.transcripts",
+        "forestplan.schedules",
+        "forestplan.pictures",
+    ),
+    *("forestplan.interface", "forestplan.workshop", "forestplan.studio", "forestplan"),
 )
 # Those whose functions each have an example.
-PACKAGES = ("lab.networks",)
+PACKAGES = ("forestplan.networks",)
+# Its examples call the built programs; test_in_python.py runs them.
+OF_PROGRAMS = {"forestplan.interface.calls"}
 # A line of a map: a module or a package, and what it has.
 MAPPED = re.compile(r"^    (\w+)  +\S", re.M)
 # What the command line is made of: it adds options to a parser, writes, or calls networkx, and the tests of the
@@ -27,21 +35,21 @@ OF_COMMANDS = {
 
 
 def modules_of(package: str) -> list[str]:
-    paths = pathlib.Path(TOP, *package.split(".")).glob("*.py")
+    paths = pathlib.Path(TOP, "src", *package.split(".")).glob("*.py")
     return [f"{package}.{path.stem}" for path in sorted(paths) if not path.stem.startswith("__")]
 
 
 def is_shown(module: str) -> bool:
     """Whether a module's text has an example."""
-    path = pathlib.Path(TOP, *module.split("."))
+    path = pathlib.Path(TOP, "src", *module.split("."))
     file = path / "__init__.py" if path.is_dir() else path.with_suffix(".py")
     return ">>> " in file.read_text(encoding="utf-8")
 
 
 def imported() -> set[tuple[str, str]]:
-    """(module, name) of what a module of lab/ imports from another one."""
+    """(module, name) of what a module of src/forestplan/ imports from another one."""
     found = set()
-    for path in pathlib.Path(TOP, "lab").rglob("*.py"):
+    for path in pathlib.Path(TOP, "src").rglob("*.py"):
         for node in ast.walk(ast.parse(path.read_text(encoding="utf-8"))):
             if isinstance(node, ast.ImportFrom):
                 found |= {(node.module or "", alias.name) for alias in node.names}
@@ -50,7 +58,7 @@ def imported() -> set[tuple[str, str]]:
 
 def without_example(module: str, names: set[str]) -> list[str]:
     """The functions of these names in a module whose docstring has no example."""
-    path = pathlib.Path(TOP, *module.split(".")).with_suffix(".py")
+    path = pathlib.Path(TOP, "src", *module.split(".")).with_suffix(".py")
     return [
         f"{module}.{node.name}"
         for node in ast.parse(path.read_text(encoding="utf-8")).body
@@ -63,7 +71,7 @@ def without_example(module: str, names: set[str]) -> list[str]:
 class Docstrings(FilesCase):
     def test_examples(self) -> None:
         for package in ALL_PACKAGES:
-            for module in filter(is_shown, [package, *modules_of(package)]):
+            for module in filter(is_shown, {package, *modules_of(package)} - OF_PROGRAMS):
                 done = doctest.testmod(importlib.import_module(module))
                 self.same(f"examples of {module} that fail", done.failed, 0)
 
@@ -73,12 +81,14 @@ class Docstrings(FilesCase):
             self.note(package, is_shown(package), "has no example")
 
     def test_maps(self) -> None:
-        """The docstring of a package has a line for each of its modules, and `lab` for each of its packages."""
+        """The docstring of a package has a line for each of its modules, and `forestplan` for each of its packages."""
         for package in ALL_PACKAGES:
             mapped = MAPPED.findall(importlib.import_module(package).__doc__ or "")
             parts = [module.rpartition(".")[2] for module in modules_of(package)]
-            if package == "lab":
-                parts += [other.rpartition(".")[2] for other in ALL_PACKAGES if other != "lab"]
+            if package == "forestplan":
+                parts += [
+                    other.rpartition(".")[2] for other in ALL_PACKAGES if other != "forestplan"
+                ]
             self.same(f"what the map of {package} has", sorted(mapped), sorted(parts))
 
     def test_each_has_one(self) -> None:

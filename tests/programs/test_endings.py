@@ -1,14 +1,14 @@
 """Tests of how the commands that are written in Python end: with one line, and never with a traceback, if the output is
-closed or full, the input can't be read, or someone presses Ctrl-C. All end in one module (lab/process_exit.py), and
-read what they are given by one function (lab/files.py)."""
+closed or full, the input can't be read, or someone presses Ctrl-C. All end in one module
+(src/forestplan/process_exit.py), and read what they are given by one function (src/forestplan/files.py)."""
 import os
 import re
 import signal
 import subprocess
 import sys
 
-from lab.workshop.sandbox import USERS
-from tests import FORESTLAB, TOP
+from forestplan.workshop.sandbox import USERS
+from tests import FORESTLAB, SOURCES, TOP
 from tests.cases import Case, called, copied, text_in, wait_until
 
 LIMIT = 120
@@ -105,7 +105,7 @@ class Endings(Case):
     def test_limits(self):
         """A limit with which Python can't begin is one line and status 1. Processes it needs none, beside its own."""
         copy = os.path.join(self.folder, "copy")
-        copied(copy, "bin", "lab", "examples")
+        copied(copy, "bin", "src", "examples")
         os.chmod(self.folder, 0o755)
         for limit, status, out in (
             ("-n 4", 1, b""),
@@ -150,9 +150,9 @@ class Endings(Case):
             ("bytearray(1 << 62)", 1, "some: out of memory\n"),
         ):
             run = f"process_exit.run('some', lambda: lambda: {fault})"
-            script = f"import sys; from lab import process_exit; sys.exit({run})"
+            script = f"import sys; from forestplan import process_exit; sys.exit({run})"
             done = subprocess.run(
-                [sys.executable, "-c", script], capture_output=True, text=True, cwd=TOP
+                [sys.executable, "-c", script], capture_output=True, text=True, cwd=SOURCES
             )
             # The place is that of the fault itself, and not of what has called it.
             last = "(<string> line 1)\n" if status == 70 else "\n"
@@ -167,7 +167,10 @@ class Endings(Case):
 
     def test_words(self):
         """The doors themselves, without a command, or with one that there isn't."""
-        for folder, said in (("lab", "forestlab: "), ("build", "build: one of these is wanted: ")):
+        for folder, said in (
+            ("src/forestplan", "forestlab: "),
+            ("build", "build: one of these is wanted: "),
+        ):
             for arguments in ((), ("nothing",)):
                 done = subprocess.run(
                     [sys.executable, os.path.join(TOP, folder), *arguments],

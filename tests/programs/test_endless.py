@@ -4,7 +4,7 @@ import os
 import resource
 import unittest.mock
 
-from lab import files
+from forestplan import files
 from tests.cases import Case, forestlab
 
 ZERO = "/dev/zero"

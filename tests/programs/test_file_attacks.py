@@ -3,14 +3,14 @@ fault of its own or a wrong verdict."""
 import sys
 import unittest.mock
 
-from lab.definitions.programs import any_program_at
-from lab.definitions.reacting_program import Reacting
-from lab.fault_codes import Code
-from lab.faults import Fault
-from lab.networks.sources import network_at
-from lab.schedules import reacting_runs, simulate
-from lab.transcripts.judge import whole_run
-from tests import TOP
+from forestplan.definitions.programs import any_program_at
+from forestplan.definitions.reacting_program import Reacting
+from forestplan.fault_codes import Code
+from forestplan.faults import Fault
+from forestplan.networks.sources import network_at
+from forestplan.schedules import reacting_runs, simulate
+from forestplan.transcripts.judge import whole_run
+from tests import SOURCES
 from tests.cases import Case, called, said_by
 
 # The middle one of a path of three nodes says who was first to send it something: by hand, both ends can be.
@@ -114,7 +114,7 @@ ENDED = (
     (RAISES.format("Exception", "return 'a\\nb'"), "raise E()", ": E: a\\nb, in `on_ping`"),
     (RAISES.format("Exception", "return 'a' * (1 << 20)"), "raise E()", "aaa.., in `on_ping`"),
     (
-        "from lab.faults import Fault\nfrom lab.fault_codes import Code",
+        "from forestplan.faults import Fault\nfrom forestplan.fault_codes import Code",
         "raise Fault(Code.NO_WORDS_RETURNED)",
         ": Fault, in `on_ping`",
     ),
@@ -221,9 +221,9 @@ class FileAttacks(Case):
         )
         path = self.file("caught.py", PING.format(head="", does=does))
         code = (
-            f"import sys; sys.path.insert(0, {TOP!r})\n"
-            "from lab import process_exit\nfrom lab.definitions import own_program\n"
-            "from lab.schedules import simulate\n"
+            f"import sys; sys.path.insert(0, {SOURCES!r})\n"
+            "from forestplan import process_exit\nfrom forestplan.definitions import own_program\n"
+            "from forestplan.schedules import simulate\n"
             "own_program.LONGEST, own_program.LONGER = 1, 1\n"
             f"words = ['path2', '--program', {path!r}]\n"
             "sys.exit(process_exit.run_apart('simulate', lambda: lambda: simulate.main(words)))\n"

@@ -11,8 +11,8 @@ import subprocess
 import sys
 import tempfile
 
-from lab.workshop import class_files
-from tests import TOP
+from forestplan.workshop import class_files
+from tests import SOURCES, TOP
 from tests.cases import Case, called, copied, text_in, wait_until
 from tests.tools import without_rt
 
@@ -117,7 +117,7 @@ class Tree:
 
     def __init__(self, folder):
         self.top, self.cache = (os.path.join(folder, name) for name in ("tree", "cache"))
-        copied(self.top, "forestplan", "build", "lab")
+        copied(self.top, "forestplan", "build", "src")
         self.write("HANDLES", "Handles allowed: none.\n")
         self.write("crates.txt", CRATES)
         for crate in ("lower", "middle", "aside", "forestplan"):
@@ -210,7 +210,7 @@ class FirstRun(Case):
             (f"{tree.top}/forestplan", ["plan", "-h"], "forestplan-plan"),
             (f"{TOP}/try", ["rounds", "--help"], "forestplay-rounds"),
         ):
-            wanted = text_in("lab", "help", f"{name}.txt")
+            wanted = text_in("src", "forestplan", "help", f"{name}.txt")
             self.same(f"{script} {arguments}", tree.run(script, *arguments), (0, wanted, ""))
         for line in (
             "./forestplan plain --help >/dev/full",
@@ -226,7 +226,7 @@ class FirstRun(Case):
             ("plan", 0, True, "picture: forestplan isn't built, so "),
             ("run", 1, False, "picture: forestplan isn't built: a first call of it"),
         ):
-            arguments = [sys.executable, "-S", "lab", "picture", kind, "-"]
+            arguments = [sys.executable, "-S", "src/forestplan", "picture", kind, "-"]
             done = tree.run(*arguments, given="p edge 2 1\ne 1 2\n")
             good = (done[0], done[1].startswith("<svg ")) == (status, is_drawn)
             self.note(
@@ -502,7 +502,8 @@ class FirstRun(Case):
     def test_watch(self):
         """A line of a run now and then, until it ends; of another process, or none, nothing."""
         script = (
-            "import sys; from lab import progress; progress.MOMENTS = [0.1, 0.2, 60]; "
+            f"import sys; sys.path.insert(0, {SOURCES!r}); "
+            "from forestplan import progress; progress.MOMENTS = [0.1, 0.2, 60]; "
             "sys.exit(progress.main(sys.argv[1:]))"
         )
         line = (

@@ -1,5 +1,5 @@
-"""Tries each reader of lab/ with some texts that `hypothesis` makes (tests/fuzzing.py): none ends a command with status
-70. `python3 -m tests.by_hand.fuzz` tries as many as you have time for."""
+"""Tries each reader of src/forestplan/ with some texts that `hypothesis` makes (tests/fuzzing.py): none ends a command
+with status 70. `python3 -m tests.by_hand.fuzz` tries as many as you have time for."""
 from tests.cases import Case
 from tests.readers import Reader, READERS
 from tests.settings import setting

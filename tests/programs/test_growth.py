@@ -1,4 +1,4 @@
-"""Gives each reader of lab/ texts of 8 kB and of 32 kB, of many shapes (tests/growth.py): the time
+"""Gives each reader of src/forestplan/ texts of 8 kB and of 32 kB, of many shapes (tests/growth.py): the time
 grows with the text and no faster, and none ends a command with status 70. `python3 -m
 tests.by_hand.growth` has the same of 1 MB and 4 MB."""
 import time

@@ -1,5 +1,5 @@
-"""Feeds the built programs texts that nobody would write: the readers of lab/ have to refuse what the programs refuse,
-for the same reason. What the programs answer is proved.
+"""Feeds the built programs texts that nobody would write: the readers of src/forestplan/ have to refuse what the
+programs refuse, for the same reason. What the programs answer is proved.
 
 Each is a good text with another piece in the place of one or before it, or without one, at random, which the same seed
 makes again. It needs a C compiler, `cc`. TESTS_TEXTS and TESTS_SEED are for long runs by hand."""
@@ -10,13 +10,13 @@ import subprocess
 import tempfile
 from itertools import islice, product
 
-from lab.definitions.colours import plan_text
-from lab.definitions.programs import PROGRAMS
-from lab.networks.network_text import network_of
-from lab.schedules.simulate import played, text_of_run
-from lab.transcripts import fields
-from lab.transcripts.judge import whole_run
-from lab.transcripts.reading import WrongEntry, read
+from forestplan.definitions.colours import plan_text
+from forestplan.definitions.programs import PROGRAMS
+from forestplan.networks.network_text import network_of
+from forestplan.schedules.simulate import played, text_of_run
+from forestplan.transcripts import fields
+from forestplan.transcripts.judge import whole_run
+from forestplan.transcripts.reading import WrongEntry, read
 from tests.cases import Case
 from tests.faults.test_refused_memory import build_front
 from tests.programs.slow_reader import answer_to

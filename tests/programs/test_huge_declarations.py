@@ -2,7 +2,7 @@
 line before anything of that size is made: the command has little memory, and few seconds of the processor."""
 import resource
 
-from lab.limits import MAX_NODES
+from forestplan.limits import MAX_NODES
 from tests.cases import Case, forestlab
 from tests.tools import need
 

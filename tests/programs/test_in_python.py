@@ -1,4 +1,4 @@
-"""Tests of the module `forestplan` of lab/python, and of the notebook examples/forestplan.ipynb that shows it."""
+"""Tests of `import forestplan`, and of the notebook examples/forestplan.ipynb that shows it."""
 import ast
 import contextlib
 import copy
@@ -16,11 +16,13 @@ from operator import itemgetter
 from unittest import mock
 from xml.etree import ElementTree
 
-from lab import version
-from lab.definitions.colours import colours
-from lab.network import Network
-from lab.networks.network_text import network_of
-from lab.pictures.palette import CHANNEL_HUES
+import forestplan
+from forestplan import version
+from forestplan.definitions.colours import colours
+from forestplan.interface import calls, sites as site_graphs
+from forestplan.network import Network
+from forestplan.networks.network_text import network_of
+from forestplan.pictures.palette import CHANNEL_HUES
 from tests import TOP
 from tests.cases import Case, called, forestlab, working_in
 from tests.programs.test_own_networks import is_near
@@ -29,9 +31,6 @@ from tests.programs.test_sequels import channels
 from tests.settings import setting
 from tests.tools import need, needs
 
-sys.path.append(os.path.join(TOP, "lab", "python"))
-import forestplan  # noqa: E402
-from forestplan.interface import calls, sites as site_graphs  # noqa: E402
 
 PACKAGE = os.path.dirname(forestplan.__file__)
 NOTEBOOK = os.path.join(TOP, "examples", "forestplan.ipynb")

@@ -1,7 +1,7 @@
 """Tests of `python3 build install`, with the programs as they are built in this tree.
 
 What is installed has to run from another folder, through symbolic links, and from a copy of the folder; its manual
-pages have to be the help texts, which lab/help/ has."""
+pages have to be the help texts, which src/forestplan/help/ has."""
 import gzip
 import os
 import re
@@ -352,7 +352,7 @@ class Install(FolderCase):
         """`pip install -e` of a tree has Python import the package where it is, and puts the commands on the PATH. A
         tree that isn't installed so is refused, with what to call."""
         tree, room = (os.path.join(self.folder, name) for name in ("its tree", "its environment"))
-        copied(tree, "bin", "build", "lab", "pyproject.toml", "LICENSE-MIT", "LICENSE-APACHE")
+        copied(tree, "bin", "build", "src", "pyproject.toml", "LICENSE-MIT", "LICENSE-APACHE")
         system = "/usr/bin/python3"
         need(self, system)
         run([system, "-m", "venv", "--without-pip", "--system-site-packages", room])
@@ -373,7 +373,7 @@ class Install(FolderCase):
     def test_unbuilt(self):
         """From a tree that isn't built from its sources, without the toolchain, nothing is installed."""
         tree, target = os.path.join(self.folder, "a tree"), os.path.join(self.folder, "target")
-        copied(tree, "forestplan", "crates.txt", "bin", "build", "lab")
+        copied(tree, "forestplan", "crates.txt", "bin", "build", "src")
         got = run([sys.executable, os.path.join(tree, "build"), "install", target])
         self.refusal("install from a tree that isn't built", got, 70, b"not on the PATH")
         self.note("nothing is installed then", not os.path.exists(target), got)

@@ -6,7 +6,7 @@ import shutil
 from build.crate_lists import lines_of
 from build.kit import PARTS
 from build.new_program import MODEL, SEQUEL, copy
-from lab.faults import Fault
+from forestplan.faults import Fault
 from tests import TOP
 from tests.cases import Case, text_in
 

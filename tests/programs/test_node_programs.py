@@ -3,7 +3,7 @@ worked by hand; each text of one program is refused by the others. test_sequel_r
 the definitions."""
 import re
 
-from lab.definitions.programs import program_at
+from forestplan.definitions.programs import program_at
 from tests.cases import Case, called, text
 from tests.commands import EDGE, commands_of
 from tests.settings import PLAY

@@ -1,4 +1,4 @@
-"""What says in one line that Python is too old: the doors of lab/ and build/, and `import forestplan`."""
+"""What says in one line that Python is too old: the doors of src/forestplan/ and build/, and `import forestplan`."""
 import ast
 import os
 import sys
@@ -6,10 +6,10 @@ import sys
 from tests import TOP
 from tests.cases import Case, called, text_in
 
-PYTHON = os.path.join("lab", "python")
+PYTHON = "src"
 # What an older Python reads before it is refused.
 READ_FIRST = (
-    os.path.join("lab", "__main__.py"),
+    os.path.join(PYTHON, "forestplan", "__main__.py"),
     os.path.join("build", "__main__.py"),
     os.path.join(PYTHON, "forestplan", "__init__.py"),
     os.path.join(PYTHON, "forestplan", "_python.py"),
@@ -29,7 +29,7 @@ class OldPython(Case):
         return called(sys.executable, "-S", "-c", AS_OLD + arguments, cwd=TOP, env=environment)
 
     def test_commands(self):
-        for folder, name in (("lab", "forestlab"), ("build", "build")):
+        for folder, name in (("src/forestplan", "forestlab"), ("build", "build")):
             line = f"{name}: Python 3.10 or later is needed, and python3 is 3.9.18\n"
             done = self.as_old(f"runpy.run_path({folder!r}, run_name='__main__')")
             self.same(folder, done, (2, b"", line.encode()))

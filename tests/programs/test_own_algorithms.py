@@ -6,9 +6,9 @@ import subprocess
 import textwrap
 import time
 
-from lab.definitions.program import synchronous_run
-from lab.definitions.programs import program_at
-from lab.network import Network
+from forestplan.definitions.program import synchronous_run
+from forestplan.definitions.programs import program_at
+from forestplan.network import Network
 from tests import FORESTLAB
 from tests.cases import Case, forestlab, said_by, text_in
 from tests.pictures.marks import data_of

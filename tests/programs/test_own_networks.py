@@ -1,19 +1,19 @@
-"""Tests of `forestlab network`. What is written is read by the reader of lab/, which test_hostile.py compares with the
-programs.
+"""Tests of `forestlab network`. What is written is read by the reader of src/forestplan/, which test_hostile.py
+compares with the programs.
 
-Expected counts are formulas, or come from the definitions in lab/definitions/colours.py, lab/definitions/nodes.py and
-lab/definitions/rounds.py."""
+Expected counts are formulas, or come from the definitions in src/forestplan/definitions/colours.py,
+src/forestplan/definitions/nodes.py and src/forestplan/definitions/rounds.py."""
 import itertools
 import math
 import os
 import random
 import re
 
-from lab.definitions.nodes import last_pulse
-from lab.networks import network
-from lab.networks.description import most_payloads
-from lab.networks.network_text import network_of
-from lab.wording import duration
+from forestplan.definitions.nodes import last_pulse
+from forestplan.networks import network
+from forestplan.networks.description import most_payloads
+from forestplan.networks.network_text import network_of
+from forestplan.wording import duration
 from tests.cases import Case, called, example, forestlab, in_process
 from tests.programs import test_plain_networks
 from tests.programs.test_plain_networks import payloads_of, reached, some_bars

@@ -1,8 +1,8 @@
 """Which payloads a transcript of each program may have: the words of docs/claim/FORMATS.md (the table of results and
 words), each with a number below a power of two, as wide as the crates' own payloads have it (`Hello(u128)`,
 `Hops(u32)` and so on). tests/programs/test_hostile.py has the same beside a built program."""
-from lab.faults import Fault
-from lab.transcripts.reading import read
+from forestplan.faults import Fault
+from forestplan.transcripts.reading import read
 from tests.cases import Case
 
 # By word, how many binary digits a number may have; and the words of each program.

@@ -3,11 +3,11 @@ plans by hand); and networks by chance, the same in every run."""
 import itertools
 import random
 
-from lab.definitions.colours import first_colours, merge, plan_text, three
-from lab.definitions.rounds import LAST_COLOUR, Rounds
-from lab.networks.kinds import KINDS
-from lab.networks.network_text import network_of
-from lab.networks.texts import plain_text
+from forestplan.definitions.colours import first_colours, merge, plan_text, three
+from forestplan.definitions.rounds import LAST_COLOUR, Rounds
+from forestplan.networks.kinds import KINDS
+from forestplan.networks.network_text import network_of
+from forestplan.networks.texts import plain_text
 from tests.cases import Case, called
 from tests.settings import PLAN
 from tests.tools import needs
@@ -113,7 +113,8 @@ def networks_by_chance(count, most=NODES, seed=SEED):
 
 class Definitions(Case):
     def test_two_definitions(self):
-        """The lists of lab/definitions/colours.py are what the nodes of the rounds come to, forest by forest."""
+        """The lists of src/forestplan/definitions/colours.py are what the nodes of the rounds come to, forest by
+        forest."""
         for number, text in enumerate(networks_by_chance(60, 24), 1):
             net = network_of(text)
             rounds, merged = Rounds(net), [first_colours(net)]

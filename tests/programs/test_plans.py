@@ -3,8 +3,8 @@ decides a result. test_plain_networks.py has the bytes of `plan`, whatever the o
 import functools
 import itertools
 
-from lab.definitions.colours import plan_text, text_of
-from lab.networks.network_text import network_of
+from forestplan.definitions.colours import plan_text, text_of
+from forestplan.networks.network_text import network_of
 from tests.cases import Case, called, text
 from tests.commands import TRIANGLE as THREE
 from tests.programs.made_transcripts import Run

@@ -10,14 +10,14 @@ from collections.abc import Iterator
 from functools import partial
 from unittest import mock
 
-from lab.__main__ import COMMANDS
-from lab.fault_codes import Code
-from lab.faults import Fault
-from lab.pictures.page_data import as_object
-from lab.sentences import SENTENCES
-from lab.studio import limits
-from lab.studio.calls import CALLS
-from lab.studio.session import Session
+from forestplan.__main__ import COMMANDS
+from forestplan.fault_codes import Code
+from forestplan.faults import Fault
+from forestplan.pictures.page_data import as_object
+from forestplan.sentences import SENTENCES
+from forestplan.studio import limits
+from forestplan.studio.calls import CALLS
+from forestplan.studio.session import Session
 from tests.cases import FilesCase
 
 PLANTED = {code: f"planted {code.name}" for code in Code}

@@ -1,7 +1,7 @@
 """Tests of the files of programs of one's own that Python itself can't read, or not in a time that anyone has: each is
 refused in one line. tests/programs/test_own_algorithms.py has what such a program may do."""
-from lab.definitions.own_program import code_of
-from lab.faults import Fault
+from forestplan.definitions.own_program import code_of
+from forestplan.faults import Fault
 from tests.cases import Case
 
 MARK = "\u0300"

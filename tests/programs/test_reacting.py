@@ -1,7 +1,8 @@
 """Tests of programs of one's own without rounds, whose nodes react to messages, and of the samples.
 
 Expected counts are formulas of the published algorithms, worked by hand, or come from a search written here, which
-plays every list of events on the machine of lab/definitions/machine.py one by one, without states in common."""
+plays every list of events on the machine of src/forestplan/definitions/machine.py one by one, without states in
+common."""
 import copy
 import itertools
 import json
@@ -10,22 +11,22 @@ import re
 import unittest.mock
 from collections.abc import Iterator
 
-from lab.definitions import own_program
-from lab.definitions.events import PUT, TAKE, Event
-from lab.definitions.leader import LEADER
-from lab.definitions.machine import NetState
-from lab.definitions.programs import any_program_at
-from lab.definitions.reacting_program import Reacting, ReactingNode, results_in
-from lab.faults import Fault
-from lab.networks.network_text import network_of
-from lab.networks.sources import network_at
-from lab.schedules import reacting_space, simulate
-from lab.schedules.alpha_space import AlphaSpace
-from lab.schedules.extent import endless, extent_of
-from lab.schedules.policies import POLICIES
-from lab.schedules.reacting_space import ReactingSpace
-from lab.schedules.simulate import played, text_of_run
-from lab.transcripts.judge import whole_run
+from forestplan.definitions import own_program
+from forestplan.definitions.events import PUT, TAKE, Event
+from forestplan.definitions.leader import LEADER
+from forestplan.definitions.machine import NetState
+from forestplan.definitions.programs import any_program_at
+from forestplan.definitions.reacting_program import Reacting, ReactingNode, results_in
+from forestplan.faults import Fault
+from forestplan.networks.network_text import network_of
+from forestplan.networks.sources import network_at
+from forestplan.schedules import reacting_space, simulate
+from forestplan.schedules.alpha_space import AlphaSpace
+from forestplan.schedules.extent import endless, extent_of
+from forestplan.schedules.policies import POLICIES
+from forestplan.schedules.reacting_space import ReactingSpace
+from forestplan.schedules.simulate import played, text_of_run
+from forestplan.transcripts.judge import whole_run
 from tests import TOP
 from tests.cases import Case, called, example, said_by, text_in
 from tests.pictures.marks import data_of, marks, parsed, title, titles

@@ -2,10 +2,10 @@
 guessed. test_written.py has files of other programs."""
 from unittest import mock
 
-from lab.faults import Fault
-from lab.networks import foreign
-from lab.networks.forms import Stated
-from lab.networks.reading import listed_of, made_of
+from forestplan.faults import Fault
+from forestplan.networks import foreign
+from forestplan.networks.forms import Stated
+from forestplan.networks.reading import listed_of, made_of
 from tests.cases import Case
 
 

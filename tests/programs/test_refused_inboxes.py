@@ -2,10 +2,10 @@
 docs/claim/DEFINITIONS.md ("The 96 cells" and "Refusals of the colouring"), which stand here as they stand there."""
 import copy
 
-from lab.definitions.nodes import COLOURING, Colouring
-from lab.definitions.program import Payload, Slot, synchronous_pulses
-from lab.networks.network_text import network_of
-from lab.schedules.ruled_node import inbox_refused
+from forestplan.definitions.nodes import COLOURING, Colouring
+from forestplan.definitions.program import Payload, Slot, synchronous_pulses
+from forestplan.networks.network_text import network_of
+from forestplan.schedules.ruled_node import inbox_refused
 from tests.cases import Case, text
 
 # Node 2 has node 1 as a child, node 3 as its parent, and nothing else: U is 1, and Δ + B is 2.

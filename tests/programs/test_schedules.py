@@ -1,20 +1,20 @@
 """Tests of `explore`, which plays every schedule of a tiny network.
 
 The numbers of states and steps are compared with a trial's, which was written before it; random walks, state by state
-and step by step, with lab/definitions/nodes.py; and lists of events are played by `forestplay events`."""
+and step by step, with src/forestplan/definitions/nodes.py; and lists of events are played by `forestplay events`."""
 import gc
 import os
 import random
 import re
 
-from lab.definitions.colours import colours
-from lab.definitions.events import Event, Kind
-from lab.definitions.nodes import alpha_start, last_pulse
-from lab.network import Network
-from lab.networks.network_text import network_of
-from lab.schedules import ruled_rounds, rules
-from lab.schedules.alpha_space import AlphaSpace
-from lab.schedules.explore import rounded
+from forestplan.definitions.colours import colours
+from forestplan.definitions.events import Event, Kind
+from forestplan.definitions.nodes import alpha_start, last_pulse
+from forestplan.network import Network
+from forestplan.networks.network_text import network_of
+from forestplan.schedules import ruled_rounds, rules
+from forestplan.schedules.alpha_space import AlphaSpace
+from forestplan.schedules.explore import rounded
 from tests import TOP
 from tests.cases import Case, called, found_in, said_by, text_in
 from tests.programs.test_plain_networks import networks_by_chance, payloads_of

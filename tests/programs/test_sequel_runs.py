@@ -1,17 +1,17 @@
 """The programs that nodes run, on networks by chance: `forestplay rounds` is, byte for byte, what the slow definitions
-of lab/ give; each run by some workers and capacity ends as their nodes do, and so does one on one thread, without a
-clock or in rounds. A checker that has nothing but the edges and the bars finds what the theorems say of those that go
-on after the colouring.
+of src/forestplan/ give; each run by some workers and capacity ends as their nodes do, and so does one on one thread,
+without a clock or in rounds. A checker that has nothing but the edges and the bars finds what the theorems say of those
+that go on after the colouring.
 
   ./test programs.test_sequel_runs                              a few networks
   TESTS_SEQUELS=1000 python3 -m tests programs.test_sequel_runs     many of them"""
 import itertools
 import re
 
-from lab.definitions.colours import colours, text_of
-from lab.definitions.program import synchronous_run
-from lab.networks.network_text import network_of
-from lab.pictures.program_rounds import rounds_of
+from forestplan.definitions.colours import colours, text_of
+from forestplan.definitions.program import synchronous_run
+from forestplan.networks.network_text import network_of
+from forestplan.pictures.program_rounds import rounds_of
 from tests.cases import Case
 from tests.programs.test_node_programs import play, program_of
 from tests.programs.test_plain_networks import networks_by_chance

@@ -1,12 +1,13 @@
 """Tests of `forestlab sheet`.
 
 Each sheet's network is read from its answers, and each answer worked out once more here. A sheet has its colours from
-nodes that hear and send (lab/definitions/nodes.py), and its shifts and drops from lists of colours (colours.py beside
-it); so what is expected of the first is made by lists, and of the second by the rules as they stand here."""
+nodes that hear and send (src/forestplan/definitions/nodes.py), and its shifts and drops from lists of colours
+(colours.py beside it); so what is expected of the first is made by lists, and of the second by the rules as they stand
+here."""
 import re
 
-from lab.definitions.colours import bit, drop, first_colours, merge, shift
-from lab.networks.network_text import network_of
+from forestplan.definitions.colours import bit, drop, first_colours, merge, shift
+from forestplan.networks.network_text import network_of
 from tests.cases import Case, found_in, said_by
 from tests.programs.test_plain_networks import payloads_of, reached
 

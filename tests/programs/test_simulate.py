@@ -1,18 +1,18 @@
 """Tests of `forestlab simulate`.
 
-Each run is played again here on lab/definitions/nodes.py, entry by entry, and its order beside what is possible then:
-nothing is compared with what simulate itself wrote before."""
+Each run is played again here on src/forestplan/definitions/nodes.py, entry by entry, and its order beside what is
+possible then: nothing is compared with what simulate itself wrote before."""
 import itertools
 import re
 
-from lab.definitions.colours import colours
-from lab.definitions.events import Event, Kind
-from lab.definitions.machine import make
-from lab.definitions.nodes import alpha_start
-from lab.networks.network_text import network_of
-from lab.schedules.policies import POLICIES
-from lab.schedules.simulate import AlphaPlayer, played
-from lab.transcripts.judge import whole_run
+from forestplan.definitions.colours import colours
+from forestplan.definitions.events import Event, Kind
+from forestplan.definitions.machine import make
+from forestplan.definitions.nodes import alpha_start
+from forestplan.networks.network_text import network_of
+from forestplan.schedules.policies import POLICIES
+from forestplan.schedules.simulate import AlphaPlayer, played
+from forestplan.transcripts.judge import whole_run
 from tests.cases import Case, called, example, forestlab
 from tests.settings import PLAY
 from tests.tools import needs

@@ -5,11 +5,11 @@ import math
 import random
 import re
 
-from lab.faults import Fault
-from lab.limits import MAX_NODES
-from lab.networks import tables
-from lab.networks.forms import Stated
-from lab.networks.network_text import network_of
+from forestplan.faults import Fault
+from forestplan.limits import MAX_NODES
+from forestplan.networks import tables
+from forestplan.networks.forms import Stated
+from forestplan.networks.network_text import network_of
 from tests.cases import Case, called, example, said_by
 from tests.programs.test_own_networks import call, edges_of
 from tests.settings import PLAN

@@ -14,7 +14,7 @@ import threading
 import time
 from unittest import mock
 
-from lab.schedules.policies import POLICIES
+from forestplan.schedules.policies import POLICIES
 from tests import TOP
 from tests.cases import (
     Case,
@@ -57,7 +57,14 @@ def is_running(process):
 def begin(*arguments, top=TOP):
     """(process, address) of a studio, as a shell in the foreground would start it."""
     process = subprocess.Popen(
-        [sys.executable, "-S", os.path.join(top, "lab"), "studio", "--no-browser", *arguments],
+        [
+            sys.executable,
+            "-S",
+            os.path.join(top, "src", "forestplan"),
+            "studio",
+            "--no-browser",
+            *arguments,
+        ],
         stderr=subprocess.PIPE,
         text=True,
         preexec_fn=lambda: signal.signal(signal.SIGINT, signal.default_int_handler),
@@ -174,7 +181,12 @@ class Refusals(Server):
 
     def test_no_files(self):
         """No call reads a file that it names, or runs a program that the command line hasn't given."""
-        for name in ("../lab/process_exit", "/etc/passwd", "petersen.col", "../examples/petersen"):
+        for name in (
+            "../src/forestplan/process_exit",
+            "/etc/passwd",
+            "petersen.col",
+            "../examples/petersen",
+        ):
             self.refuses(f"example {name}", "no example", "example", name=name)
         for name in ("/x.py", "x.py", "examples/algorithms/independent_set.py", "?"):
             for call in ("run", "steps", "rounds"):
@@ -569,7 +581,7 @@ class Unbuilt(Answers):
 
     def setUp(self):
         self.top = os.path.join(self.folder, "tree")
-        copied(self.top, "lab", "examples", "bin", "docs", "forestplan")
+        copied(self.top, "src", "examples", "bin", "docs", "forestplan")
         # In place of what proves: it says so, and builds nothing.
         self.file("tree/build/__main__.py", BUILDER)
         os.chmod(self.file("tree/bin/rt", ""), 0o755)
@@ -579,7 +591,7 @@ class Unbuilt(Answers):
 
     def test_what_needs_the_kit(self):
         """The page and the help say that proving needs the kit."""
-        page = " ".join(text_in("lab", "studio", "page", "page.html").split())
+        page = " ".join(text_in("src", "forestplan", "studio", "page", "page.html").split())
         button = found_in(r'<button id="begin".*?</button>', page)[0]
         self.note("the button", "needs the Rattle kit" in button, button)
         said = said_by("studio", "--help")[1]

@@ -7,19 +7,19 @@ import os
 from collections.abc import Iterator
 from unittest import mock
 
-from lab.definitions.events import PUT, TAKE
-from lab.definitions.machine import NetState
-from lab.definitions.programs import any_program_at
-from lab.definitions.reacting_program import Reacting, ReactingNode
-from lab.faults import Fault
-from lab.networks.network_text import network_of
-from lab.pictures.page_data import as_object
-from lab.studio.address import Here
-from lab.studio.calls import CALLS
-from lab.studio.links import judged_link
-from lab.studio.networks import opened_by
-from lab.studio.session import Session
-from lab.studio.studio import own_programs
+from forestplan.definitions.events import PUT, TAKE
+from forestplan.definitions.machine import NetState
+from forestplan.definitions.programs import any_program_at
+from forestplan.definitions.reacting_program import Reacting, ReactingNode
+from forestplan.faults import Fault
+from forestplan.networks.network_text import network_of
+from forestplan.pictures.page_data import as_object
+from forestplan.studio.address import Here
+from forestplan.studio.calls import CALLS
+from forestplan.studio.links import judged_link
+from forestplan.studio.networks import opened_by
+from forestplan.studio.session import Session
+from forestplan.studio.studio import own_programs
 from tests import TOP
 from tests.cases import FilesCase
 

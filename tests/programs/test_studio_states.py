@@ -7,17 +7,17 @@ import re
 from collections import defaultdict
 from collections.abc import Iterator
 
-from lab.definitions.events import Kind, Message
-from lab.definitions.programs import PROGRAMS, program_at
-from lab.definitions.rounds import Rounds
-from lab.networks.network_text import network_of
-from lab.pictures.watch_page import look_of
-from lab.schedules.rules import OF_SCHEDULES
-from lab.schedules.stepwise import Stepwise
-from lab.studio.answers import Predicted
-from lab.studio.messages import PredictCall, WaitsCall
-from lab.studio.predictions import predict, waited, waits
-from lab.studio.session import Session
+from forestplan.definitions.events import Kind, Message
+from forestplan.definitions.programs import PROGRAMS, program_at
+from forestplan.definitions.rounds import Rounds
+from forestplan.networks.network_text import network_of
+from forestplan.pictures.watch_page import look_of
+from forestplan.schedules.rules import OF_SCHEDULES
+from forestplan.schedules.stepwise import Stepwise
+from forestplan.studio.answers import Predicted
+from forestplan.studio.messages import PredictCall, WaitsCall
+from forestplan.studio.predictions import predict, waited, waits
+from forestplan.studio.session import Session
 from tests.cases import Case, examples
 
 ALONE, EDGE, ROW = "p edge 1 0\n", "p edge 2 1\ne 1 2\n", "p edge 3 2\ne 1 2\ne 2 3\n"

@@ -1,7 +1,7 @@
 """Tests of `forestlab transcript check` and `forestlab transcript replay`, and of the built programs beside them.
 
-Expected verdicts are worked by hand, or come from the definitions in lab/definitions/nodes.py; none is taken from a
-program."""
+Expected verdicts are worked by hand, or come from the definitions in src/forestplan/definitions/nodes.py; none is taken
+from a program."""
 import contextlib
 import json
 import os
@@ -11,11 +11,11 @@ import signal
 import subprocess
 import time
 
-from lab.definitions.nodes import COLOURING
-from lab.networks.network_text import network_of
-from lab.schedules.simulate import played, text_of_run
-from lab.transcripts.judge import find_order, whole_run
-from lab.transcripts.reading import WrongEntry, read
+from forestplan.definitions.nodes import COLOURING
+from forestplan.networks.network_text import network_of
+from forestplan.schedules.simulate import played, text_of_run
+from forestplan.transcripts.judge import find_order, whole_run
+from forestplan.transcripts.reading import WrongEntry, read
 from tests import FORESTLAB, TOP
 from tests.cases import Case, called, forestlab, text, text_in, wait_until
 from tests.programs.made_transcripts import transcript_text

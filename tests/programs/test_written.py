@@ -12,9 +12,9 @@ import unicodedata
 from collections.abc import Callable, Iterator
 from dataclasses import dataclass
 
-from lab.networks import foreign, network
-from lab.networks.forms import ENDINGS
-from lab.networks.network_text import read_network
+from forestplan.networks import foreign, network
+from forestplan.networks.forms import ENDINGS
+from forestplan.networks.network_text import read_network
 from tests.cases import Case, in_process
 from tests.settings import setting
 from tests.tools import need

@@ -9,9 +9,9 @@ import unittest
 from random import Random
 from types import SimpleNamespace
 
-from lab.workshop.cases import Case, network_of
-from lab.workshop.options import parsed
-from lab.workshop.player import Player
+from forestplan.workshop.cases import Case, network_of
+from forestplan.workshop.options import parsed
+from forestplan.workshop.player import Player
 from tests import FORESTLAB, TOP
 from tests.cases import Case as Rows
 from tests.tools import lack_of

@@ -5,9 +5,9 @@ import os
 import re
 import subprocess
 
-from lab.workshop.guard import Guard, Limits
-from lab.workshop.leftovers import DUMPABLE, control, end_all
-from lab.workshop.sandbox import USERS, Sandbox
+from forestplan.workshop.guard import Guard, Limits
+from forestplan.workshop.leftovers import DUMPABLE, control, end_all
+from forestplan.workshop.sandbox import USERS, Sandbox
 from tests.cases import Case
 from tests.tools import need
 from tests.workshop.base import JAVA, LIMIT

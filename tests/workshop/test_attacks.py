@@ -5,8 +5,8 @@ import shutil
 import subprocess
 from random import Random
 
-from lab.workshop.cases import network_of
-from lab.workshop.submissions import part_of
+from forestplan.workshop.cases import network_of
+from forestplan.workshop.submissions import part_of
 from tests.cases import text_in, working_in
 from tests.tools import need, needs
 from tests.workshop.base import ALPHA, JAVA, call
@@ -15,7 +15,16 @@ from tests.workshop.test_forgers import FORGED
 
 THIEF = "import os\nopen({loot!r}, 'w').write('x')\nraise SystemExit\n"
 # The names of modules that a command of forestlab imports, and of programs that it starts.
-MODULES = ("argparse", "json", "lab", "resource", "secrets", "shutil", "subprocess", "tempfile")
+MODULES = (
+    "argparse",
+    "forestplan",
+    "json",
+    "resource",
+    "secrets",
+    "shutil",
+    "subprocess",
+    "tempfile",
+)
 PROGRAMS = ("bwrap", "chmod", "chown", "javac", "rm", "forestplan", "forestplay")
 
 

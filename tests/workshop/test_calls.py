@@ -8,9 +8,9 @@ import operator
 import struct
 from unittest import mock
 
-from lab.faults import Fault
-from lab.workshop import calls, grade
-from lab.workshop.calls import filters_of_calls
+from forestplan.faults import Fault
+from forestplan.workshop import calls, grade
+from forestplan.workshop.calls import filters_of_calls
 from tests.cases import Case
 from tests.tools import need
 from tests.workshop.submitted import ZERO

@@ -3,12 +3,12 @@ from collections import Counter
 from dataclasses import replace
 from random import Random
 
-from lab.definitions.colours import bit, three
-from lab.workshop import cases as runs
-from lab.workshop.cases import KEPT, NETWORKS, cases_of, network_of, varied
-from lab.workshop.clock_run import OpenRun
-from lab.workshop.findings import Finding
-from lab.workshop.player import Player
+from forestplan.definitions.colours import bit, three
+from forestplan.workshop import cases as runs
+from forestplan.workshop.cases import KEPT, NETWORKS, cases_of, network_of, varied
+from forestplan.workshop.clock_run import OpenRun
+from forestplan.workshop.findings import Finding
+from forestplan.workshop.player import Player
 from tests.cases import Case
 from tests.workshop.base import options_of
 

@@ -7,7 +7,7 @@ import signal
 import subprocess
 import unittest
 
-from lab.workshop.sandbox import USERS
+from forestplan.workshop.sandbox import USERS
 from tests.cases import wait_until
 from tests.tools import needs
 from tests.workshop.base import DOOR, LIMIT, call

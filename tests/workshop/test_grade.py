@@ -11,9 +11,9 @@ import shutil
 import subprocess
 from unittest import mock
 
-from lab.faults import Fault
-from lab.schedules.policies import POLICIES
-from lab.workshop import grade, parts, processes, submissions
+from forestplan.faults import Fault
+from forestplan.schedules.policies import POLICIES
+from forestplan.workshop import grade, parts, processes, submissions
 from tests.cases import Case, text_in, tool_at, wait_until
 from tests.tools import need, needs
 from tests.workshop.base import DOOR, LIMIT, call

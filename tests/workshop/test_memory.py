@@ -4,10 +4,10 @@ program."""
 
 import time
 
-from lab.workshop.findings import NoAnswer
-from lab.workshop.guard import Guard, Limits, Unguarded
-from lab.workshop.processes import Process, exit_of
-from lab.workshop.sandbox import USERS
+from forestplan.workshop.findings import NoAnswer
+from forestplan.workshop.guard import Guard, Limits, Unguarded
+from forestplan.workshop.processes import Process, exit_of
+from forestplan.workshop.sandbox import USERS
 from tests.workshop.contained import Contained, program
 
 MEGABYTES = 100

@@ -11,12 +11,12 @@ import os
 import re
 import sys
 
-from lab.network import Network
-from lab.schedules.policies import POLICIES
-from lab.workshop.cases import cases_of
-from lab.workshop.protocol import SEQUELS
-from lab.workshop.right_rounds import RightRounds
-from lab.workshop.why import FOUND, RULES
+from forestplan.network import Network
+from forestplan.schedules.policies import POLICIES
+from forestplan.workshop.cases import cases_of
+from forestplan.workshop.protocol import SEQUELS
+from forestplan.workshop.right_rounds import RightRounds
+from forestplan.workshop.why import FOUND, RULES
 from tests.tools import needs
 from tests.workshop.base import (
     ALPHA,

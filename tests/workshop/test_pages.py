@@ -5,9 +5,9 @@ import os
 import re
 import tempfile
 
-from lab.schedules.policies import POLICIES
-from lab.transcripts.fields import PAYLOADS
-from lab.workshop import cases, class_files, guard, options, processes, protocol
+from forestplan.schedules.policies import POLICIES
+from forestplan.transcripts.fields import PAYLOADS
+from forestplan.workshop import cases, class_files, guard, options, processes, protocol
 from tests import TOP
 from tests.cases import Case, FolderCase, called, found_in, said_by, text_in
 from tests.tools import needs
@@ -25,7 +25,7 @@ class Pages(Case):
     def test_the_protocol_has_every_verdict(self):
         """All words that a finding is called by in the code."""
         said = set()
-        for path in glob.glob(os.path.join(TOP, "lab", "workshop", "*.py")):
+        for path in glob.glob(os.path.join(TOP, "src", "forestplan", "workshop", "*.py")):
             said |= set(re.findall(r'(?:[Ff]inding|NoAnswer)\("(\w+)"', text_in(path)))
         self.assertGreater(len(said), 6)
         table = page("PROTOCOL.md").partition("## What is wrong")[2]
@@ -142,9 +142,9 @@ class ClassFolder(FolderCase):
 
     def test_it_has_no_solution(self):
         for path in (
-            "lab/pictures",
-            "lab/transcripts/judge.py",
-            "lab/schedules/ruled_node.py",
+            "src/forestplan/pictures",
+            "src/forestplan/transcripts/judge.py",
+            "src/forestplan/schedules/ruled_node.py",
             "examples/workshop/python",
             "examples/workshop/c",
             "examples/workshop/mistakes.py",
@@ -159,8 +159,13 @@ class ClassFolder(FolderCase):
                 self.assertTrue(os.path.exists(os.path.join(TOP, path)), "it isn't here either")
                 self.assertFalse([name for name in self.found if name.startswith(path)])
         # Of the definitions only what messages and events are: no rule of a node.
-        defined = sorted(path for path in self.found if path.startswith("lab/definitions"))
-        self.assertEqual(defined, ["lab/definitions/__init__.py", "lab/definitions/events.py"])
+        defined = sorted(
+            path for path in self.found if path.startswith("src/forestplan/definitions")
+        )
+        self.assertEqual(
+            defined,
+            ["src/forestplan/definitions/__init__.py", "src/forestplan/definitions/events.py"],
+        )
         for path in (path for path in self.found if path.endswith(".py")):
             self.assertNotRegex(
                 self.text(path), r"def (bit_step|merge|recolour|settle)\(self, t|def bit_step"

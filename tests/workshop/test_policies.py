@@ -1,7 +1,7 @@
 """Each policy on steps of which it is plain by its rule which one it chooses."""
-from lab.definitions.events import Kind
-from lab.schedules.policies import POLICIES, Policy, Step
-from lab.workshop.cases import NETWORKS, cases_of
+from forestplan.definitions.events import Kind
+from forestplan.schedules.policies import POLICIES, Policy, Step
+from forestplan.workshop.cases import NETWORKS, cases_of
 from tests.cases import Case
 from tests.workshop.base import options_of
 

@@ -6,8 +6,8 @@ import os
 import shutil
 import subprocess
 
-from lab.workshop.guard import Guard
-from lab.workshop.sandbox import USERS
+from forestplan.workshop.guard import Guard
+from forestplan.workshop.sandbox import USERS
 from tests.cases import remove
 from tests.workshop.contained import NODE, REFUSED, RIGHT, Contained, done, got, program, started
 from tests.workshop.test_misbehaving import MARK

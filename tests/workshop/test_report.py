@@ -1,9 +1,9 @@
 """The tables that the workshop prints of its runs: their cells, worked out by hand, whatever is between them."""
 from random import Random
 
-from lab.workshop.cases import Case, network_of
-from lab.workshop.findings import Finding
-from lab.workshop.report import league, report, table
+from forestplan.workshop.cases import Case, network_of
+from forestplan.workshop.findings import Finding
+from forestplan.workshop.report import league, report, table
 from tests.cases import Case as Rows
 
 

@@ -8,13 +8,13 @@ import socket
 import subprocess
 from unittest import mock
 
-from lab.faults import Fault
-from lab.workshop.compiling import compiled, unpack
-from lab.workshop.findings import NoAnswer
-from lab.workshop.guard import OPEN_FILES, Limits
-from lab.workshop.leftovers import end_all, shut
-from lab.workshop.processes import Process
-from lab.workshop.sandbox import Sandbox
+from forestplan.faults import Fault
+from forestplan.workshop.compiling import compiled, unpack
+from forestplan.workshop.findings import NoAnswer
+from forestplan.workshop.guard import OPEN_FILES, Limits
+from forestplan.workshop.leftovers import end_all, shut
+from forestplan.workshop.processes import Process
+from forestplan.workshop.sandbox import Sandbox
 from tests.cases import remove, wait_until
 from tests.tools import need
 from tests.workshop.base import JAVA, LIMIT

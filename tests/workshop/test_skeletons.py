@@ -3,7 +3,7 @@ import os
 import subprocess
 import sys
 
-from lab.workshop.player import APART
+from forestplan.workshop.player import APART
 from tests.cases import Case, text_in
 from tests.tools import needs
 from tests.workshop.base import EXAMPLES, call, compiled

@@ -5,13 +5,14 @@ import os
 import subprocess
 import sys
 
-from lab.workshop import grade
-from lab.workshop.compiling import compiled as compiled_in
-from lab.workshop.findings import NoAnswer
-from lab.workshop.guard import Limits
-from lab.workshop.processes import Process
-from lab.workshop.sandbox import USERS, Sandbox
-from lab.workshop.visible_files import copies_in, on_the_path
+from forestplan.workshop import grade
+from forestplan.workshop.compiling import compiled as compiled_in
+from forestplan.workshop.findings import NoAnswer
+from forestplan.workshop.guard import Limits
+from forestplan.workshop.processes import Process
+from forestplan.workshop.sandbox import USERS, Sandbox
+from forestplan.workshop.visible_files import copies_in, on_the_path
+from tests import SOURCES
 from tests.cases import Case, contents
 from tests.tools import need
 from tests.workshop.base import EXAMPLES, compiled
@@ -190,7 +191,7 @@ class Paths(Case):
                 "copy/lib/solution",
                 "copy/examples/workshop/python/rounds_node.py",
             ),
-            *("old/forestplan", "old/lab/workshop/grade.py"),
+            *("old/forestplan", "old/src/forestplan/workshop/grade.py"),
             *("subs/anna/bin/x", "work/bin/x", "work/lib/closed/x"),
         )
         os.symlink("../copy/bin/forestlab", os.path.join(home, "bin/forestlab"))
@@ -216,10 +217,19 @@ class Paths(Case):
             (os.path.join(home, "data", "x"), "there is no such folder"),
         ):
             done = subprocess.run(
-                [sys.executable, "-m", "lab", "workshop", "grade", closed[0], "--show", path],
+                [
+                    sys.executable,
+                    "-m",
+                    "forestplan",
+                    "workshop",
+                    "grade",
+                    closed[0],
+                    "--show",
+                    path,
+                ],
                 capture_output=True,
                 text=True,
-                env={**os.environ, "PYTHONPATH": os.path.dirname(EXAMPLES.rpartition("/")[0])},
+                env={**os.environ, "PYTHONPATH": SOURCES},
             )
             self.same(f"{path}: status", (done.returncode, done.stdout), (2, ""))
             self.note(path, sentence in done.stderr, done.stderr)

@@ -4,11 +4,11 @@ import contextlib
 import io
 from unittest import mock
 
-from lab.network import Network
-from lab.workshop.player import PROGRESS_SECONDS, Player
-from lab.workshop.processes import last_errors
-from lab.workshop.right_rounds import RightRounds
-from lab.workshop.why import Why
+from forestplan.network import Network
+from forestplan.workshop.player import PROGRESS_SECONDS, Player
+from forestplan.workshop.processes import last_errors
+from forestplan.workshop.right_rounds import RightRounds
+from forestplan.workshop.why import Why
 from tests.cases import Case
 from tests.tools import needs
 from tests.workshop.base import network, options_of

@@ -1,0 +1,188 @@
+"""The kinds of networks that `forestlab network KIND` makes. The same words make the same network, on every machine:
+what is chosen at random comes from `random()` of a seed alone, whose numbers Python keeps from version to version."""
+import inspect
+import random
+from collections.abc import Callable, Iterable, Sequence
+from itertools import combinations, islice
+from math import cos, pi, prod, sin
+from typing import NamedTuple
+
+from forestplan.fault_codes import Code
+from forestplan.faults import Fault
+from forestplan.limits import MAX_EDGES, MAX_NODES
+from forestplan.network import Edge, Network, Places
+from forestplan.networks.network_text import checked
+from forestplan.networks.places import near
+from forestplan.networks.random_networks import alike_edges, below
+
+SIDE = 1000
+# Half of a queen's directions: the other half leads back.
+WAYS_OF_A_QUEEN = ((1, 0), (0, 1), (1, 1), (-1, 1))
+
+
+def made(nodes: int, edges: Iterable[Edge], places: Places | None = None) -> Network:
+    """The network of these edges, of which no more are looked at than one too many."""
+    return checked(
+        Network(nodes, list(islice(edges, MAX_EDGES + 1)), places=places or {}), "that network"
+    )
+
+
+def circle(vertices: Sequence[int]) -> Places:
+    """The first vertex on top, then clockwise."""
+    turn = 2 * pi / max(1, len(vertices))
+    return {v: (sin(turn * k), -cos(turn * k)) for k, v in enumerate(vertices)}
+
+
+def path(nodes: int) -> Network:
+    return made(
+        nodes, ((v, v + 1) for v in range(1, nodes)), {v: (v - 1, 0) for v in range(1, nodes + 1)}
+    )
+
+
+def ring(nodes: int) -> Network:
+    return made(
+        nodes, ((v, v % nodes + 1) for v in range(1, nodes + 1)), circle(range(1, nodes + 1))
+    )
+
+
+def star(nodes: int) -> Network:
+    return made(
+        nodes, ((v, nodes) for v in range(1, nodes)), circle(range(1, nodes)) | {nodes: (0, 0)}
+    )
+
+
+def complete(nodes: int) -> Network:
+    return made(nodes, combinations(range(1, nodes + 1), 2), circle(range(1, nodes + 1)))
+
+
+def board(rows: int, columns: int, ways: Sequence[Edge], far: int) -> Network:
+    """The squares of a board, numbered row by row, each joined to those that are up to so far in these directions."""
+    number = {(x, y): y * columns + x + 1 for y in range(rows) for x in range(columns)}
+    moves = [(step * x, step * y) for step in range(1, far + 1) for x, y in ways]
+    edges = (
+        (v, number[x + across, y + down])
+        for (x, y), v in number.items()
+        for across, down in moves
+        if (x + across, y + down) in number
+    )
+    return made(rows * columns, edges, {v: square for square, v in number.items()})
+
+
+def grid(rows: int, columns: int) -> Network:
+    return board(rows, columns, ((1, 0), (0, 1)), 1)
+
+
+def queen(rows: int, columns: int) -> Network:
+    return board(rows, columns, WAYS_OF_A_QUEEN, max(rows, columns))
+
+
+def tree(nodes: int, seed: str | int) -> Network:
+    source = random.Random(seed)
+    return made(nodes, ((1 + below(source, v - 1), v) for v in range(2, nodes + 1)))
+
+
+def disk(nodes: int, radius: float, seed: str | int) -> Network:
+    """Places in a square of side 1000, and an edge if two are less than `radius` sides apart."""
+    if not 0 < radius <= 2:
+        raise Fault(Code.RADIUS, radius=radius)
+    source = random.Random(seed)
+    free = set()
+    places: dict[int, tuple[int, int]] = {}
+    while len(places) < nodes:
+        place = below(source, SIDE + 1), below(source, SIDE + 1)
+        if place not in free:
+            free.add(place)
+            places[len(places) + 1] = place
+    pairs = near([(x, y, 0) for x, y in places.values()], radius * SIDE, is_globe=False)
+    return made(nodes, ((v + 1, w + 1) for v, w in pairs), places)
+
+
+def any_edges(
+    nodes: int,
+    edges: int,
+    seed: str | int,
+    connected: bool = False,
+    neighbours: int | None = None,
+    forests: int | None = None,
+) -> Network:
+    """So many different edges, each set of them as likely as any other; or with the wishes of `alike_edges`."""
+    pairs = nodes * (nodes - 1) // 2
+    if not 0 <= edges <= min(pairs, MAX_EDGES):
+        raise Fault(Code.EDGES_OF_NODES, edges=edges, nodes=nodes, most=min(pairs, MAX_EDGES))
+    source = random.Random(seed)
+    if connected or (neighbours, forests) != (None, None):
+        found = alike_edges(source, nodes, edges, connected, neighbours, forests)
+        if found is None:
+            raise Fault(Code.NO_NETWORK_WITH_WISHES)
+        return made(nodes, found)
+    chosen: set[Edge] = set()
+    while len(chosen) < min(edges, pairs - edges):
+        v, w = 1 + below(source, nodes), 1 + below(source, nodes)
+        if v != w:
+            chosen.add((min(v, w), max(v, w)))
+    if edges > pairs - edges:
+        chosen = set(combinations(range(1, nodes + 1), 2)) - chosen
+    return made(nodes, chosen)
+
+
+class NetworkKind(NamedTuple):
+    """What makes networks of a kind, what they are, more of it, and how many nodes, rows or columns are the least."""
+
+    function: Callable[..., Network]
+    does: str
+    more: str = ""
+    least: int = 1
+
+    def make(self, *counts: float, **named: float | bool | None) -> Network:
+        """A network of the kind; what would be none is refused before anything is made."""
+        chosen = inspect.signature(self.function).bind(*counts, **named).arguments
+        sizes = {name: chosen[name] for name in self.sizes if name != "edges"}
+        for name, size in sizes.items():
+            if size < self.least:
+                raise Fault(Code.SIZE_BELOW_LEAST, name=name.upper(), size=size, least=self.least)
+        if prod(sizes.values()) > MAX_NODES:
+            raise Fault(Code.NODES_OF_KIND_ABOVE_LIMIT, nodes=prod(sizes.values()), most=MAX_NODES)
+        return self.function(*counts, **named)
+
+    @property
+    def chosen(self) -> list[str]:
+        """What `make` is told."""
+        return list(inspect.signature(self.function).parameters)
+
+    @property
+    def sizes(self) -> list[str]:
+        """The words after the kind: how many of these there are."""
+        return [name for name in self.chosen if name in ("nodes", "rows", "columns", "edges")]
+
+    @property
+    def is_by_chance(self) -> bool:
+        return "seed" in self.chosen
+
+
+KINDS = {
+    "path": NetworkKind(path, "a row"),
+    "ring": NetworkKind(ring, "a row whose ends are joined", least=3),
+    "star": NetworkKind(
+        star,
+        "one centre, which is the last node; the others are its leaves",
+        "So there is one forest.",
+    ),
+    "complete": NetworkKind(complete, "each node is joined to each other"),
+    "grid": NetworkKind(grid, "squares of a board that share a side, numbered row by row"),
+    "queen": NetworkKind(
+        queen, "squares of a board that a queen joins in one move", "They are numbered row by row."
+    ),
+    "tree": NetworkKind(tree, "each node but the first is joined to a random one before it"),
+    "disk": NetworkKind(
+        disk,
+        "random places in a square, joined if they are near",
+        "So transmitters interfere that are near each other (a unit-disk graph).",
+    ),
+    "random": NetworkKind(
+        any_edges,
+        "that many random edges",
+        "Each choice of edges is as likely as any other. With wishes, as --connected --neighbours 3\n"
+        "--forests 2, it isn't, but the networks of all seeds are equally hard: with --neighbours D\n"
+        "and --forests U the last pulse of each is 12 + 3·U·(D + 1).",
+    ),
+}

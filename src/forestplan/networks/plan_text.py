@@ -1,0 +1,82 @@
+"""The plan of a text, beside its network."""
+from collections.abc import Iterator
+
+from forestplan.fault_codes import Code
+from forestplan.faults import Fault, InText
+from forestplan.network import Edge, Network
+from forestplan.networks.fields import fields_of, shown, whole
+
+
+# The line, the vertex and the channel.
+PlanRow = tuple[int, int, int]
+
+
+def rows_of(text: str, name: str, least: int = 1, below: int = 2**32) -> list[PlanRow]:
+    """(line, vertex, channel) of the lines of a plan, with channels from `least` on and numbers below `below`.
+
+    >>> rows_of("plan\\n1 3\\n", "the plan")
+    [(2, 1, 3)]
+
+    Raises `Fault` of the first line that is no line of a plan.
+    """
+    rows = fields_by_line(text)
+    line, fields = next(rows, (1, []))
+    if fields != ["plan"]:
+        raise Fault(Code.NO_PLAN, InText(name, line))
+    found = []
+    for line, fields in rows:
+        numbers = [number for number in map(whole, fields) if number is not None and number < below]
+        if not len(numbers) == len(fields) == 2 or numbers[1] < least:
+            raise Fault(Code.NO_LINE_OF_A_PLAN, InText(name, line), row=shown(" ".join(fields)))
+        found.append((line, numbers[0], numbers[1]))
+    return found
+
+
+def fields_by_line(text: str) -> Iterator[tuple[int, list[str]]]:
+    """(line, fields) of the lines that aren't blank."""
+    for line, raw in enumerate(text.split("\n"), 1):
+        fields = [field for field in fields_of(raw) if field]
+        if fields:
+            yield line, fields
+
+
+def read_plan(text: str, name: str, network: Network) -> dict[int, int]:
+    """{vertex: channel} of a plan of a network. Neighbours may share a channel: a picture shows that.
+
+    >>> read_plan("plan\\n1 2\\n2 1\\n", "the plan", Network(2, [(1, 2)]))
+    {1: 2, 2: 1}
+
+    Raises `Fault` of the first fault that the programs would report, but for neighbours that share a channel.
+    """
+    plan = {}
+    for line, vertex, channel in rows_of(text, name):
+        if vertex not in network.vertices:
+            raise Fault(
+                Code.PLAN_OF_OTHER_VERTEX, InText(name, line), vertex=vertex, nodes=network.nodes
+            )
+        if vertex in plan:
+            raise Fault(Code.SECOND_LINE_OF_VERTEX, InText(name, line), vertex=vertex)
+        if channel > network.channels:
+            raise Fault(
+                Code.CHANNEL_ABOVE_LIMIT,
+                InText(name, line),
+                vertex=vertex,
+                channel=channel,
+                channels=network.channels,
+            )
+        if channel in network.bars.get(vertex, ()):
+            raise Fault(Code.CHANNEL_BARRED, InText(name, line), vertex=vertex, channel=channel)
+        plan[vertex] = channel
+    for vertex in network.vertices:
+        if vertex not in plan:
+            raise Fault(Code.VERTEX_WITHOUT_LINE, InText(name), vertex=vertex)
+    return plan
+
+
+def clashes(network: Network, plan: dict[int, int]) -> list[Edge]:
+    """The edges whose two vertices share a channel.
+
+    >>> clashes(Network(3, [(1, 2), (2, 3)]), {1: 1, 2: 1, 3: 2})
+    [(1, 2)]
+    """
+    return [(v, w) for v, w in network.edges if plan[v] == plan[w]]

@@ -1,0 +1,48 @@
+"""Pictures of what the programs computed, as SVG, and pages, as HTML. The modules:
+
+    picture             a picture of any kind: `drawing`, `KINDS`; the command `forestlab picture`
+    map_picture         the network alone
+    plan_picture        the plan on the map
+    results_picture     what the nodes of a program have found, on the map
+    rounds_picture      the rounds of the colouring: a row for each node, a column for each pulse
+    program_rounds      the rounds of any program as pictures need them
+    program_picture     the rounds of any program
+    bits_picture        a node above its parent, digit by digit, over the four bit steps
+    why_picture         the messages that decided a node's channel
+    broken_picture      what goes wrong without a rule of the rounds
+    film_picture        the rounds as a picture that plays by itself
+    player_page         the rounds as a page with a slider
+    transcripts         the transcript of a run as pictures need it
+    run_picture         space and time of a run without a clock
+    wrong_run           a run up to its first entry that isn't possible
+    watch_page          a run without a clock as a page
+    reacting_picture    space and time of nodes that react to messages
+    reacting_watch      their run as a page
+    schedules_space     all states of a tiny network, for the next kind
+    schedules_picture   every schedule as a lattice
+    sheet               question sheets to print; the command `forestlab sheet`
+    places              where vertices are drawn, how edges bend, where labels are
+    layout              places for the vertices of a network that names none
+    marks               vertices, edges, arrows and legends
+    panel               a small map
+    palette             all colours
+    svg                 a drawing as SVG text
+    pages               pages that stand alone
+    page_data           what pages get as JSON
+
+Draw the plan of a triangle, and the run of two nodes without a clock:
+
+>>> from forestplan.definitions.colours import plan_text
+>>> from forestplan.networks.sources import network_at
+>>> from forestplan.pictures.picture import KINDS, Source, Text, drawing
+>>> from forestplan.schedules.simulate import played, text_of_run
+>>> triangle, edge = network_at("triangle"), network_at("path2")
+>>> plan = Text("triangle", plan_text(triangle).decode())
+>>> drawing("plan", Source(triangle, texts=[plan]))[:4]
+'<svg'
+>>> run = Text("path2", text_of_run(2, played(edge)))
+>>> drawing("run", Source(edge, texts=[run]), pulses=(3, 5))[:4]
+'<svg'
+>>> KINDS["film"].does
+'The rounds of the colouring as a picture that plays by itself: messages move.'
+"""

@@ -1,0 +1,26 @@
+// The module that src/forestplan/pictures/pages.py makes of what all marks look like
+// (src/forestplan/pictures/palette.py).
+export const INK: string;
+export const BLACK: string;
+export const WHITE: string;
+export const WRONG: string;
+export const WIRES: Record<string, string>;
+export const PALE: Record<string, string>;
+export const LOOKS: {hue: string, is_ring: boolean, ink: string, size: number}[];
+export const PERIOD: number;
+export const HUES: [string, string][];
+export const FORESTS: [string, string][];
+export const GREYS: [string, string][];
+export const RING_WIDTH: number;
+export const LEAST_RING: number;
+export const SQUARE_SIZES: number[];
+export const BAR_SIZES: number[];
+export const MOST_BARS: number;
+export const MOST_DIGITS: number;
+// The sides of a node on which its label can be, as directions; a text that is no wider than a little more than SHORT
+// in each half isn't moved aside.
+export const SIDES: [number, number][];
+export const SHORT: number;
+export const LITTLE: number;
+// Half the width of an arrow's head, in its lengths.
+export const HEAD: number;

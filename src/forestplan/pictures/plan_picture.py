@@ -1,0 +1,56 @@
+"""The plan on the map: who has which channel."""
+from forestplan.fault_codes import Code
+from forestplan.faults import Fault
+from forestplan.network import Network
+from forestplan.networks.plan_text import clashes
+from forestplan.pictures.map_picture import Vertex, begun, draw_map
+from forestplan.pictures.marks import SMALL, short_name
+from forestplan.wording import counted
+
+LARGEST_NUMBERED = 100
+
+
+class Planned(Vertex):
+    """A vertex in the hue of its channel; beside it are its number and name, if there is room for all of them."""
+
+    mark = "number"
+
+    def __init__(self, network: Network, v: int, channel: int) -> None:
+        super().__init__(network, v)
+        self.channel, self.label = channel, f"{v} {short_name(network, v)}".rstrip()
+        said = f", barred {', '.join(map(str, self.bars))}" if self.bars else ""
+        self.title = f"vertex {self.label}: channel {channel}{said}"
+        if network.nodes > LARGEST_NUMBERED:
+            self.label, self.bars = "", []
+
+
+def draw(network: Network, plan: dict[int, int]) -> str:
+    clash = clashes(network, plan)
+    if clash:
+        v, w = clash[0]
+        raise Fault(Code.PLAN_NOT_PROPER, node=v, neighbour=w, channel=plan[v])
+    vertices = {v: Planned(network, v, plan[v]) for v in network.vertices}
+    used = f"In the circles are the channels: {len(set(plan.values()))} of the {network.channels} allowed"
+    svg, box = begun(
+        network,
+        vertices,
+        f"Channel plan of {network.name}",
+        f"{network.name}: the plan is proper",
+        said_of(network),
+        used + ("; crossed out: barred" if network.bars else ""),
+    )
+    edge = ("#B9B9B9", 0.9) if network.nodes > SMALL else ("#9A9A9A", 1.6)
+    is_dense = len(network.edges) > 5 * network.nodes
+    draw_map(svg, network, vertices, box, ("#D0D0D0", 0.7) if is_dense else edge)
+    return svg.document()
+
+
+def said_of(network: Network) -> str:
+    """What there is, and what to look for."""
+    if not network.edges:
+        return f"{counted(network.nodes, 'transmitter')}, and no pair interferes"
+    verb = "interferes" if len(network.edges) == 1 else "interfere"
+    return (
+        f"{counted(network.nodes, 'transmitter')}, {counted(len(network.edges), 'pair')} that {verb}, at most "
+        f"{counted(network.greatest_degree, 'neighbour')}: on each line two different numbers"
+    )

@@ -1,0 +1,168 @@
+"""The reading of transcripts of all editions. It is written from the pages in docs/ alone."""
+import contextlib
+from typing import NamedTuple
+
+from forestplan.definitions.events import ACT, PULSE, PUT, TAKE, Entry, Kind
+from forestplan.fault_codes import Code
+from forestplan.faults import Fault, InText
+from forestplan.sentences import WORDS, sentence_of, sentence_of_entry
+from forestplan.transcripts.fields import (
+    COLOURING,
+    NoEntry,
+    fields_of,
+    name_in_texts,
+    number,
+    field_words,
+    message_of,
+    wire_of,
+)
+
+# What begins the lines of a network.
+NETWORK = (b"p", b"c", b"e", b"i", b"b")
+# The kinds of the entries that name a wire.
+OF_WIRES = {b"put": PUT, b"take": TAKE}
+
+
+class Head(NamedTuple):
+    """The first line: where it is, and what it says; `program` is the name that editions 3 and 4 have."""
+
+    line: int
+    edition: int
+    nodes: int
+    program: str | None = None
+
+    @property
+    def is_stamped(self) -> bool:
+        return self.edition > 1
+
+    @property
+    def own(self) -> Kind:
+        """The kind of the nodes' own steps: nodes without rounds act."""
+        return ACT if self.edition == 4 else PULSE
+
+
+class WrongEntry(Fault):
+    """Why a text isn't the transcript of a whole run that is right: its `line`, if it is one line's fault, and the word
+    of docs/claim/FORMATS.md for it."""
+
+    def __init__(self, line: int | None, code: Code, **subject: object) -> None:
+        super().__init__(code, None if line is None else InText("", line), **subject)
+        self.line = line
+        self.word = WORDS[code]
+
+    def sentence(self) -> str:
+        """What is wrong, without its line and its word."""
+        return sentence_of(self.code, "", self.subject)
+
+    def __str__(self) -> str:
+        return sentence_of_entry(
+            self.code, "" if self.place is None else str(self.place), self.subject
+        )
+
+
+def entry_of(line: int, fields: list[bytes], program: str, head: Head) -> Entry:
+    """The entry of a line's fields, of which the first is its stamp if the text is stamped."""
+    stamp, own = None, fields
+    if head.is_stamped:
+        stamp, own = number(fields[0], "stamp", 2**64), fields[1:]
+    match own:
+        case [vertex, step, count] if step == head.own.value.encode():
+            v = number(vertex, "node")
+            return Entry(line, v, head.own, None, number(count, head.own.value), stamp)
+        case [vertex, b"put" | b"take" as kind, neighbour, *of_wire] if of_wire:
+            v, w = number(vertex, "node"), number(neighbour, "neighbour")
+            wire = message_of(*of_wire) if head.own is ACT else wire_of(program, *of_wire)
+            return Entry(line, v, OF_WIRES[kind], w, wire, stamp)
+    code = Code.NO_ENTRY_AFTER_STAMP if head.is_stamped else Code.NO_KIND_OF_ENTRY
+    step_words, what = ("act K", "MESSAGE") if head.own is ACT else ("pulse P", "WIRE")
+    raise NoEntry(code, words=field_words(b" ".join(own)), step=step_words, what=what)
+
+
+def read(text: bytes, program: str | None = COLOURING) -> tuple[Head, list[Entry]]:
+    """The first line, and the entries in the order of the text, with the payloads of the program of this name; without
+    one, of the program that the text names, or of the colouring.
+
+    >>> head, entries = read(b"transcript 2 2\\n1 1 put 2 payload 0 hello 1\\n")
+    >>> head.edition, head.nodes, str(entries[0].what)
+    (2, 2, 'payload 0 hello 1')
+
+    Raises `WrongEntry` of the first line that is wrong.
+    """
+    head, entries, fault = read_to_fault(text, program)
+    if fault:
+        raise fault
+    return head, entries
+
+
+def read_to_fault(
+    text: bytes, program: str | None = COLOURING
+) -> tuple[Head, list[Entry], WrongEntry | None]:
+    """The first line, the entries before the first line that isn't one, and that line's fault, or None."""
+    lines, entries = text.split(b"\n"), []
+    head = head_of(lines, program)
+    program = program or head.program or COLOURING
+    for line, raw in enumerate(lines[head.line :], head.line + 1):
+        try:
+            if fields := fields_of(raw):
+                entries.append(entry_of(line, fields, program, head))
+        except NoEntry as why:
+            code = Code.NO_ENTRY_AT_END if line == len(lines) else Code.NO_ENTRY
+            return head, entries, WrongEntry(line, code, why=why)
+    return head, entries, None
+
+
+def head_of(lines: list[bytes], program: str | None) -> Head:
+    """The first line that has a field; that it names another program than the one asked for is its first fault."""
+    line, fields = first_with_fields(lines)
+    named = ""
+    if fields[:2] in ([b"transcript", b"3"], [b"transcript", b"4"]) and fields[2:]:
+        named = fields[2].decode("latin-1")
+    is_name = name_in_texts(named) == named and named != ""
+    if is_name and program is not None and named != name_in_texts(program):
+        raise WrongEntry(line, Code.WRONG_PROGRAM, named=named, program=program)
+    with contextlib.suppress(NoEntry):
+        match fields:
+            case [b"transcript", b"1" | b"2" as edition, nodes]:
+                return Head(line, int(edition), number(nodes, "node"))
+            case [b"transcript", b"3" | b"4" as edition, _, nodes] if is_name:
+                return Head(line, int(edition), number(nodes, "node"), named)
+    raise WrongEntry(line, code_of_head(fields[0]))
+
+
+def first_with_fields(lines: list[bytes]) -> tuple[int, list[bytes]]:
+    """The first line that has a field, by its number, and its fields; line 1 if there is none."""
+    for line, fields in enumerate(map(fields_of, lines), 1):
+        if fields:
+            return line, fields
+    return 1, [b""]
+
+
+def code_of_head(field: bytes) -> Code:
+    """What is wrong with a text that begins with this field, which begins no transcript."""
+    if field in NETWORK:
+        return Code.NETWORK_AND_NO_TRANSCRIPT
+    is_text = field.isascii() and b"\0" not in field
+    return Code.NO_TRANSCRIPT if is_text else Code.NO_TRANSCRIPT_IN_ENCODING
+
+
+def line_of(entry: Entry) -> str:
+    """An entry as a transcript has it, without its stamp.
+
+    >>> line_of(Entry(line=2, node=1, kind=PULSE, neighbour=None, what=3))
+    '1 pulse 3'
+    """
+    if entry.neighbour is None:
+        return f"{entry.node} {entry.kind.value} {entry.what}"
+    return f"{entry.node} {entry.kind.value} {entry.neighbour} {entry.what}"
+
+
+def entry_text(entry: Entry) -> str:
+    """An entry in words.
+
+    >>> entry_text(Entry(line=2, node=1, kind=PULSE, neighbour=None, what=3))
+    'node 1 makes pulse 3'
+    """
+    if entry.neighbour is None:
+        return f"node {entry.node} makes {entry.kind.value} {entry.what}"
+    way = "for" if entry.kind is PUT else "from"
+    return f"node {entry.node} {entry.kind.value}s {entry.what} {way} {entry.neighbour}"
