@@ -92,7 +92,7 @@ def text_in(*parts: str) -> str:
 
 
 def version_number() -> str:
-    return text_in("src", "forestplan", "version.py").partition('NUMBER = "')[2].partition('"')[0]
+    return text_in(PACKAGE, "__init__.py").partition('__version__ = "')[2].partition('"')[0]
 
 
 def files() -> Iterator[tuple[str, str]]:

@@ -5,9 +5,8 @@ import os
 import subprocess
 import sys
 
+from forestplan import __version__
 from forestplan.folders import TOP
-
-NUMBER = "0.6.0"
 
 
 def commit() -> str:
@@ -39,7 +38,7 @@ def text() -> str:
     except OSError:
         with open(os.path.join(TOP, "build", "kits.txt"), encoding="utf-8") as kits:
             named = " or ".join(kits.read().split("\n")[:-1])
-        return f"forestplan {NUMBER}\ncommit {commit()}\nkit {named}\n"
+        return f"forestplan {__version__}\ncommit {commit()}\nkit {named}\n"
 
 
 def main() -> int:

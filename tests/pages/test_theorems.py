@@ -12,7 +12,7 @@ import os
 import re
 
 from build.crate_lists import listed, with_below
-from forestplan.version import NUMBER
+from forestplan import __version__
 from tests import TOP
 from tests.cases import FilesCase, found_in, text_in
 from tests.pages.statements import TESTS, named, reached, roots_of
@@ -142,5 +142,7 @@ class Theorems(FilesCase):
 
     def test_citation(self):
         version = found_in(r"^version: (\S+)$", text_in("CITATION.cff"), re.M)
-        self.same("version of CITATION.cff", version[1], NUMBER)
-        self.note("it is in CHANGELOG", f"\n## {NUMBER}" in text_in("CHANGELOG.md"), NUMBER)
+        self.same("version of CITATION.cff", version[1], __version__)
+        self.note(
+            "it is in CHANGELOG", f"\n## {__version__}" in text_in("CHANGELOG.md"), __version__
+        )

@@ -17,7 +17,6 @@ from unittest import mock
 from xml.etree import ElementTree
 
 import forestplan
-from forestplan import version
 from forestplan.definitions.colours import colours
 from forestplan.interface import calls, sites as site_graphs
 from forestplan.network import Network
@@ -393,7 +392,6 @@ class InPython(Case):
     @needs("bin/forestplan", "bin/forestplay")
     def test_surface(self):
         """What is public is documented; the examples of its texts are right, and its hints are there to be used."""
-        self.same("its version", forestplan.__version__, version.NUMBER)
         self.note("it has hints", os.path.isfile(os.path.join(PACKAGE, "py.typed")))
         self.same("dir", dir(forestplan), sorted(forestplan.__all__))
         for name in forestplan.__all__:
