@@ -364,6 +364,8 @@ class Judged(Case):
             (1, "two", True, "2 rounds", {"network": of([(1, 3), (2, 3), (2, 4)], 4)}),
             (1, "two", False, "4 rounds", {"network": of([(1, 2), (2, 3), (3, 4)], 4)}),
             (1, "long", True, "0 to 21", {"network": of([(v, v + 1) for v in range(1, 400)], 400)}),
+            (1, "long", True, "100 tr", {"network": of([(v, v + 1) for v in range(1, 100)], 100)}),
+            (1, "long", False, "no row", {"network": of([(v, v + 1) for v in range(1, 99)], 99)}),
             (1, "long", False, "no row", {"network": path}),
             (1, "long", False, "no row", {"network": of([], 120)}),
             (2, "centre", True, "8 forests", {"network": of(STAR, 9, "i 9 0")}),

@@ -5,6 +5,7 @@ import random
 
 from forestplan.definitions.colours import first_colours, merge, plan_text, three
 from forestplan.definitions.rounds import LAST_COLOUR, Rounds
+from forestplan.networks import kinds
 from forestplan.networks.kinds import KINDS
 from forestplan.networks.network_text import network_of
 from forestplan.networks.texts import plain_text
@@ -112,6 +113,15 @@ def networks_by_chance(count, most=NODES, seed=SEED):
 
 
 class Definitions(Case):
+    def test_places(self):
+        """Of a network that is drawn in a row or a circle each node has a place, and nothing else has."""
+        for make in (kinds.path, kinds.ring, kinds.star, kinds.complete):
+            for nodes in (1, 2, 3, 7):
+                if make is not kinds.ring or nodes > 2:
+                    self.same(
+                        f"{make.__name__} {nodes}", [*make(nodes).places], [*range(1, nodes + 1)]
+                    )
+
     def test_two_definitions(self):
         """The lists of src/forestplan/definitions/colours.py are what the nodes of the rounds come to, forest by
         forest."""

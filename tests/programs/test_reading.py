@@ -115,6 +115,7 @@ REFUSED = (
     ("gml", 'graph [ node [ id 1\nlabel "x ] ]', "line 2: a quotation mark without a second"),
     ("gml", 'graph [ node [ id "a" ] node [ id "a" ] ]', 'a second node of the id "a"'),
     ("gml", "graph [ node [ id %s ] ]" % ("7" * 5000), "can't read it as gml"),
+    ("gml", "graph", "line 1: "),
     (
         "json",
         '{"nodes": [{"id": %s}], "links": []}' % ("7" * 5000),
