@@ -277,9 +277,11 @@ class InPython(Case):
 
     def test_the_last_places(self):
         """Latitudes up to the poles, and longitudes from 180 in the west up to 360 in the east, as in a table."""
-        for place in ((90, 0), (-90, 0), (0, -180), (0, 360)):
+        last: tuple[tuple[float, float], ...] = ((90, 0), (-90, 0), (0, -180), (0, 360))
+        for place in last:
             self.same(place, forestplan.sites({"Ulm": place}, 3), {"Ulm": []})
-        for place in ((90.1, 0), (-90.1, 0), (0, -180.1), (0, 360.1)):
+        beyond: tuple[tuple[float, float], ...] = ((90.1, 0), (-90.1, 0), (0, -180.1), (0, 360.1))
+        for place in beyond:
             self.refused(ValueError, functools.partial(forestplan.sites, {"Ulm": place}, 3))
         for reach in (1e-6, 20_000):
             self.same(reach, forestplan.sites({"Ulm": (0, 0)}, reach), {"Ulm": []})
