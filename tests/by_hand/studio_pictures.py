@@ -54,6 +54,8 @@ class Looked(Page):
         self.page.go(self.address + ("#" + place if place else ""))
         self.page.until("window.studio && studio.seen.hello && !studio.isFollowing()", 400)
         self.page.until("busy.hidden && !document.querySelector('.old')", 400)
+        # A run, rounds or the steps are there as soon as the slider, if it is seen, can be moved.
+        self.page.until("!slider.disabled || !slider.getClientRects().length", 400)
         if look == "large":
             self.value("large.click()")
         time.sleep(1.2)

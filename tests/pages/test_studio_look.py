@@ -154,6 +154,66 @@ class Look(Page):
         high = self.value("left.getBoundingClientRect().height")
         self.note("room to read in", high <= 420, high)
 
+    def test_room(self) -> None:
+        """Nothing has to share its room: the rows of the legend, the hint below two pictures, what is said of a row of
+        colours, and what is under way."""
+        whole = "legend.scrollHeight <= legend.clientHeight"
+        box = "getBoundingClientRect()"
+        over = f"small.{box}.bottom <= Math.min(hint.{box}.top, zoom.{box}.top)"
+        self.addCleanup(self.page.size, 1280, 800)
+        for wide, high in ((1280, 800), (768, 1024), (360, 740)):
+            self.page.size(wide, high, wide == 360)
+            # Whether a finger points is asked when the page is loaded.
+            self.page.go("about:blank")
+            self.page.go(self.address)
+            self.page.until("window.studio && studio.seen.hello", 60)
+            self.go_and_wait("example=chain6&tab=run&slow=2-3&seed=7&at=60&beside=1")
+            self.sees(f"{wide}: two pictures", "small.getClientRects().length")
+            self.reads(f"{wide}: the hint is below them", over, True)
+            if wide > 360:
+                for place in (PLACES["rounds"], "lecture=4"):
+                    self.go_and_wait(place)
+                    self.sees(f"{wide}: {place}: the legend", whole)
+                high = self.value(
+                    "document.querySelector('#strips rect').getBoundingClientRect().height"
+                )
+                self.note(f"{wide}: its rows of colours are small", 10 < high < 30, high)
+        inside = "(box => [box.left >= 4, box.right <= 356])(busy.getBoundingClientRect())"
+        self.value(
+            "busy.hidden = false, busy.querySelector('span').textContent = 'playing the run'"
+        )
+        self.reads("what is under way", inside, [True, True])
+        self.value("busy.hidden = true")
+        self.go_and_wait("example=petersen&tab=rounds&at=15&node=10")
+        said = f"Array.from(strips.querySelectorAll('[text-anchor=start]'), one => one.{box}.right)"
+        words = f"Math.max(...{said})"
+        drawn = f"Array.from(strips.querySelectorAll('rect'), one => one.{box}.left)"
+        squares = f"Math.min(...{drawn})"
+        self.sees("the rows of colours", f"{words} > 0 && {squares} > 0")
+        self.reads("words are beside them", f"{words} + 1 < {squares}", True)
+
+    def test_a_note_hides_no_node(self) -> None:
+        """What is said of a node whose channel is wrong covers no other node, even on a phone."""
+        box = "document.querySelector('#net > g:last-child rect').getBoundingClientRect()"
+        apart = (
+            "(note => Array.from(document.querySelectorAll('#net .node'), one => "
+            "[one, one.querySelector('circle:last-of-type').getBoundingClientRect()]).filter(([, at]) => "
+            "Math.min(at.right, note.right) - Math.max(at.left, note.left) > 1 && "
+            f"Math.min(at.bottom, note.bottom) - Math.max(at.top, note.top) > 1).length)({box})"
+        )
+        self.addCleanup(self.page.size, 1280, 800)
+        for wide, high in ((1280, 800), (360, 740)):
+            self.page.size(wide, high, wide == 360)
+            self.go_and_wait(PLACES["check"])
+            self.sees("a note", "document.querySelector('#net > g:last-child rect')")
+            self.reads(f"{wide}: covered nodes", apart, 0)
+
+    def test_speech(self) -> None:
+        """What a lecturer says begins as a sentence."""
+        self.go_and_wait("lecture=4")
+        said = self.value("lesson.querySelector('.speaker').textContent")
+        self.note("a capital", said[:1].isupper(), said)
+
     def test_first_screen(self) -> None:
         """What is under way isn't said over the first screen, which plays behind it."""
         self.page.go("about:blank")

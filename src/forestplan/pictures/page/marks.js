@@ -151,10 +151,12 @@ export function pill(x, y, said, kind, size, {ink = INK, ...more} = {}) {
   return [mark("rect", {x: x - wide / 2, y: y - high / 2, width: wide, height: high, rx: high / 2, fill: PALE[kind],
     stroke: WIRES[kind], "stroke-width": 1.6, "data-mark": kind, ...more}), textMark(x, y, size, ink, said)];
 }
+/** @param {string} said */
+export function noteWidth(said) { return said.length * 7 + 12; }
 // A red note on a white ground.
 /** @param {number} x @param {number} y @param {string} said @returns {Marks} */
 export function note(x, y, said) {
-  const wide = said.length * 7 + 12;
+  const wide = noteWidth(said);
   return [mark("rect", {x: x - wide / 2, y: y - 10, width: wide, height: 20, rx: 10, fill: WHITE, stroke: WRONG,
     "stroke-width": 1.5}), textMark(x, y, 11.5, WRONG, said, BOLD)];
 }

@@ -219,20 +219,22 @@ export class RoundsFilm {
       if (up) rows.push([up, f, "parent " + up]);
       rows.push([v, f, `forest ${f}, node ${v}${up ? "" : ", a root"}`]);
     }
+    // The first column is to the right of all that is said of the rows.
+    const first = Math.max(132, 14 + 5.4 * Math.max(0, ...rows.map(([, , said]) => said.length)));
     for (let q = SEED; q <= LAST_COLOUR; q++) {
-      const x = 132 + (q - 2) * 20;
+      const x = first + (q - SEED) * 20;
       parts.push(textMark(x, 7, 9, "var(--soft)", q, {"font-weight": q === p ? "bold" : "normal"}));
     }
     rows.forEach(([who, f, said], k) => {
       const y = 16 + k * (side + 3) + side / 2;
       parts.push(textMark(0, y, 10.5, who === v ? "var(--ink)" : "var(--soft)", said, {"text-anchor": "start"}));
       for (let q = SEED; q <= LAST_COLOUR; q++) {
-        const colour = this.colourAt(q, who, f), x = 132 + (q - 2) * 20;
+        const colour = this.colourAt(q, who, f), x = first + (q - SEED) * 20;
         parts.push(...colourSquare(x, y, side / 2 - 0.5, colour, q > SEED && Number(colour) <= 5),
           q === p && mark("rect", {x: x - 10, y: y - 10, width: 20, height: 20, fill: "none", stroke: "var(--glow)",
             "stroke-width": 2}));
       }
     });
-    return [`0 0 350 ${16 + rows.length * (side + 3)}`, parts];
+    return [`0 0 ${first + 218} ${16 + rows.length * (side + 3)}`, parts];
   }
 }

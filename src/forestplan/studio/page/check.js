@@ -1,6 +1,6 @@
 // The tab Check: a plan that is typed or clicked, with the verdict on it, and transcripts.
 import {announce, asks, by, capital, hello, hooks, programNamed, show, stage, tabs} from "./base.js";
-import {blank, channelCircle, html, note, sentence} from "./marks.js";
+import {blank, channelCircle, html, note, noteWidth, sentence} from "./marks.js";
 import {net, neighbours, text} from "./model.js";
 
 /** @type {{plan: number[], verdict: GoodPlan | BadPlan | null, typed: number | null}} */
@@ -18,6 +18,18 @@ function ask() {
     show();
   });
 }
+// Above a node, or where it covers no other one: below it, or above it and aside.
+/** @param {number} v @param {number} wide @returns {Point} */
+function placeOfNote(v, wide) {
+  const x = stage.X(v), y = stage.Y(v), off = stage.radius + 18, aside = (wide - stage.radius) / 2;
+  const left = Math.max(wide / 2 + 1, x - aside), right = Math.min(stage.wide - wide / 2 - 1, x + aside);
+  /** @type {Point[]} */
+  const places = [[x, y - off], [x, y + off], [right, y - off], [left, y - off]];
+  /** @param {Point} place */
+  const isFree = ([across, up]) => up < stage.high - 12 && !net.nodes.some((_, k) => k + 1 !== v
+    && Math.abs(stage.X(k + 1) - across) < stage.radius + wide / 2 && Math.abs(stage.Y(k + 1) - up) < stage.radius + 10);
+  return places.find(isFree) || places[0];
+}
 function showPlan() {
   const is = check.verdict, at = is && !is.ok ? is.at.filter(v => v >= 1 && v <= net.nodes.length) : [];
   const {plan} = check;
@@ -25,8 +37,8 @@ function showPlan() {
   const isWrong = (v, w) => at.length === 2 && at.includes(v) && at.includes(w);
   const above = () => {
     if (!at.length || !is || is.ok) return [];
-    const [v, w] = at, x = stage.X(v), y = stage.Y(v) - stage.radius - 18;
-    return note(...(at.length === 2 ? stage.middle(v, w) : /** @type {Point} */ ([x, y])), SAID[is.code] || is.code);
+    const [v, w] = at, said = SAID[is.code] || is.code;
+    return note(...(at.length === 2 ? stage.middle(v, w) : placeOfNote(v, noteWidth(said))), said);
   };
   stage.draw({above, ring: v => at.includes(v) ? "var(--wrong)" : null,
     says: v => plan[v - 1] ? `channel ${plan[v - 1]}` : "no channel",

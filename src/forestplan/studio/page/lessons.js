@@ -258,7 +258,7 @@ function folded(title, text) {
 function partsOfPlace(at) {
   const {lecture} = hello(), place = lecture[at - 1], speech = html("div", null, {class: "speaker"});
   if (!place) return [];
-  speech.append(...textOf(place.say), html("p", "In the large mode (the key F) these words aren’t seen. A second window with the lecture"
+  speech.append(...textOf(capital(place.say)), html("p", "In the large mode (the key F) these words aren’t seen. A second window with the lecture"
     + " goes along with this one, and keeps them.", {class: "soft"}));
   return [head(capital(place.title), "the lecture"), speech,
     arrows(`${at} of ${lecture.length}, minutes ${place.minutes}`, ["↺", "this place from its beginning", () => goTo(at)], at > 1 ? ["◂", "the place before", () => goTo(at - 1)] : undefined,
