@@ -15,6 +15,7 @@ from forestplan.faults import Fault, InText
 from forestplan.folders import TOP
 from forestplan.pictures import pages
 from forestplan.pictures.page_data import as_object
+from forestplan.process_exit import held
 from forestplan.studio.answers import Hello, Published
 from forestplan.studio.bundle import OWN, as_one_script
 from forestplan.studio.calls import CALLS
@@ -110,17 +111,22 @@ def publish(folder: str, session: Session) -> int:
     at = os.path.realpath(folder)
     room = f"{at}{os.sep}" if os.path.isdir(at) else at
     new = f"{room}.{os.getpid()}.new"
-    with as_fault_of(folder):
-        os.makedirs(os.path.dirname(new), exist_ok=True)
-        # One that is there already is somebody else's.
-        os.mkdir(new)
+    is_made = False
     try:
+        with as_fault_of(folder):
+            os.makedirs(os.path.dirname(new), exist_ok=True)
+            # What ends the command waits until it is known that this folder has to go. One that is there already is
+            # somebody else's.
+            with held():
+                os.mkdir(new)
+                is_made = True
         files = published(session)
         with as_fault_of(folder):
             write_files(files, new)
             put_in_place(new, at, folder)
     finally:
-        shutil.rmtree(new, ignore_errors=True)
+        if is_made:
+            shutil.rmtree(new, ignore_errors=True)
     return sum(map(len, files.values()))
 
 
