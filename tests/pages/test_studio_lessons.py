@@ -823,7 +823,8 @@ class Cards(Page):
             where = f"{k} of {len(LECTURE)}, minutes {place.minutes}"
             self.sees("its minutes", f"lesson.textContent.includes({json.dumps(where)})")
             said = "".join(self.page.text("lesson").split())
-            self.note("its words", "".join(re.sub("[*`]", "", place.say).split()) in said, said)
+            words = "".join(re.sub("[*`]", "", place.say).split())
+            self.note("its words", words[0].upper() + words[1:] in said, said)
             self.reads("its tab", "studio.seen.tab", table.tab_of(place.place))
             self.sees("its address", f"location.hash.includes('lecture={k}')")
             if k < len(LECTURE):
