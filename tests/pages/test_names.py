@@ -10,7 +10,6 @@ from tests.cases import Case
 
 # In how many modules each of them is defined.
 SEVERAL = {
-    "draw": 17,
     "main": 14,
     "command_line": 11,
     "text_of": 6,
@@ -31,7 +30,7 @@ SEVERAL = {
     "rounds_of": 3,
     "said_of": 3,
     "table": 3,
-    "text": 3,
+    "text": 2,
     "whole": 3,
     "Message": 2,
     "Node": 2,

@@ -28,7 +28,7 @@ def child_asked(rounds: Rounds, forest: int, vertex: int | None) -> int:
     return vertex
 
 
-def draw(rounds: Rounds, forest: int = 0, vertex: int | None = None) -> str:
+def bits_svg(rounds: Rounds, forest: int = 0, vertex: int | None = None) -> str:
     network = rounds.network
     rounds.asked_forests((forest, forest))
     vertex = child_asked(rounds, forest, vertex)

@@ -76,7 +76,9 @@ class BrokenPicture(Protocol):
         ...
 
 
-def draw(network: Network | None, without: tuple[str, ...], program: Program = COLOURING) -> str:
+def broken_svg(
+    network: Network | None, without: tuple[str, ...], program: Program = COLOURING
+) -> str:
     """Of a network, or of a smallest one on which the rounds of a program go wrong."""
     rounds, where = looked_at(network, without, program)
     left_out = " and ".join(f"‘{rule}’" for rule in without)

@@ -115,7 +115,7 @@ def intervals(values: list[int | None]) -> Iterator[tuple[int | None, int, int]]
             first = at
 
 
-def draw(rounds: Rounds) -> str:
+def film_svg(rounds: Rounds) -> str:
     network = rounds.network
     messages = sum(len(pulse.puts) for pulse in rounds.pulses)
     if messages > MOST_MESSAGES:

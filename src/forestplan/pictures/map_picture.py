@@ -80,7 +80,7 @@ class Vertex:
         bar_row(svg, left + width + GAP, spot[1], self.bars, BAR)
 
 
-def draw(network: Network) -> str:
+def map_svg(network: Network) -> str:
     said = f"{counted(network.nodes, 'node')}, {counted(len(network.edges), 'edge')}"
     vertices = {v: Vertex(network, v) for v in network.vertices}
     svg, box = begun(network, vertices, f"Map of {network.name}", network.name, said)

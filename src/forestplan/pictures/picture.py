@@ -120,17 +120,17 @@ class Source:
 def draw_rounds(of: Source, forests: tuple[int, int] | None, pulses: tuple[int, int] | None) -> str:
     rounds = of.rounds()
     if isinstance(rounds, Rounds):
-        return rounds_picture.draw(rounds, forests)
+        return rounds_picture.rounds_svg(rounds, forests)
     if forests:
         raise Fault(Code.NO_FORESTS, name=of.program.name)
-    return program_picture.draw(rounds, pulses)
+    return program_picture.program_svg(rounds, pulses)
 
 
 def draw_bits(of: Source, forest: int | None, vertex: int | None) -> str:
     rounds = of.rounds()
     if not isinstance(rounds, Rounds):
         raise Fault(Code.NO_FORESTS, name=of.program.name)
-    return bits_picture.draw(rounds, forest or 0, vertex)
+    return bits_picture.bits_svg(rounds, forest or 0, vertex)
 
 
 def draw_why(of: Source, vertex: int | None, in_words: bool | None) -> str:
@@ -138,7 +138,7 @@ def draw_why(of: Source, vertex: int | None, in_words: bool | None) -> str:
     if not isinstance(rounds, Rounds):
         raise Fault(Code.NO_CHANNELS_OF_PROGRAM, name=of.program.name)
     cone = why_picture.Cone(rounds, vertex)
-    return why_picture.text(cone) if in_words else why_picture.draw(cone)
+    return why_picture.why_text(cone) if in_words else why_picture.why_svg(cone)
 
 
 def draw_run(
@@ -153,12 +153,12 @@ def draw_run(
     run = of.run(wrong)
     if run.wrong and not pulses:
         shown = wrong_run.usual_pulses(run, run.wrong[0])
-    return run_picture.draw(run, shown, only, bool(wrong), stopped)
+    return run_picture.run_svg(run, shown, only, bool(wrong), stopped)
 
 
 def draw_watch(of: Source, pulses: tuple[int, int] | None) -> str:
     texts = of.texts or [of.text("transcript")]
-    return watch_page.draw(
+    return watch_page.watch_html(
         [
             watch_page.run_of_text(text.name, text.text, of.network, pulses, of.program)
             for text in texts
@@ -168,7 +168,7 @@ def draw_watch(of: Source, pulses: tuple[int, int] | None) -> str:
 
 def draw_schedules(of: Source, without: tuple[str, ...], columns: tuple[int, int] | None) -> str:
     space = schedules_space.space_of(of.network, without, of.program, of.progress)
-    return schedules_picture.draw(of.network, space, columns)
+    return schedules_picture.schedules_svg(of.network, space, columns)
 
 
 class PictureKind(NamedTuple):
@@ -188,14 +188,14 @@ KINDS = {
         "The network alone, without a plan: for a question sheet.",
         "Identifiers that differ from the numbers are written beside them.",
         "forestlab picture map examples/petersen.col > petersen-map.svg",
-        lambda of: map_picture.draw(of.network),
+        lambda of: map_picture.map_svg(of.network),
         (400, "a smaller network"),
     ),
     "plan": PictureKind(
         "The plan on the map: who has which channel.",
         "A plan that is not proper is refused; `forestplan check` says where.",
         "forestlab picture plan examples/petersen.col > petersen-plan.svg",
-        lambda of: plan_picture.draw(of.network, of.plan()),
+        lambda of: plan_picture.plan_svg(of.network, of.plan()),
         (400, "a smaller network"),
     ),
     "results": PictureKind(
@@ -204,7 +204,7 @@ KINDS = {
         "a filled circle is a node with a colour; of channels the number is in the circle, and beside it what it\n"
         "was before. All other results are written beside the nodes.",
         "forestlab picture results examples/petersen.col --program matching > petersen-pairs.svg",
-        lambda of: results_picture.draw(program_rounds(of.network, of.program)),
+        lambda of: results_picture.results_svg(program_rounds(of.network, of.program)),
         (400, "simulate, whose transcript ends in the same"),
         of_programs=True,
     ),
@@ -250,14 +250,14 @@ KINDS = {
         "It has no script, so a page can show it as an image. A film has at most 1,000 messages. A reader\n"
         "whose browser asks for less motion sees the end.",
         "forestlab picture film examples/petersen.col > petersen-film.svg",
-        lambda of: film_picture.draw(of.rounds()),
+        lambda of: film_picture.film_svg(of.rounds()),
         (40, "player"),
     ),
     "player": PictureKind(
         "A page with a slider and a play button: the network at each pulse (HTML).",
         "Add #pulse-P to the page's address for a link to pulse P, and #pulse-P-forest-F for one of its forests.",
         "forestlab picture player examples/petersen.col > petersen.html",
-        lambda of: player_page.draw(of.rounds()),
+        lambda of: player_page.player_html(of.rounds()),
         (40, "rounds"),
         of_programs=True,
     ),
@@ -291,7 +291,7 @@ KINDS = {
         "forestlab picture broken --without shift > without-shift.svg\n"
         "  forestlab picture broken examples/petersen.col --without pair > petersen-without-pair.svg\n"
         "  forestlab picture broken --program independent-set --without class > set-without-class.svg",
-        lambda of, without: broken_picture.draw(of.network, without, of.program),
+        lambda of, without: broken_picture.broken_svg(of.network, without, of.program),
         (2000, "`forestlab explore NETWORK --without RULES`, which says it in words"),
         of_programs=True,
     ),
@@ -496,7 +496,7 @@ def reacting_run(given: Namespace, network: Network, program: Reacting) -> str:
         made = played(network, program=program)
         text = Text(network.name, text_of_run(network.nodes, made, program))
     order, _ = ordered(text.text, text.name, network, program)
-    draw = reacting_picture.draw if given.kind == "run" else reacting_watch.draw
+    draw = reacting_picture.reacting_svg if given.kind == "run" else reacting_watch.reacting_html
     return draw(given.title or stem(text.name), network, program, order.made)
 
 

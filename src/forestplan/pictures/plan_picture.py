@@ -24,7 +24,7 @@ class Planned(Vertex):
             self.label, self.bars = "", []
 
 
-def draw(network: Network, plan: dict[int, int]) -> str:
+def plan_svg(network: Network, plan: dict[int, int]) -> str:
     clash = clashes(network, plan)
     if clash:
         v, w = clash[0]

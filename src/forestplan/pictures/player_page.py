@@ -30,7 +30,7 @@ SAY = {
 }
 
 
-def draw(rounds: Rounds | ProgramRounds) -> str:
+def player_html(rounds: Rounds | ProgramRounds) -> str:
     name = f"{rounds.network.name}, pulse by pulse"
     return page(
         "alone.html",

@@ -10,7 +10,7 @@ MOST_COLUMNS = 60
 LEFT, TOP, ROW, SIZE = 64, 112, 46, 11
 
 
-def draw(rounds: ProgramRounds, pulses: tuple[int, int] | None = None) -> str:
+def program_svg(rounds: ProgramRounds, pulses: tuple[int, int] | None = None) -> str:
     """All pulses at which something is sent or found, or those of A to B."""
     network, shown = rounds.network, columns_of(rounds, pulses)
     at_most(

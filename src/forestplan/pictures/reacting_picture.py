@@ -37,7 +37,7 @@ class RunWindow:
         return TOP + (v - 1) * ROW
 
 
-def draw(name: str, network: Network, program: Reacting, made: list[Entry]) -> str:
+def reacting_svg(name: str, network: Network, program: Reacting, made: list[Entry]) -> str:
     """The picture of a run's entries, which are by stamp."""
     window = RunWindow(network, made)
     at_most("run", window.stop, "steps of time side by side", MOST_STEPS, "a smaller network")

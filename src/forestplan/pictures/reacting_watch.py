@@ -59,7 +59,7 @@ class Watched:
             yield WireRow(v, w, self.text(str(entry.what)), at, stamp_of(entry), take, stamp)
 
 
-def draw(name: str, network: Network, program: Reacting, made: list[Entry]) -> str:
+def reacting_html(name: str, network: Network, program: Reacting, made: list[Entry]) -> str:
     """The page of a run's entries, which are by stamp."""
     at_most("watch", len(made), "entries", MOST_ENTRIES, "a smaller network")
     watched = Watched(program.start(network))

@@ -56,7 +56,7 @@ def found_in(rounds: ProgramRounds) -> dict[int, Found]:
     return {v: Found(rounds, v) for v in rounds.network.vertices}
 
 
-def draw(rounds: ProgramRounds) -> str:
+def results_svg(rounds: ProgramRounds) -> str:
     network, found = rounds.network, found_in(rounds)
     lines = [
         f"What each node has found after pulse {rounds.last}{legend(found)}.",

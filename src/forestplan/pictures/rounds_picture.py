@@ -32,7 +32,7 @@ GROUPS = [
 MERGES = LEFT + 11 * COLUMN + 34
 
 
-def draw(rounds: Rounds, asked: tuple[int, int] | None = None) -> str:
+def rounds_svg(rounds: Rounds, asked: tuple[int, int] | None = None) -> str:
     """The forests A to B that are asked for; else the first ones, as many as a slide has room for."""
     network = rounds.network
     forests = list(rounds.asked_forests(asked, max(1, USUAL_ROWS // network.nodes)))

@@ -91,7 +91,7 @@ class Window:
 ROWS = ((3, 88, 46), (5, 74, 46), (math.inf, 50, 30))
 
 
-def draw(
+def run_svg(
     run: Run,
     shown: tuple[int, int],
     kinds: tuple[str, ...] | None = None,

@@ -23,7 +23,7 @@ LEFT, HIGH, WIDE, LEAST_WIDTH = 44, 560, 1150, 860
 APART = [BAND, "#CFE3F1", "#8FBBDD", "#56B4E9"]
 
 
-def draw(network: Network, space: AlphaSpace, asked: tuple[int, int] | None) -> str:
+def schedules_svg(network: Network, space: AlphaSpace, asked: tuple[int, int] | None) -> str:
     """The states after the events A to B that are `asked` for, or after the first ones."""
     low, high = window_of(network.name, last_column(space), asked, 1 + columns_of(space), "events")
     at_most(

@@ -240,7 +240,7 @@ def network_by(source: Random) -> Network:
             return net
 
 
-def draw(seed: str, count: int, answers: bool, lessons: Collection[int]) -> str:
+def sheets_html(seed: str, count: int, answers: bool, lessons: Collection[int]) -> str:
     names = [seed] if count == 1 else [f"{seed}-{number}" for number in range(1, count + 1)]
     sheets = "\n".join(Sheet(name, answers).text(lessons) for name in names)
     what = "Answers to sheets" if answers else "Sheets"
@@ -272,5 +272,5 @@ def command_line() -> Parser:
 
 def main(arguments: list[str]) -> int:
     given = command_line().parse_args(arguments)
-    write(given, draw(given.seed, given.sheets, given.answers, given.lesson or LESSONS))
+    write(given, sheets_html(given.seed, given.sheets, given.answers, given.lesson or LESSONS))
     return 0

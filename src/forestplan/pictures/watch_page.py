@@ -265,7 +265,7 @@ def wires_of(every: list[Step], first: int) -> list[Flight]:
     return [flight for flight in found if flight.take is None or flight.take >= 0]
 
 
-def draw(runs: list[Run]) -> str:
+def watch_html(runs: list[Run]) -> str:
     """The page of one run, or of two of one network."""
     network, first = runs[0].network, runs[0]
     pulses = max(run.pulses[0] for run in runs), min(run.pulses[1] for run in runs)

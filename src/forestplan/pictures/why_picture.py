@@ -141,7 +141,7 @@ def channel_of(cone: Cone) -> int:
     return cone.rounds.merged[-1][cone.vertex] + 1
 
 
-def text(cone: Cone) -> str:
+def why_text(cone: Cone) -> str:
     """In words: each choice that mattered, the last one first, and the colours that gave the turns."""
     lines = [
         f"why node {cone.vertex} of {cone.network.name} has channel {channel_of(cone)}",
@@ -194,7 +194,7 @@ def colour_line(cone: Cone, v: int, f: int) -> str:
     return f"forest {f}, node {v}, {above}, pulses 2 to 12: {said}"
 
 
-def draw(cone: Cone) -> str:
+def why_svg(cone: Cone) -> str:
     """The rounds, with all that didn't matter faded."""
     rounds, network = cone.rounds, cone.network
     forests = cone.forests()

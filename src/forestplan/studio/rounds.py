@@ -104,7 +104,7 @@ def rounds(call: RoundsCall, session: Session, _tell: Tell) -> RoundsFound:
 
 def rounds_page(call: RoundsPageCall, session: Session, _tell: Tell) -> str:
     """A page that plays the rounds and needs no server, as the command `picture player` draws it."""
-    return player_page.draw(rounds_asked(call, session))
+    return player_page.player_html(rounds_asked(call, session))
 
 
 def why(call: WhyCall, session: Session, _tell: Tell) -> WhyFound:
@@ -112,7 +112,7 @@ def why(call: WhyCall, session: Session, _tell: Tell) -> WhyFound:
     network = network_asked(call, MOST_ROUNDS)
     cone = why_picture.Cone(Rounds(network), vertex_asked(call, network))
     return WhyFound(
-        lines=why_picture.text(cone).splitlines(),
+        lines=why_picture.why_text(cone).splitlines(),
         identifiers=cone.identifiers(),
         messages=[(p, v, w) for p, v, w, _ in sorted(cone.messages)],
     )
@@ -128,14 +128,14 @@ def broken(call: BrokenCall, session: Session, _tell: Tell) -> Broken:
         raise Fault(Code.NO_RULE_LEFT_OUT)
     here = ruled(program, network, without)
     if here.clash is not None:
-        picture_here = broken_picture.draw(network, without, program)
+        picture_here = broken_picture.broken_svg(network, without, program)
         return Broken(True, here.sentence().split("\n"), None, picture_here)
     sentence = "the rounds of this network go right without it"
     least, tried, what, most = smallest_wrong(without, program)
     if least is None:
         sentence += f", and so do those of all {tried:,} {what} of up to {most} nodes"
         return Broken(False, sentence.split("\n"), None, None)
-    smallest = broken_picture.draw(None, without, program)
+    smallest = broken_picture.broken_svg(None, without, program)
     return Broken(False, sentence.split("\n"), net_of(least.net), smallest)
 
 
@@ -175,4 +175,4 @@ def picture_of_steps(call: PictureCall, network: Network, program: Reacting) -> 
     player = ReactingStepwise(network, program)
     player.follow(call.steps.split("_"))
     made = sorted(player.made, key=lambda entry: (stamp_of(entry), entry.node))
-    return reacting_picture.draw(network.name, network, program, made)
+    return reacting_picture.reacting_svg(network.name, network, program, made)

@@ -15,7 +15,14 @@ from forestplan.fault_codes import Code
 from forestplan.faults import Fault
 from forestplan.network import Edge, Network
 from forestplan.pictures.program_rounds import is_own, least_wires, rounds_of
-from forestplan.pictures.watch_page import MOST_ENTRIES, Run, Steps, draw, look_of, run_of_text
+from forestplan.pictures.watch_page import (
+    MOST_ENTRIES,
+    Run,
+    Steps,
+    watch_html,
+    look_of,
+    run_of_text,
+)
 from forestplan.schedules.policies import Policy
 from forestplan.schedules.reacting_stepwise import ReactingStepwise
 from forestplan.schedules.rules import OF_LINKS, OF_SCHEDULES
@@ -160,7 +167,7 @@ def run_page(call: RunPageCall, session: Session, _tell: Tell) -> str:
     """The same of a run, as the command `picture watch` draws it."""
     network = network_asked(call, MOST_RUN)
     program = program_asked(call, network, session)
-    return draw([run_of_text("the run", call.transcript, network, program=program)])
+    return watch_html([run_of_text("the run", call.transcript, network, program=program)])
 
 
 def singled_out(call: RunCall, network: Network) -> str | None:

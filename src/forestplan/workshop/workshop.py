@@ -58,7 +58,7 @@ def run(options: Namespace, cases: list[Case]) -> int:
         print(json.dumps(as_json(options, cases, shown, seconds)), flush=True)
     else:
         print("\n".join(report(cases, shown, seconds)), flush=True)
-    if options.picture and (why := draw(case, options.picture, options.program)):
+    if options.picture and (why := draw_wrong_run(case, options.picture, options.program)):
         print(f"workshop: there is no picture: {why}", file=sys.stderr)
     return 1 if shown else 0
 
@@ -89,7 +89,7 @@ def keep(case: Case, folder: str, program: str) -> None:
             file.write(text)
 
 
-def draw(case: Case, file: str, program: str) -> str | None:
+def draw_wrong_run(case: Case, file: str, program: str) -> str | None:
     """Draws a run without a clock, up to what is wrong; returns what went wrong with that."""
     found = case.finding
     last = found.pulse if found else 3
