@@ -58,7 +58,7 @@ MOST = 2000
 
 def by_program(network, name, *arguments):
     """The channel of each node by a program, in whose lines it is the last word."""
-    rows = proved_programs.text_of(name, arguments, plain_text(network).encode()).splitlines()
+    rows = proved_programs.output_of(name, arguments, plain_text(network).encode()).splitlines()
     return {v: int(row.split()[-1]) for v, row in zip(network.vertices, rows[-network.nodes :])}
 
 

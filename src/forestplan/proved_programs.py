@@ -57,7 +57,7 @@ def called(name: str, arguments: Iterable[str], data: bytes) -> subprocess.Compl
         raise Fault(Code.CANT_BE_RUN, name=name, why=why.strerror) from None
 
 
-def text_of(name: str, arguments: Iterable[str], data: bytes) -> str:
+def output_of(name: str, arguments: Iterable[str], data: bytes) -> str:
     """What a program writes of a text; what it says besides goes on to standard error, or into `Refused`."""
     done = called(name, arguments, data)
     said = done.stderr.decode("utf-8", "replace")

@@ -56,7 +56,7 @@ class Marks(Case):
     def drawn(self) -> dict[str, list[list[dict]]]:
         """What the page's module draws."""
         need(self, "node")
-        for name, code in (("hues", pages.hues()), ("marks", pages.text_of("marks.js"))):
+        for name, code in (("hues", pages.hues()), ("marks", pages.page_file_text("marks.js"))):
             self.file(f"{name}.mjs", code.replace('"./hues.js"', '"./hues.mjs"'))
         numbers = [str(one) for one in NUMBERS]
         asked = {"r": RADIUS, "channels": CHANNELS, "colours": list(COLOURS), "numbers": numbers}

@@ -3,7 +3,7 @@ decides a result. test_plain_networks.py has the bytes of `plan`, whatever the o
 import functools
 import itertools
 
-from forestplan.definitions.colours import plan_text, text_of
+from forestplan.definitions.colours import plan_text, joined_lines
 from forestplan.networks.network_text import network_of
 from tests.cases import Case, called, text
 from tests.commands import TRIANGLE as THREE
@@ -73,7 +73,7 @@ class Plans(Case):
         ):
             program, net = program_of(asked), network_of(TRIANGLE)
             whole = Run(net, capacity, program)
-            states = text_of(
+            states = joined_lines(
                 f"node {v} pulse {program.last_pulse(net)} {ended(net, v, node.simulated.result())}"
                 for v, node in whole.player.state.nodes.items()
             )

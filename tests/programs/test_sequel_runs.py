@@ -8,7 +8,7 @@ that go on after the colouring.
 import itertools
 import re
 
-from forestplan.definitions.colours import colours, text_of
+from forestplan.definitions.colours import colours, joined_lines
 from forestplan.definitions.program import synchronous_run
 from forestplan.networks.network_text import network_of
 from forestplan.pictures.program_rounds import rounds_of
@@ -57,7 +57,7 @@ class SequelRuns(Case):
             plan = {v: colour + 1 for v, colour in colours(net).items()}
             for asked in PLAYED:
                 program, name = program_of(asked), f"{asked} on network {k}"
-                wanted = text_of(rounds_of(net, program).lines())
+                wanted = joined_lines(rounds_of(net, program).lines())
                 self.same(f"rounds of {name}", play("rounds", asked, data=data), (0, wanted, b""))
                 nodes = synchronous_run(net, program)
                 said = (
@@ -72,4 +72,6 @@ class SequelRuns(Case):
                 ]
                 for command, *arguments in (("alone",), ("ends",), next(threads), next(threads)):
                     done = play(command, asked, *arguments, data=data)
-                    self.same(f"{command} of {name} {arguments}", done, (0, text_of(ends), b""))
+                    self.same(
+                        f"{command} of {name} {arguments}", done, (0, joined_lines(ends), b"")
+                    )

@@ -12,7 +12,7 @@ from forestplan.wording import as_text
 Colours = dict[int, int]
 
 
-def text_of(lines: Iterable[str]) -> bytes:
+def joined_lines(lines: Iterable[str]) -> bytes:
     """The lines as a text, each with a line feed."""
     return as_text(lines).encode()
 
@@ -26,7 +26,7 @@ def forests_text(net: Network) -> bytes:
     1 1 3
     """
     triples = sorted((f, v, w) for v, ws in net.higher.items() for f, w in enumerate(ws))
-    return text_of(
+    return joined_lines(
         [f"forests {net.nodes} {net.forest_count}"] + [f"{f} {v} {w}" for f, v, w in triples]
     )
 
@@ -39,7 +39,7 @@ def plan_text(net: Network) -> bytes:
     1 1
     2 2
     """
-    return text_of(["plan"] + [f"{v} {c + 1}" for v, c in sorted(colours(net).items())])
+    return joined_lines(["plan"] + [f"{v} {c + 1}" for v, c in sorted(colours(net).items())])
 
 
 def at_parent(net: Network, f: int, c: Colours, v: int) -> int | None:

@@ -7,7 +7,7 @@ from dataclasses import dataclass, field
 from functools import cached_property
 from operator import itemgetter
 
-from forestplan.definitions.colours import Colours, text_of
+from forestplan.definitions.colours import Colours, joined_lines
 from forestplan.definitions.nodes import Colouring, last_pulse
 from forestplan.definitions.program import Slot, pulses_of
 from forestplan.fault_codes import Code
@@ -28,7 +28,7 @@ def rounds_text(net: Network) -> bytes:
     >>> rounds_text(Network(2, [(1, 2)])).splitlines()[:3]
     [b'rounds 1 2 1 1 18', b'pulse 0 greet', b'1 put 2 payload 0 hello 1']
     """
-    return text_of(Rounds(net).lines())
+    return joined_lines(Rounds(net).lines())
 
 
 def head_of(net: Network) -> str:

@@ -24,7 +24,7 @@ from forestplan.networks.plan_text import rows_of
 from forestplan.networks.reading import form_read, listed_of, made_of
 from forestplan.networks.sources import network_at, network_bytes, path_of
 from forestplan.networks.tables import MOST_DIGITS
-from forestplan.networks.texts import text_of
+from forestplan.networks.texts import dimacs_text
 from forestplan.parsers import source_of
 from forestplan.wording import as_text, one_line
 
@@ -56,7 +56,9 @@ def made(given: Namespace) -> str:
         network = kind.make(**chosen)
     except Fault as why:
         given.refuse(str(why))
-    return text_of(network, [f"Made by forestlab network {given.command} {' '.join(arguments)}"])
+    return dimacs_text(
+        network, [f"Made by forestlab network {given.command} {' '.join(arguments)}"]
+    )
 
 
 def was_read(given: Namespace) -> str:
@@ -87,9 +89,9 @@ def numbered_text(given: Namespace, network: Network, head: Iterable[str] = ()) 
     """The text of a network; the nodes of a large one are numbered near each other, unless their order is kept."""
     near = network if given.keep_order else near_each_other(network)
     if near is network:
-        return text_of(network, head)
+        return dimacs_text(network, head)
     say(f"{NEAR} (--keep-order leaves the numbers)")
-    return text_of(near, [*head, NEAR.capitalize()])
+    return dimacs_text(near, [*head, NEAR.capitalize()])
 
 
 def refuse_words(given: Namespace) -> None:

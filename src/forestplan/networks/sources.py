@@ -9,7 +9,7 @@ from forestplan.folders import TOP
 from forestplan.network import Network
 from forestplan.networks.kinds import KINDS
 from forestplan.networks.network_text import network_of
-from forestplan.networks.texts import text_of
+from forestplan.networks.texts import dimacs_text
 
 # Why no file of a network is longer than `MOST_BYTES`.
 TOO_LONG = "and no network within the limits is so long"
@@ -62,7 +62,7 @@ def network_bytes(name: str) -> bytes:
     found = sizes_of(name)
     if found:
         kind, sizes = found
-        return text_of(KINDS[kind].make(*sizes)).encode()
+        return dimacs_text(KINDS[kind].make(*sizes)).encode()
     if not MADE.fullmatch(name):
         raise Fault(Code.NO_FILE, InText(text_name(name)))
     made = [

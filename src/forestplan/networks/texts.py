@@ -34,7 +34,7 @@ def plain_text(network: Network) -> str:
     return as_text(lines)
 
 
-def text_of(network: Network, head: Iterable[str] = ()) -> str:
+def dimacs_text(network: Network, head: Iterable[str] = ()) -> str:
     """The same after the comment lines: those of `head`, places and names.
 
     >>> print(text_of(Network(1, [], names={1: "Ulm"}), ["Two sites"]), end="")

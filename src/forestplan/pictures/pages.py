@@ -133,7 +133,7 @@ def page_sides(
     return [spots[v].side for v in places]
 
 
-def text_of(name: str) -> str:
+def page_file_text(name: str) -> str:
     with open(os.path.join(FOLDER, name), encoding="utf-8") as file:
         return file.read()
 
@@ -143,7 +143,7 @@ def joined(main: str) -> str:
     place, and comments: what is said to a reader has lines of its own, and types are in `/** .. */` on one line.
     """
     text = "".join(
-        [hues(), *(text_of(f"{name}.js") for name in (*MODULES, *MORE.get(main, ()), main))]
+        [hues(), *(page_file_text(f"{name}.js") for name in (*MODULES, *MORE.get(main, ()), main))]
     )
     text = re.sub(r"(?m)^export |^ *//.*$|/\*\*.*?\*/ ?", "", text)
     text = re.sub(r"(?ms)^import .*?;$", "", text)
@@ -156,11 +156,11 @@ def page(template: str, main: str, data: object, **texts: str) -> str:
     json_text = json.dumps(data, separators=(",", ":"), ensure_ascii=False, default=as_object)
     given = {name.upper(): escaped(text) for name, text in texts.items()}
     return filled(
-        text_of("frame.html").replace("@BODY@", text_of(template)),
+        page_file_text("frame.html").replace("@BODY@", page_file_text(template)),
         # JSON that can stand in a script.
         DATA=json_text.replace("<", "\\u003c"),
         SCRIPT=joined(main),
-        STYLE=re.sub(r"/\*.*?\*/|\n", "", text_of("page.css")),
+        STYLE=re.sub(r"/\*.*?\*/|\n", "", page_file_text("page.css")),
         **given,
     )
 

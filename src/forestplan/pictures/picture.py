@@ -460,7 +460,7 @@ def note(what: str) -> None:
 def plan_text(network: Network, network_text: bytes) -> str:
     """The plan of the proved program; where that isn't built, of the definitions, which is said."""
     if folders.built("forestplan"):
-        return proved_programs.text_of("forestplan", ["plain"], network_text)
+        return proved_programs.output_of("forestplan", ["plain"], network_text)
     note(
         "forestplan isn't built, so the plan is that of the definitions in Python, which no proof covers"
     )
@@ -477,9 +477,9 @@ def run_text(kind: str, network: Network, network_text: bytes, program: Program)
     if is_own(program):
         return text_of_run(network.nodes, played(network, program=program), program)
     if program == COLOURING:
-        return proved_programs.text_of("forestplan", ["transcript"], network_text)
+        return proved_programs.output_of("forestplan", ["transcript"], network_text)
     arguments = ["run", "--transcript", *program_words(program)]
-    return proved_programs.text_of("forestplay", arguments, network_text)
+    return proved_programs.output_of("forestplay", arguments, network_text)
 
 
 def reacting_run(given: Namespace, network: Network, program: Reacting) -> str:

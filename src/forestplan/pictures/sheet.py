@@ -18,7 +18,7 @@ from forestplan.networks.random_networks import alike_edges
 from forestplan.networks.texts import plain_text
 from forestplan.parsers import Parser, add_output, add_seed, count, parser_of
 from forestplan.pictures.map_picture import EDGE, Vertex, draw_map
-from forestplan.pictures.pages import filled, text_of
+from forestplan.pictures.pages import filled, page_file_text
 from forestplan.pictures.svg import Svg, escaped
 
 LESSONS = (1, 2, 3, 4, 5)
@@ -244,7 +244,7 @@ def sheets_html(seed: str, count: int, answers: bool, lessons: Collection[int]) 
     names = [seed] if count == 1 else [f"{seed}-{number}" for number in range(1, count + 1)]
     sheets = "\n".join(Sheet(name, answers).text(lessons) for name in names)
     what = "Answers to sheets" if answers else "Sheets"
-    return filled(text_of("sheet.html"), TITLE=f"{what} {escaped(seed)}", SHEETS=sheets)
+    return filled(page_file_text("sheet.html"), TITLE=f"{what} {escaped(seed)}", SHEETS=sheets)
 
 
 def command_line() -> Parser:

@@ -17,7 +17,7 @@ from forestplan.networks.kinds import KINDS
 from forestplan.networks.network_text import read_network, stem
 from forestplan.networks.options import add_form, add_stated, stated_by
 from forestplan.networks.reading import read_any
-from forestplan.networks.texts import text_of
+from forestplan.networks.texts import dimacs_text
 from forestplan.pictures.page_data import Net
 from forestplan.pictures.pages import net_at, net_of, plain_nodes
 from forestplan.pictures.places import places_of
@@ -207,7 +207,7 @@ def make(call: MakeCall, session: Session, _tell: Tell) -> Net:
         raise Fault(Code.TOO_MANY_TO_MAKE, most=MOST_DRAWN)
     seed = [whole_number(call.seed, "seed")] if KINDS[kind].is_by_chance else []
     more: list[float] = [REACH, *seed] if kind == "disk" else [*seed]
-    network = read_network(text_of(KINDS[kind].make(*sizes, *more)), kind)
+    network = read_network(dimacs_text(KINDS[kind].make(*sizes, *more)), kind)
     network.name = "-".join(map(str, [kind, *sizes, *more]))
     network.places = by_shape(kind, *sizes) or network.places
     return shown(network)

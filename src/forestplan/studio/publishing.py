@@ -78,7 +78,7 @@ def index_page() -> str:
     """The studio's page with its style in it, and one script."""
     with open(os.path.join(OWN, "page.html"), encoding="utf-8") as file:
         text = file.read()
-    style = re.sub(r"/\*.*?\*/|\n", "", pages.text_of("page.css"))
+    style = re.sub(r"/\*.*?\*/|\n", "", pages.page_file_text("page.css"))
     text = re.sub(r'<link rel="modulepreload"[^>]*>\n?', "", text)
     text = text.replace('<link rel="stylesheet" href="page.css">', f"<style>{style}</style>")
     text = text.replace('<script type="module" src="studio.js">', '<script defer src="studio.js">')

@@ -179,7 +179,7 @@ def replayed(given: Namespace) -> str:
         raise Fault(Code.NO_PROVED_PROGRAM, name=program.name)
     made, _ = whole_run(net, text, program)
     # The network may not end in a line feed.
-    return proved_programs.text_of(
+    return proved_programs.output_of(
         "forestplay", ["replay", *program_words(program)], network + b"\n" + in_order(made, text)
     )
 

@@ -41,7 +41,7 @@ def memory_of(running: Iterable[Running]) -> int:
     return own + sum(files.values())
 
 
-def text_of(number: int, name: str) -> bytes:
+def process_file(number: int, name: str) -> bytes:
     """A file of a process in /proc; nothing if it has ended meanwhile. A long list of mappings takes the system's
     memory, and hides what comes after it."""
     try:
@@ -59,7 +59,7 @@ def text_of(number: int, name: str) -> bytes:
 
 def shared(number: int) -> int:
     """The bytes of a process's memory that it may share, as far as it has touched them."""
-    found = SHARED.search(text_of(number, "status"))
+    found = SHARED.search(process_file(number, "status"))
     return 1024 * int(found[1]) if found else 0
 
 
@@ -83,7 +83,7 @@ def size_of(file: os.stat_result) -> int:
 
 def mapped(number: int) -> Iterator[tuple[File, int]]:
     """The memory that a process may share, each with its whole size: what nobody has touched lately is there, too."""
-    for found in MAPPED.finditer(text_of(number, "maps")):
+    for found in MAPPED.finditer(process_file(number, "maps")):
         if found[7].startswith(UNNAMED):
             begin, end, place, major, minor = (int(word, 16) for word in found.groups()[:5])
             yield (os.makedev(major, minor), int(found[6])), place + end - begin
