@@ -21,7 +21,7 @@ from forestplan.studio.networks import opened_by
 from forestplan.studio.session import Session
 from forestplan.transcripts import transcript
 from forestplan.workshop.findings import NoAnswer
-from forestplan.workshop.protocol import END, fields_of, forms_of, lines_of
+from forestplan.workshop.protocol import END, answer_fields, forms_of, lines_of
 from forestplan.workshop.submissions import said_command
 from tests import TOP
 
@@ -156,7 +156,7 @@ def answer(arguments: list[str]) -> int:
     try:
         end = END.search(got)
         for line in lines_of(got[: end.start()] if end else got):
-            fields_of(line, forms_of(arguments[0], "colouring"), 2)
+            answer_fields(line, forms_of(arguments[0], "colouring"), 2)
     except NoAnswer:
         return 1
     return 0

@@ -17,7 +17,7 @@ from forestplan.wording import duration
 MOMENTS = chain((10, 30, 60, 120, 300, 600, 1200), count(1800, 1800))
 
 
-def fields_of(process: int) -> list[str] | None:
+def process_fields(process: int) -> list[str] | None:
     """What the system says of a process after its name, or None once it has ended."""
     try:
         with open(f"/proc/{process}/stat", encoding="utf-8", errors="replace") as file:
@@ -50,10 +50,10 @@ def main(arguments: list[str]) -> int:
     start = time.monotonic()
     reckons = None
     for moment in MOMENTS:
-        while fields_of(process) and time.monotonic() - start < moment:
+        while process_fields(process) and time.monotonic() - start < moment:
             time.sleep(0.5)
         reckons = about(process, command) if reckons is None else reckons
-        fields = fields_of(process)
+        fields = process_fields(process)
         if fields is None:
             return 0
         took = duration(time.monotonic() - start)

@@ -12,7 +12,6 @@ from tests.cases import Case
 SEVERAL = {
     "main": 14,
     "command_line": 11,
-    "fields_of": 5,
     "Rounds": 4,
     "listed": 4,
     "run": 4,

@@ -10,7 +10,7 @@ from forestplan.definitions.nodes import COLOURING
 from forestplan.definitions.programs import PROGRAMS
 from forestplan.studio import limits, runs
 from forestplan.studio.calls import CALLS
-from forestplan.studio.fields import fields_of, object_of
+from forestplan.studio.fields import call_fields, object_of
 from forestplan.studio.messages import RunCall
 from forestplan.studio.session import Session
 from tests import TOP
@@ -182,7 +182,7 @@ class Calls(FilesCase):
         for name, asked in GOOD:
             fields[name] |= set(asked)
             self.is_no_fault(f"{name} {asked}", self.outcome(name, text_of(asked)))
-        wanted = {name: set(fields_of(call.asked)) for name, call in CALLS.items()}
+        wanted = {name: set(call_fields(call.asked)) for name, call in CALLS.items()}
         self.same("all fields", fields, wanted)
 
     def test_other_programs(self):
@@ -211,7 +211,7 @@ class Calls(FilesCase):
                 less = {other: value for other, value in asked.items() if other != field}
                 found = self.outcome(name, text_of(less))
                 row = f"{name} without {field}"
-                if fields_of(CALLS[name].asked)[field].may_lack:
+                if call_fields(CALLS[name].asked)[field].may_lack:
                     self.is_no_fault(row, found)
                 else:
                     self.names_it(row, field, found)
@@ -236,7 +236,7 @@ class Calls(FilesCase):
                 for value in VALUES:
                     row = f"{name} {field}={value!a}"
                     found = self.outcome(name, text_of(asked | {field: value}))
-                    may_lack = value is None and fields_of(CALLS[name].asked)[field].may_lack
+                    may_lack = value is None and call_fields(CALLS[name].asked)[field].may_lack
                     if type(value) in types or may_lack:
                         self.is_no_fault(row, found)
                     else:

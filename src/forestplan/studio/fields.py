@@ -123,7 +123,7 @@ def parser_in(metadata: object) -> Parse:
 
 
 @cache
-def fields_of(kind: type) -> dict[str, Field]:
+def call_fields(kind: type) -> dict[str, Field]:
     """The fields of a kind of call, by their names."""
     hints = get_type_hints(kind, include_extras=True)
     return {
@@ -136,7 +136,7 @@ def parsed_call(kind: type[Asked], body: Mapping[str, object]) -> Asked:
     """The call of this kind that a page has sent, or a refusal that names the first field that isn't as it has to
     be."""
     of: type = kind
-    known = fields_of(of)
+    known = call_fields(of)
     for name in body:
         if name not in known:
             raise Fault(Code.NO_FIELD, name=shown(name), known=", ".join(known) or "none")

@@ -27,7 +27,7 @@ class NoEntry(Fault):
     """Why a line isn't an entry."""
 
 
-def fields_of(line: bytes) -> list[bytes]:
+def fields_in_bytes(line: bytes) -> list[bytes]:
     """The fields of a line: blanks and tabs part them, and a carriage return at the end is dropped.
 
     >>> fields_of(b"1  pulse\\t3\\r")

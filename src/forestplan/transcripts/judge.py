@@ -14,7 +14,7 @@ from forestplan.definitions.program import Program
 from forestplan.definitions.reacting_program import AnyProgram, Reacting, results_in, start_of
 from forestplan.fault_codes import Code
 from forestplan.network import Network
-from forestplan.transcripts.fields import fields_of
+from forestplan.transcripts.fields import fields_in_bytes
 from forestplan.transcripts.reading import Head, WrongEntry, read_to_fault
 from forestplan.transcripts.stamps import Clock, check_whole, refusal, unfinished
 
@@ -169,5 +169,5 @@ def verdict(net: Network, entries: list[Entry], head: Head) -> str:
 def in_order(made: list[int], text: bytes) -> bytes:
     """The transcript with the entries of these lines in this order, as bytes."""
     lines = text.split(b"\n")
-    head = next(line for line in lines if fields_of(line))
+    head = next(line for line in lines if fields_in_bytes(line))
     return b"".join(line + b"\n" for line in [head] + [lines[line - 1] for line in made])

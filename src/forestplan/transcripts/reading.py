@@ -9,7 +9,7 @@ from forestplan.sentences import WORDS, sentence_of, sentence_of_entry
 from forestplan.transcripts.fields import (
     COLOURING,
     NoEntry,
-    fields_of,
+    fields_in_bytes,
     name_in_texts,
     number,
     field_words,
@@ -103,7 +103,7 @@ def read_to_fault(
     program = program or head.program or COLOURING
     for line, raw in enumerate(lines[head.line :], head.line + 1):
         try:
-            if fields := fields_of(raw):
+            if fields := fields_in_bytes(raw):
                 entries.append(entry_of(line, fields, program, head))
         except NoEntry as why:
             code = Code.NO_ENTRY_AT_END if line == len(lines) else Code.NO_ENTRY
@@ -131,7 +131,7 @@ def head_of(lines: list[bytes], program: str | None) -> Head:
 
 def first_with_fields(lines: list[bytes]) -> tuple[int, list[bytes]]:
     """The first line that has a field, by its number, and its fields; line 1 if there is none."""
-    for line, fields in enumerate(map(fields_of, lines), 1):
+    for line, fields in enumerate(map(fields_in_bytes, lines), 1):
         if fields:
             return line, fields
     return 1, [b""]

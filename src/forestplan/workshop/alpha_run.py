@@ -12,7 +12,7 @@ from forestplan.transcripts.proved_judge import verdict_on_run
 from forestplan.wording import as_text
 from forestplan.workshop.findings import NoAnswer
 from forestplan.workshop.nodes import PATIENCE, Nodes
-from forestplan.workshop.protocol import fields_of, forms_of, own_data, shown, wire_of
+from forestplan.workshop.protocol import answer_fields, forms_of, own_data, shown, wire_of
 from forestplan.workshop.right_rounds import RightRounds, words_of
 
 OWN_DATA = "its own data"
@@ -94,7 +94,7 @@ class AlphaRun:
     def answered(self, v: int, line: str) -> None:
         program = self.rounds.program
         neighbours = self.network.neighbours[v]
-        match fields_of(line, forms_of("alpha", program), len(neighbours)):
+        match answer_fields(line, forms_of("alpha", program), len(neighbours)):
             case "pulse", pulse:
                 self.pulses[v] = int(pulse)
                 self.write(v, f"pulse {pulse}")

@@ -12,7 +12,7 @@ from forestplan.networks.verdicts import parsed_verdict
 from forestplan.wording import in_words
 from forestplan.workshop.findings import Finding, NoAnswer, first_of, kind_of, listed
 from forestplan.workshop.nodes import PATIENCE, Answer, Nodes
-from forestplan.workshop.protocol import COLOURING, fields_of, forms_of, own_data, shown
+from forestplan.workshop.protocol import COLOURING, answer_fields, forms_of, own_data, shown
 from forestplan.workshop.right_rounds import RightRounds, Rounds, ask
 from forestplan.workshop.why import Why
 
@@ -109,7 +109,7 @@ class ClockRun(Rounds, ABC):
         puts = self.puts[-1][v] = {}
         forms = forms_of(self.assignment, self.program)
         for line in answer:
-            match fields_of(line, forms, len(self.ports[v])):
+            match answer_fields(line, forms, len(self.ports[v])):
                 case "put", port, *payload:
                     if int(port) in puts:
                         raise NoAnswer(

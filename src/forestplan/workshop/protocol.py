@@ -89,7 +89,7 @@ def pattern(form: str) -> re.Pattern[str]:
     )
 
 
-def fields_of(line: str, forms: list[str], degree: int) -> tuple[str, ...]:
+def answer_fields(line: str, forms: list[str], degree: int) -> tuple[str, ...]:
     """The fields of a line that has one of these forms, numbers without zeros before them; a port by which something
     is put is one of the node."""
     text = " ".join(line.split())
