@@ -12,7 +12,6 @@ from tests.cases import Case
 SEVERAL = {
     "main": 14,
     "command_line": 11,
-    "Rounds": 4,
     "listed": 4,
     "run": 4,
     "shown": 4,

@@ -16,7 +16,7 @@ import re
 from forestplan.definitions.colours import colours
 from forestplan.definitions.events import Event, Kind, Message
 from forestplan.definitions.nodes import DROPPED, alpha_start, last_pulse, text_of_wire
-from forestplan.definitions.rounds import Rounds
+from forestplan.definitions.rounds import ColouringRounds
 from forestplan.networks.network_text import network_of
 from forestplan.studio.lessons import lessons
 from tests import TOP
@@ -75,7 +75,7 @@ def greatest_colours(digits):
 def forest_table(net, f):
     """The colours in a forest, pulse by pulse; those that a drop has changed are bold."""
     joined = [v for v in net.vertices if net.neighbours[v]]
-    lists = Rounds(net).colours[f]
+    lists = ColouringRounds(net).colours[f]
     rows = [[str(v) for v in joined], [str(net.parent(f, v) or "-") for v in joined]]
     for p, colours_then in lists.items():
         row = {v: str(colours_then[v]) for v in joined}

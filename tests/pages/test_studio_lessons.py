@@ -12,7 +12,7 @@ from unittest import mock
 from forestplan.definitions.colours import bit
 from forestplan.definitions.programs import any_program_at, program_at
 from forestplan.definitions.reacting_program import Reacting
-from forestplan.definitions.rounds import Rounds
+from forestplan.definitions.rounds import ColouringRounds
 from forestplan.faults import Fault
 from forestplan.network import Network
 from forestplan.networks.network_text import read_network
@@ -113,7 +113,7 @@ def verdict(lesson: int, name: str, **asked: object) -> ExerciseJudged:
 def answers_of_rounds() -> dict[tuple[int, str], int]:
     """The right answers of the lessons on the colouring, worked out from the definitions."""
     ring, star = example("four_cycle"), example("star")
-    higher = {v: w for (v, f), w in Rounds(ring).parents.items() if f == 0}
+    higher = {v: w for (v, f), w in ColouringRounds(ring).parents.items() if f == 0}
     at = 1
     while at in higher:
         at = higher[at]
@@ -124,7 +124,7 @@ def answers_of_rounds() -> dict[tuple[int, str], int]:
         for other in range(6)
         if own != other
     }
-    merge = [v for v, p in Rounds(example("triangle")).turns.items() if p == 22]
+    merge = [v for v, p in ColouringRounds(example("triangle")).turns.items() if p == 22]
     player = Stepwise(example("path"), program_at("colouring"), ())
     player.by_chance(10_000, "7", (), ())
     return {
@@ -135,7 +135,7 @@ def answers_of_rounds() -> dict[tuple[int, str], int]:
         (3, "six"): max(nexts),
         (4, "first"): merge[0][1],
         (4, "identifiers"): 2,
-        (4, "pulse"): Rounds(ring).turns[1, 4],
+        (4, "pulse"): ColouringRounds(ring).turns[1, 4],
         (5, "neighbours"): 1,
         (5, "ends"): 5,
         (6, "events"): len(player.chosen),

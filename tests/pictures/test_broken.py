@@ -1,7 +1,7 @@
 """Pictures of rounds without a rule: the words beside what `forestlab explore` prints, what is red in a merge beside
 the rounds of ruled_rounds.py (tests/programs/test_schedules.py compares these with nodes that hear and send), and in
 the ends of other programs by hand. What the smallest networks show is in the stored pictures."""
-from forestplan.definitions.rounds import Rounds
+from forestplan.definitions.rounds import ColouringRounds
 from forestplan.networks.network_text import network_of
 from forestplan.schedules import rules
 from forestplan.schedules.ruled_rounds import RuledRounds
@@ -55,7 +55,7 @@ class Broken(PictureCase):
         net, clash = rounds.net, rounds.clash
         _, *groups = self.picture_of(*options)
         if clash.pulse is None:
-            merged = rounds.merged[clash.forest + 1], Rounds(net).merged[clash.forest + 1]
+            merged = rounds.merged[clash.forest + 1], ColouringRounds(net).merged[clash.forest + 1]
             for group, channels in zip(groups, merged):
                 # The channels after the merge are the second half.
                 circles = [*map(centre, marks(group, "channel"))][net.nodes :]

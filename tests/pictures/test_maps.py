@@ -4,7 +4,7 @@ import re
 
 from forestplan.definitions.colours import colours
 from forestplan.definitions.nodes import last_pulse
-from forestplan.definitions.rounds import FIRST_MERGE, Rounds, merge_step
+from forestplan.definitions.rounds import FIRST_MERGE, ColouringRounds, merge_step
 from forestplan.networks.network_text import network_of
 from forestplan.networks.sources import network_bytes
 from tests.cases import example, examples
@@ -127,7 +127,9 @@ class Maps(PictureCase):
             self.rounds_rows("queen5_5", QUEEN, forests, *options)
 
     def rounds_rows(self, name, network, drawn, *options):
-        facts, root = Rounds(network_of(network)), parsed(self.drawn("rounds", network, *options))
+        facts, root = ColouringRounds(network_of(network)), parsed(
+            self.drawn("rounds", network, *options)
+        )
         net = facts.network
         row = self.rows_of(f"rounds of {name}")
         row("its forests", titles(root, "colours"), [f"forest {f}" for f in drawn])
@@ -148,7 +150,7 @@ class Maps(PictureCase):
             self.player_rows(name, network)
 
     def player_rows(self, name, network):
-        facts, data = Rounds(network_of(network)), data_of(self.drawn("player", network))
+        facts, data = ColouringRounds(network_of(network)), data_of(self.drawn("player", network))
         net, film, last = facts.network, data["film"], last_pulse(facts.network)
         row = self.rows_of(f"player of {name}")
         row("its last pulse", film["last"], last)

@@ -3,7 +3,7 @@ each entry is in the stored page."""
 from unittest import mock
 
 from forestplan.definitions.nodes import last_pulse
-from forestplan.definitions.rounds import Rounds
+from forestplan.definitions.rounds import ColouringRounds
 from forestplan.networks.network_text import network_of
 from forestplan.pictures import watch_page
 from forestplan.pictures.watch_page import Run, Steps, steps_of_text
@@ -58,7 +58,7 @@ class Watch(PictureCase):
     def test_channels(self):
         """A node has no channel before its turn in the first merge, and from then on that of the rounds."""
         for name in ("petersen", "triangle"):
-            rounds = Rounds(network_of(example(name)))
+            rounds = ColouringRounds(network_of(example(name)))
             wanted = {}
             for v in rounds.network.vertices:
                 channel = 0

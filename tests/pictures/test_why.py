@@ -5,7 +5,7 @@ the same if identifiers on which it is said not to depend change."""
 import random
 
 from forestplan.definitions.colours import three
-from forestplan.definitions.rounds import Rounds
+from forestplan.definitions.rounds import ColouringRounds
 from forestplan.network import Network
 from forestplan.networks.network_text import network_of
 from forestplan.pictures.why_picture import Cone
@@ -61,7 +61,7 @@ class Why(PictureCase):
 
     def test_drops(self):
         """Who drops a colour needs its own before the shift, and its parent's; nobody else does in these pulses."""
-        rounds = Rounds(network_of(example("drops")))
+        rounds = ColouringRounds(network_of(example("drops")))
         for (v, f), parent in rounds.parents.items():
             for p, dropped in ((8, 5), (10, 4), (12, 3)):
                 has_dropped = rounds.pulses[p - 1].colours[v, f] == dropped
@@ -82,7 +82,7 @@ class Why(PictureCase):
             source.shuffle(names)
             identifiers = dict(zip(vertices, names))
             net = Network(nodes, edges, identifiers)
-            rounds = Rounds(net)
+            rounds = ColouringRounds(net)
             for v, f in ((v, f) for v in vertices for f in range(net.forest_count)):
                 facts = Cone(rounds, v).behind(("colour", v, f, 12))
                 others = [w for w in vertices if ("identifier", w) not in facts]
@@ -98,7 +98,7 @@ class Why(PictureCase):
         network, root = example("petersen"), parsed(
             self.drawn("why", example("petersen"), "--vertex", 6)
         )
-        cone = Cone(Rounds(network_of(network)), 6)
+        cone = Cone(ColouringRounds(network_of(network)), 6)
         kept = sum(fact[0] != "identifier" for fact in cone.facts)
         drawn = 10 * len(cone.forests()) * (11 + 1)
         self.same("how many are faded", len(marks(root, "faded")), drawn - kept)

@@ -8,7 +8,7 @@ from forestplan.definitions.leader import LEADER
 from forestplan.definitions.nodes import Colouring
 from forestplan.definitions.matching import MATCHING
 from forestplan.definitions.program import Program, RoundsNode
-from forestplan.definitions.rounds import Rounds
+from forestplan.definitions.rounds import ColouringRounds
 from forestplan.network import Network
 from forestplan.schedules.alpha_space import AlphaSpace
 from forestplan.schedules.ruled_rounds import RuledRounds, RuledSequel
@@ -63,7 +63,7 @@ class Constructors(FilesCase):
             with self.assertRaisesRegex(AssertionError, "node 1 of 2 is asked"):
                 space.search()
         with unittest.mock.patch.object(Colouring, "greet", side_effect=AssertionError("greets")):
-            rounds = Rounds(EDGE)
+            rounds = ColouringRounds(EDGE)
             with self.assertRaisesRegex(AssertionError, "greets"):
                 rounds.merged[1]
         self.same("plan without rules", RuledRounds(EDGE, ()).plan, None)

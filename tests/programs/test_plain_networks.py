@@ -4,7 +4,7 @@ import itertools
 import random
 
 from forestplan.definitions.colours import first_colours, merge, plan_text, three
-from forestplan.definitions.rounds import LAST_COLOUR, Rounds
+from forestplan.definitions.rounds import LAST_COLOUR, ColouringRounds
 from forestplan.networks import kinds
 from forestplan.networks.kinds import KINDS
 from forestplan.networks.network_text import network_of
@@ -127,7 +127,7 @@ class Definitions(Case):
         forest."""
         for number, text in enumerate(networks_by_chance(60, 24), 1):
             net = network_of(text)
-            rounds, merged = Rounds(net), [first_colours(net)]
+            rounds, merged = ColouringRounds(net), [first_colours(net)]
             for f in range(net.forest_count):
                 merged.append(merge(net, f, merged[f]))
             threes = [three(net, f) for f in range(net.forest_count)]

@@ -9,7 +9,7 @@ from collections.abc import Iterator
 
 from forestplan.definitions.events import Kind, Message
 from forestplan.definitions.programs import PROGRAMS, program_at
-from forestplan.definitions.rounds import Rounds
+from forestplan.definitions.rounds import ColouringRounds
 from forestplan.networks.network_text import network_of
 from forestplan.pictures.watch_page import look_of
 from forestplan.schedules.rules import OF_SCHEDULES
@@ -163,7 +163,7 @@ class Calls(Case):
         """Of a node without a parent in a forest nothing is said of its parent; of the others who it is."""
         for name in ("triangle", "petersen"):
             text = examples()[name].decode()
-            rounds = Rounds(network_of(text.encode()))
+            rounds = ColouringRounds(network_of(text.encode()))
             for v, forest, pulse in itertools.product(
                 rounds.network.vertices, range(rounds.forests), (3, 6)
             ):

@@ -28,7 +28,7 @@ def rounds_text(net: Network) -> bytes:
     >>> rounds_text(Network(2, [(1, 2)])).splitlines()[:3]
     [b'rounds 1 2 1 1 18', b'pulse 0 greet', b'1 put 2 payload 0 hello 1']
     """
-    return joined_lines(Rounds(net).lines())
+    return joined_lines(ColouringRounds(net).lines())
 
 
 def head_of(net: Network) -> str:
@@ -106,7 +106,7 @@ class Pulse:
             yield f"{v} {text}"
 
 
-class Rounds:
+class ColouringRounds:
     """The synchronous run of the colouring, played once it is asked for: `pulses` are those from 0 to `last`.
     `parents[v, f]` is v's parent in forest f, and `forest_of[v, w]` the forest of an edge. `colours[f][p]` are the
     colours in forest f after pulse p, 2 to 12, and `merged[f]` the merged colours once the forests below f are merged;

@@ -9,7 +9,7 @@ from forestplan.networks.network_text import Reading
 from forestplan.wording import counted, duration
 
 if TYPE_CHECKING:
-    from forestplan.definitions.rounds import Rounds
+    from forestplan.definitions.rounds import ColouringRounds
 
 # The most nodes times pulses for which the rounds are worked out here, in some seconds.
 MOST_AT_ONCE = 300_000
@@ -55,13 +55,13 @@ class Run:
         return 2 * self.wires + self.network.nodes * self.last + 1
 
 
-def rounds_here(network: Network) -> "Rounds | None":
+def rounds_here(network: Network) -> "ColouringRounds | None":
     """The rounds by their definition; None in the folder of a class, which doesn't have it."""
     try:
-        from forestplan.definitions.rounds import Rounds
+        from forestplan.definitions.rounds import ColouringRounds
     except ImportError:
         return None
-    return Rounds(network)
+    return ColouringRounds(network)
 
 
 def most_payloads(network: Network) -> int:

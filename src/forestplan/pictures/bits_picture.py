@@ -1,6 +1,6 @@
 """The bit lens: one node above its parent, digit by digit, over the four bit steps."""
 from forestplan.definitions.nodes import bit_step
-from forestplan.definitions.rounds import Rounds
+from forestplan.definitions.rounds import ColouringRounds
 from forestplan.fault_codes import Code
 from forestplan.faults import Fault, InText
 from forestplan.pictures.marks import colour_square
@@ -15,7 +15,7 @@ LEFT, TOP, STEP = 150, 106, 84
 CELLS = ((80, 7), (40, 11), (8, 18), (0, 26))
 
 
-def child_asked(rounds: Rounds, forest: int, vertex: int | None) -> int:
+def child_asked(rounds: ColouringRounds, forest: int, vertex: int | None) -> int:
     """The vertex that is asked for, or else the first one that has a parent in a forest."""
     network = rounds.network
     children = [v for v in network.vertices if (v, forest) in rounds.parents]
@@ -28,7 +28,7 @@ def child_asked(rounds: Rounds, forest: int, vertex: int | None) -> int:
     return vertex
 
 
-def bits_svg(rounds: Rounds, forest: int = 0, vertex: int | None = None) -> str:
+def bits_svg(rounds: ColouringRounds, forest: int = 0, vertex: int | None = None) -> str:
     network = rounds.network
     rounds.asked_forests((forest, forest))
     vertex = child_asked(rounds, forest, vertex)

@@ -3,7 +3,7 @@ to node, round by round, and shows which channel each node has so far. It has no
 shows it as an image. A reader whose browser asks for less motion sees its end."""
 from collections.abc import Iterator, Mapping
 
-from forestplan.definitions.rounds import FIRST_MERGE, Pulse, Rounds
+from forestplan.definitions.rounds import FIRST_MERGE, Pulse, ColouringRounds
 from forestplan.fault_codes import Code
 from forestplan.faults import Fault, InText
 from forestplan.network import Network
@@ -27,7 +27,7 @@ class Film:
     """The rounds that are shown, which are those in which something is sent or chosen, and when each of them begins.
     After them comes the end, which is shown like one more round."""
 
-    def __init__(self, rounds: Rounds) -> None:
+    def __init__(self, rounds: ColouringRounds) -> None:
         self.rounds = rounds
         self.pulses = [pulse for pulse in rounds.pulses if pulse.puts or pulse.chosen]
         self.scenes = len(self.pulses) + 1
@@ -115,7 +115,7 @@ def intervals(values: list[int | None]) -> Iterator[tuple[int | None, int, int]]
             first = at
 
 
-def film_svg(rounds: Rounds) -> str:
+def film_svg(rounds: ColouringRounds) -> str:
     network = rounds.network
     messages = sum(len(pulse.puts) for pulse in rounds.pulses)
     if messages > MOST_MESSAGES:

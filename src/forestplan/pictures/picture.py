@@ -23,7 +23,7 @@ from forestplan.definitions.programs import (
     program_words,
 )
 from forestplan.definitions.reacting_program import Reacting
-from forestplan.definitions.rounds import Rounds
+from forestplan.definitions.rounds import ColouringRounds
 from forestplan.fault_codes import Code
 from forestplan.faults import Fault, InText, at_most
 from forestplan.files import MOST_OF_TRANSCRIPT, text_at, text_name, write
@@ -104,7 +104,7 @@ class Source:
         text = self.text("plan")
         return read_plan(text.text, text.name, self.network)
 
-    def rounds(self) -> Rounds | ProgramRounds:
+    def rounds(self) -> ColouringRounds | ProgramRounds:
         return rounds_of(self.network, self.program)
 
     def run(self, is_wrong_drawn: bool | None = False) -> Run:
@@ -119,7 +119,7 @@ class Source:
 
 def draw_rounds(of: Source, forests: tuple[int, int] | None, pulses: tuple[int, int] | None) -> str:
     rounds = of.rounds()
-    if isinstance(rounds, Rounds):
+    if isinstance(rounds, ColouringRounds):
         return rounds_picture.rounds_svg(rounds, forests)
     if forests:
         raise Fault(Code.NO_FORESTS, name=of.program.name)
@@ -128,14 +128,14 @@ def draw_rounds(of: Source, forests: tuple[int, int] | None, pulses: tuple[int, 
 
 def draw_bits(of: Source, forest: int | None, vertex: int | None) -> str:
     rounds = of.rounds()
-    if not isinstance(rounds, Rounds):
+    if not isinstance(rounds, ColouringRounds):
         raise Fault(Code.NO_FORESTS, name=of.program.name)
     return bits_picture.bits_svg(rounds, forest or 0, vertex)
 
 
 def draw_why(of: Source, vertex: int | None, in_words: bool | None) -> str:
     rounds = of.rounds()
-    if not isinstance(rounds, Rounds):
+    if not isinstance(rounds, ColouringRounds):
         raise Fault(Code.NO_CHANNELS_OF_PROGRAM, name=of.program.name)
     cone = why_picture.Cone(rounds, vertex)
     return why_picture.why_text(cone) if in_words else why_picture.why_svg(cone)

@@ -1,7 +1,7 @@
 """The player: one HTML page without any library, the network at each pulse, with a slider and a play button; of the
 colouring, or of another program. page/player.js draws it."""
 from forestplan.definitions.recolouring import recolouring
-from forestplan.definitions.rounds import Pulse, Rounds, SEED
+from forestplan.definitions.rounds import Pulse, ColouringRounds, SEED
 from forestplan.pictures.page_data import (
     RoundsFound,
     Numeral,
@@ -30,7 +30,7 @@ SAY = {
 }
 
 
-def player_html(rounds: Rounds | ProgramRounds) -> str:
+def player_html(rounds: ColouringRounds | ProgramRounds) -> str:
     name = f"{rounds.network.name}, pulse by pulse"
     return page(
         "alone.html",
@@ -41,9 +41,9 @@ def player_html(rounds: Rounds | ProgramRounds) -> str:
     )
 
 
-def film_of(rounds: Rounds | ProgramRounds) -> RoundsFound:
+def film_of(rounds: ColouringRounds | ProgramRounds) -> RoundsFound:
     """The rounds as the page plays them."""
-    if isinstance(rounds, Rounds):
+    if isinstance(rounds, ColouringRounds):
         return RoundsFound(
             last=rounds.last,
             forests=rounds.forests,
@@ -62,7 +62,7 @@ def film_of(rounds: Rounds | ProgramRounds) -> RoundsFound:
     )
 
 
-def pulse_of_colouring(rounds: Rounds, pulse: Pulse) -> PulseOfColouring:
+def pulse_of_colouring(rounds: ColouringRounds, pulse: Pulse) -> PulseOfColouring:
     title, said = caption(rounds, pulse.number)
     forests, colours = range(rounds.forests), None
     if pulse.colours:
@@ -103,7 +103,7 @@ def number(value: int) -> Numeral:
     return value if value < 2**53 else str(value)
 
 
-def caption(rounds: Rounds, number: int) -> tuple[str, str]:
+def caption(rounds: ColouringRounds, number: int) -> tuple[str, str]:
     """The title of a pulse, and a sentence of what is done in it."""
     pulse, forests = rounds.pulses[number], rounds.forests
     # The pulses 8, 10 and 12 drop the colours 5, 4 and 3.

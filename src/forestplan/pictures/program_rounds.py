@@ -7,7 +7,7 @@ from typing import ClassVar
 from forestplan.definitions.nodes import COLOURING
 from forestplan.definitions.own_program import check_repeats, what_is_wrong
 from forestplan.definitions.program import DrawnNode, Program, RoundsNode, synchronous_pulses
-from forestplan.definitions.rounds import Pulse, Rounds, puts_of
+from forestplan.definitions.rounds import Pulse, ColouringRounds, puts_of
 from forestplan.fault_codes import Code
 from forestplan.faults import Fault, InText
 from forestplan.network import Network
@@ -71,9 +71,9 @@ def drawn_after(
     }
 
 
-def rounds_of(network: Network, program: Program) -> Rounds | ProgramRounds:
+def rounds_of(network: Network, program: Program) -> ColouringRounds | ProgramRounds:
     """The rounds of any program."""
-    return Rounds(network) if program == COLOURING else program_rounds(network, program)
+    return ColouringRounds(network) if program == COLOURING else program_rounds(network, program)
 
 
 def least_wires(network: Network, program: Program) -> int:

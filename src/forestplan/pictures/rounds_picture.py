@@ -3,7 +3,7 @@ coloured, circles where channels are chosen."""
 from collections.abc import Callable
 from typing import TYPE_CHECKING
 
-from forestplan.definitions.rounds import LAST_COLOUR, Pulse, Rounds
+from forestplan.definitions.rounds import LAST_COLOUR, Pulse, ColouringRounds
 from forestplan.faults import at_most
 from forestplan.network import Network
 from forestplan.pictures.marks import alone_chip, bar_row, bars_width, channel_circle, colour_square
@@ -32,7 +32,7 @@ GROUPS = [
 MERGES = LEFT + 11 * COLUMN + 34
 
 
-def rounds_svg(rounds: Rounds, asked: tuple[int, int] | None = None) -> str:
+def rounds_svg(rounds: ColouringRounds, asked: tuple[int, int] | None = None) -> str:
     """The forests A to B that are asked for; else the first ones, as many as a slide has room for."""
     network = rounds.network
     forests = list(rounds.asked_forests(asked, max(1, USUAL_ROWS // network.nodes)))
@@ -48,7 +48,11 @@ def rounds_svg(rounds: Rounds, asked: tuple[int, int] | None = None) -> str:
 
 
 def draw_strips(
-    rounds: Rounds, forests: list[int], title: str, lines: list[str], cone: "Cone | None" = None
+    rounds: ColouringRounds,
+    forests: list[int],
+    title: str,
+    lines: list[str],
+    cone: "Cone | None" = None,
 ) -> str:
     """Forests under a title and lines; of a `cone` (why_picture.py), what isn't in it is faded."""
     network = rounds.network
@@ -69,7 +73,7 @@ def draw_strips(
     return svg.document()
 
 
-def left_out_of(rounds: Rounds, forests: list[int]) -> list[str]:
+def left_out_of(rounds: ColouringRounds, forests: list[int]) -> list[str]:
     """A line that says which forests are drawn, if not all are."""
     if len(forests) == rounds.forests:
         return []
@@ -79,7 +83,7 @@ def left_out_of(rounds: Rounds, forests: list[int]) -> list[str]:
     return [f"Here {shown} of 0 to {rounds.forests - 1}; draw others with --forest A..B."]
 
 
-def columns_of(rounds: Rounds, forests: list[int]) -> dict[int, list[Pulse]]:
+def columns_of(rounds: ColouringRounds, forests: list[int]) -> dict[int, list[Pulse]]:
     """The merge steps shown of each forest: all of them, or, if that are many, those at which some node chooses."""
     steps = {
         f: [pulse for pulse in rounds.pulses if pulse.step and pulse.step[0] == f] for f in forests
@@ -161,7 +165,7 @@ class Strip:
     def __init__(
         self,
         svg: Svg,
-        rounds: Rounds,
+        rounds: ColouringRounds,
         forest: int,
         top: float,
         steps: list[Pulse],

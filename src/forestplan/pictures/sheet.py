@@ -11,7 +11,7 @@ from typing import TypeVar
 from forestplan.definitions.colours import at_parent, colours, drop, shift
 from forestplan.definitions.events import Event
 from forestplan.definitions.nodes import alpha_start, last_pulse
-from forestplan.definitions.rounds import LAST_COLOUR, Rounds
+from forestplan.definitions.rounds import LAST_COLOUR, ColouringRounds
 from forestplan.files import write
 from forestplan.network import Network
 from forestplan.networks.random_networks import alike_edges
@@ -56,7 +56,7 @@ class Sheet:
         self.name, self.answers = name, answers
         self.source = random.Random(name)
         self.net = network_by(self.source)
-        self.rounds, self.vertices = Rounds(self.net), self.net.vertices
+        self.rounds, self.vertices = ColouringRounds(self.net), self.net.vertices
         self.edges = [*self.net.edges]
 
     def any_of(self, things: Sequence[Thing]) -> Thing:

@@ -7,7 +7,7 @@ free follows from nobody's having taken it before; and who is whose parent follo
 from collections.abc import Iterable, Iterator
 
 from forestplan.definitions.nodes import DROPPED
-from forestplan.definitions.rounds import LAST_COLOUR, Rounds, SEED
+from forestplan.definitions.rounds import LAST_COLOUR, ColouringRounds, SEED
 from forestplan.fault_codes import Code
 from forestplan.faults import Fault, at_most
 from forestplan.pictures.layout import distances
@@ -27,7 +27,7 @@ NOT_FOLLOWED = (
 class Cone:
     """The facts on which the channel of `vertex` depends, and the messages that carried them."""
 
-    def __init__(self, rounds: Rounds, vertex: int | None) -> None:
+    def __init__(self, rounds: ColouringRounds, vertex: int | None) -> None:
         self.rounds, self.network = rounds, rounds.network
         if vertex is None or vertex not in self.network.vertices:
             raise Fault(Code.NO_VERTEX_OF_NETWORK, name=self.network.name, vertex=vertex)

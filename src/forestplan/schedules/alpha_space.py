@@ -26,7 +26,7 @@ from forestplan.definitions.nodes import COLOURING, Colouring
 from forestplan.definitions.own_program import UnderWay
 from forestplan.definitions.program import Program
 from forestplan.network import Network
-from forestplan.schedules.ruled_node import Rounds, RuledNode, synchronous_rounds
+from forestplan.schedules.ruled_node import InboxRounds, RuledNode, synchronous_rounds
 from forestplan.schedules.space import REFUSED, Move, Progress, Space, State
 
 
@@ -49,7 +49,7 @@ class AlphaSpace(Space[RuledNode]):
     (13, 12, {1: 'channel 1'})
     """
 
-    rounds: Rounds
+    rounds: InboxRounds
 
     def __init__(
         self,

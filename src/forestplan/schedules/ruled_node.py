@@ -69,7 +69,7 @@ class RuledNode(AlphaNode, SearchedNode):
             case _:
                 super().on_wire(at, wire)
 
-    def fault_of_pulse(self, v: int, rounds: "Rounds") -> tuple[str | None, bool]:
+    def fault_of_pulse(self, v: int, rounds: "InboxRounds") -> tuple[str | None, bool]:
         """What is wrong with its next pulse, or None; and whether its program refuses that pulse."""
         pulse, inbox = self.pulse_number + 1, [port.present for port in self.ports]
         fault = rounds.fault(v, pulse, inbox)
@@ -138,7 +138,7 @@ def kept(function: Callable[[RoundsNode], Made], node: RoundsNode) -> Made:
 
 
 @dataclass(eq=False)
-class Rounds:
+class InboxRounds:
     """The synchronous run of a program: `inbox[v, p]` of each vertex and pulse from 1."""
 
     ports: dict[int, list[int]]
@@ -155,12 +155,12 @@ class Rounds:
         return None
 
 
-def synchronous_rounds(net: Network, program: Program = COLOURING) -> Rounds:
+def synchronous_rounds(net: Network, program: Program = COLOURING) -> InboxRounds:
     """The synchronous run of a program, played here."""
     inbox: dict[tuple[int, int], list[Slot]] = {}
     for p, _, inboxes, _ in synchronous_pulses(net, program):
         inbox |= {(v, p): slots for v, slots in inboxes.items()}
-    return Rounds(net.neighbours, inbox)
+    return InboxRounds(net.neighbours, inbox)
 
 
 def inbox_refused(node: RoundsNode, pulse: int, inbox: list[Slot]) -> bool:

@@ -16,7 +16,7 @@ from forestplan.fault_codes import Code
 from forestplan.faults import Fault, InText
 from forestplan.network import Edge, Network
 from forestplan.schedules.policies import Step
-from forestplan.schedules.ruled_node import Rounds, RuledNode, synchronous_rounds
+from forestplan.schedules.ruled_node import InboxRounds, RuledNode, synchronous_rounds
 from forestplan.schedules.simulate import Player, events_of, start_without
 
 
@@ -185,7 +185,7 @@ class Stepwise(ByHand[AlphaNode]):
         self.program = program
 
     @cached_property
-    def rounds(self) -> Rounds:
+    def rounds(self) -> InboxRounds:
         """The rounds that the nodes simulate."""
         return synchronous_rounds(self.net, self.program)
 

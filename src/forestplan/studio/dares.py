@@ -2,7 +2,7 @@
 from collections.abc import Collection, Iterable
 
 from forestplan.definitions.program import Program
-from forestplan.definitions.rounds import Rounds
+from forestplan.definitions.rounds import ColouringRounds
 from forestplan.fault_codes import Code
 from forestplan.faults import Fault
 from forestplan.network import Edge, Network
@@ -94,7 +94,7 @@ def goal(network: Network, dare: str) -> tuple[Collection[Edge], int]:
 def results_of(network: Network, program: Program) -> list[str | int]:
     """What the nodes find in the rounds: their channels, or the words of another program."""
     rounds = rounds_of(network, program)
-    if isinstance(rounds, Rounds):
+    if isinstance(rounds, ColouringRounds):
         return [rounds.merged[-1][v] + 1 for v in network.vertices]
     return [rounds.pulses[-1].results[v] for v in network.vertices]
 

@@ -8,7 +8,7 @@ from forestplan.definitions.machine import Refused, entry_words, make
 from forestplan.definitions.nodes import alpha_start
 from forestplan.definitions.program import Program
 from forestplan.definitions.programs import program_words
-from forestplan.definitions.rounds import Rounds
+from forestplan.definitions.rounds import ColouringRounds
 from forestplan.fault_codes import Code
 from forestplan.faults import Fault, InText
 from forestplan.network import Network
@@ -51,9 +51,9 @@ def plan_of(network: Network, text: str, session: Session) -> str:
     return plan_text(network).decode()
 
 
-def rounds_of(network: Network, text: str, session: Session) -> Rounds:
+def rounds_of(network: Network, text: str, session: Session) -> ColouringRounds:
     """The rounds of the colouring, which those of the proved program have to be."""
-    rounds = Rounds(network)
+    rounds = ColouringRounds(network)
     if session.is_proved and text_from("forestplay", ["rounds"], text) != as_text(rounds.lines()):
         raise Fault(Code.OTHER_ROUNDS)
     return rounds

@@ -15,7 +15,7 @@ from forestplan.definitions.program import Program
 from forestplan.network import Network
 from forestplan.pictures.page_data import Look
 from forestplan.pictures.watch_page import look_of
-from forestplan.schedules.ruled_node import Rounds, RuledNode, synchronous_rounds
+from forestplan.schedules.ruled_node import InboxRounds, RuledNode, synchronous_rounds
 
 # States of all nodes together: more are no small table.
 MOST_STATES = 60_000
@@ -66,7 +66,7 @@ class LocalStates:
         self.todo: list[tuple[int, int]] = []
 
     @cached_property
-    def rounds(self) -> Rounds:
+    def rounds(self) -> InboxRounds:
         """The rounds that the nodes simulate."""
         return synchronous_rounds(self.network, self.program)
 

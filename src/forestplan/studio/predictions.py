@@ -6,7 +6,7 @@ from forestplan.definitions.events import PUT, Entry, Message
 from forestplan.definitions.machine import NetState
 from forestplan.definitions.nodes import COLOURING, AlphaNode
 from forestplan.definitions.reacting_program import Reacting
-from forestplan.definitions.rounds import Rounds, SEED
+from forestplan.definitions.rounds import ColouringRounds, SEED
 from forestplan.fault_codes import Code
 from forestplan.faults import Fault
 from forestplan.pictures.player_page import SAY
@@ -45,16 +45,18 @@ def predict(call: PredictCall, session: Session, _tell: Tell) -> Predicted:
     v, pulse, last = vertex_asked(call, network), call.pulse, program.last_pulse(network)
     if not 1 <= pulse <= last:
         raise Fault(Code.NO_PULSE, pulse=pulse, last=last)
-    rounds: Rounds | ProgramRounds = Rounds(network)
+    rounds: ColouringRounds | ProgramRounds = ColouringRounds(network)
     if program != COLOURING:
         rounds = program_rounds(network, program)
     found, why = found_after(rounds, v, pulse, call.forest)
     return Predicted(small_text(call.said) == small_text(found), found, why)
 
 
-def found_after(rounds: Rounds | ProgramRounds, v: int, pulse: int, forest: int) -> tuple[str, str]:
+def found_after(
+    rounds: ColouringRounds | ProgramRounds, v: int, pulse: int, forest: int
+) -> tuple[str, str]:
     """What a node has after a pulse, and why; of the colouring in a forest, or in its merge."""
-    if isinstance(rounds, Rounds):
+    if isinstance(rounds, ColouringRounds):
         return of_colouring(rounds, v, pulse, forest)
     return of_program(rounds, v, pulse)
 
@@ -64,7 +66,7 @@ def small_text(said: str) -> str:
     return " ".join(said.lower().split())
 
 
-def of_colouring(rounds: Rounds, v: int, pulse: int, forest: int) -> tuple[str, str]:
+def of_colouring(rounds: ColouringRounds, v: int, pulse: int, forest: int) -> tuple[str, str]:
     now = rounds.pulses[pulse]
     if now.step:
         return of_merge(rounds, v, pulse, now.step[0])
@@ -81,7 +83,7 @@ def of_colouring(rounds: Rounds, v: int, pulse: int, forest: int) -> tuple[str, 
     )
 
 
-def cause(rounds: Rounds, kind: str, v: int, forest: int = 0, pulse: int = 0) -> str:
+def cause(rounds: ColouringRounds, kind: str, v: int, forest: int = 0, pulse: int = 0) -> str:
     """A fact on which a colour depends, in words."""
     if kind == "identifier":
         return f"the identifier of node {v} is {rounds.network.identifiers[v]}"
@@ -89,7 +91,7 @@ def cause(rounds: Rounds, kind: str, v: int, forest: int = 0, pulse: int = 0) ->
     return f"node {v} had colour {colour} ({colour:b} in binary) after pulse {pulse}"
 
 
-def of_merge(rounds: Rounds, v: int, pulse: int, forest: int) -> tuple[str, str]:
+def of_merge(rounds: ColouringRounds, v: int, pulse: int, forest: int) -> tuple[str, str]:
     turn = rounds.turns[forest, v]
     if turn != pulse:
         return "-", f"Its turn in the merge of forest {forest} is pulse {turn}."

@@ -16,7 +16,7 @@ from forestplan.definitions.nodes import COLOURING
 from forestplan.definitions.own_program import what_is_wrong
 from forestplan.definitions.programs import PROGRAMS
 from forestplan.definitions.reacting_program import Reacting
-from forestplan.definitions.rounds import Rounds
+from forestplan.definitions.rounds import ColouringRounds
 from forestplan.faults import Fault
 from forestplan.folders import TOP
 from forestplan.network import Network
@@ -312,14 +312,14 @@ class Recording:
                 OfProgram(network=on.text, program=on.program), network, self.session
             )
             return self.questions(on, program_rounds(network, program), 1)
-        rounds = Rounds(network)
+        rounds = ColouringRounds(network)
         for v in network.vertices:
             self.ask(WhyCall(network=on.text, vertex=v))
             for forest in range(max(1, rounds.forests)):
                 self.ask(PictureCall(network=on.text, kind="bits", vertex=v, forest=forest))
         self.questions(on, rounds, max(1, rounds.forests))
 
-    def questions(self, on: OnPage, rounds: Rounds | ProgramRounds, forests: int) -> None:
+    def questions(self, on: OnPage, rounds: ColouringRounds | ProgramRounds, forests: int) -> None:
         for pulse in range(1, len(rounds.pulses)):
             for v in rounds.network.vertices:
                 for forest in range(forests):

@@ -3,7 +3,7 @@ goes wrong without a rule, and pictures."""
 
 from forestplan.definitions.nodes import COLOURING, last_pulse
 from forestplan.definitions.reacting_program import Reacting
-from forestplan.definitions.rounds import Rounds
+from forestplan.definitions.rounds import ColouringRounds
 from forestplan.fault_codes import Code
 from forestplan.faults import Fault
 from forestplan.network import Network
@@ -89,7 +89,7 @@ def of_nodes(text: str) -> str:
     return text.replace("vertices", "nodes").replace("vertex", "node")
 
 
-def rounds_asked(call: OfProgram, session: Session) -> ProgramRounds | Rounds:
+def rounds_asked(call: OfProgram, session: Session) -> ProgramRounds | ColouringRounds:
     network = network_asked(call, MOST_ROUNDS)
     program = program_asked(call, network, session)
     if program != COLOURING:
@@ -110,7 +110,7 @@ def rounds_page(call: RoundsPageCall, session: Session, _tell: Tell) -> str:
 def why(call: WhyCall, session: Session, _tell: Tell) -> WhyFound:
     """Why a node has its channel."""
     network = network_asked(call, MOST_ROUNDS)
-    cone = why_picture.Cone(Rounds(network), vertex_asked(call, network))
+    cone = why_picture.Cone(ColouringRounds(network), vertex_asked(call, network))
     return WhyFound(
         lines=why_picture.why_text(cone).splitlines(),
         identifiers=cone.identifiers(),

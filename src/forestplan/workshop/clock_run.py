@@ -13,11 +13,11 @@ from forestplan.wording import in_words
 from forestplan.workshop.findings import Finding, NoAnswer, first_of, kind_of, listed
 from forestplan.workshop.nodes import PATIENCE, Answer, Nodes
 from forestplan.workshop.protocol import COLOURING, answer_fields, forms_of, own_data, shown
-from forestplan.workshop.right_rounds import RightRounds, Rounds, ask
+from forestplan.workshop.right_rounds import RightRounds, PutsOfRounds, ask
 from forestplan.workshop.why import Why
 
 
-class ClockRun(Rounds, ABC):
+class ClockRun(PutsOfRounds, ABC):
     """`puts` is what the nodes sent so far, and `own_lines` what a node's first message has besides. `kept` is the file
     in which the workshop keeps its text."""
 

@@ -19,7 +19,7 @@ def ask(name: str, command: str, text: str, program: str = COLOURING) -> tuple[i
     return done.returncode, done.stdout.decode(), done.stderr.decode("utf-8", "replace").strip()
 
 
-class Rounds:
+class PutsOfRounds:
     """`puts[p][v][port]`, the words that v sends in pulse p; `ports[v][w]`, v's port to w."""
 
     def __init__(self, network: Network) -> None:
@@ -46,7 +46,7 @@ class Rounds:
         )
 
 
-class RightRounds(Rounds):
+class RightRounds(PutsOfRounds):
     """The rounds that are right, once `work_out` was called.
 
     Of each pulse p: `phase[p]`, its words, which only the colouring has; `colours[p][v]`, v's colour in each forest
