@@ -12,7 +12,6 @@ from tests.cases import Case
 SEVERAL = {
     "main": 14,
     "command_line": 11,
-    "listed": 4,
     "run": 4,
     "shown": 4,
     "Entry": 3,
@@ -52,7 +51,6 @@ SEVERAL = {
     "in_order": 2,
     "is_below": 2,
     "is_own": 2,
-    "items": 2,
     "judge": 2,
     "limited": 2,
     "loaded": 2,

@@ -121,7 +121,7 @@ def barred_in(bars: Bars, number: Numbers, licence: Licence) -> list[tuple[int, 
             raise ValueError(f"{node!r} is no node of the graph")
         numbers = {
             licence.number(channel, f"a bar of {node!r}")
-            for channel in items(several, f"bars of {node!r}")
+            for channel in list_or_set(several, f"bars of {node!r}")
         }
         # A bar of a channel that the licence lacks bars nothing.
         own = [channel for channel in numbers if channel is not None]
@@ -144,7 +144,7 @@ def pairs_of(G: Graph) -> list[Pair]:
 
 def neighbours_in(G: Mapping[Node, object], one: Node, several: object) -> list[Node]:
     """The neighbours of a node of a dict: each once, and each with an entry of its own."""
-    found = list(items(several, f"neighbours of {one!r}"))
+    found = list(list_or_set(several, f"neighbours of {one!r}"))
     for other in found:
         if other not in G:
             raise ValueError(f"a neighbour of {one!r} is {other!r}, which has no entry of its own")
@@ -153,7 +153,7 @@ def neighbours_in(G: Mapping[Node, object], one: Node, several: object) -> list[
     return found
 
 
-def items(several: object, what: str) -> Iterable[Node]:
+def list_or_set(several: object, what: str) -> Iterable[Node]:
     """What is in a list or a set; a text isn't taken letter by letter."""
     is_other = isinstance(several, (str, bytes, Mapping))
     if is_other or not isinstance(several, Iterable):

@@ -123,12 +123,12 @@ def read(data: bytes, name: str, form: str, stated: Stated) -> Listed:
                 nodes_read=got[0],
                 edges_read=got[1],
             )
-    found = listed(graph, form, declared or Declared(name))
+    found = listed_graph(graph, form, declared or Declared(name))
     found.notes += [f"networkx warns: {one_line(str(one.message))[:MOST_SAID]}" for one in warned]
     return found
 
 
-def listed(graph: Graph, form: str, declared: Declared) -> Listed:
+def listed_graph(graph: Graph, form: str, declared: Declared) -> Listed:
     """The nodes and edges of a graph by its nodes' label, name or id: the first that each has for itself."""
     rows = dict(graph.nodes(data=True))
     key = next((key for key in ("label", "name") if is_own(key, list(rows.values()))), None)

@@ -27,8 +27,8 @@ def rounds_text(net: Network, program: Program) -> str:
         for v in net.vertices:
             now = nodes[v].result()
             said = [
-                listed("hears", "from", net.neighbours[v], inboxes.get(v, [])),
-                listed("sends", "to", net.neighbours[v], sent[v]),
+                payload_sentence("hears", "from", net.neighbours[v], inboxes.get(v, [])),
+                payload_sentence("sends", "to", net.neighbours[v], sent[v]),
                 f"has {now}" if now != found.get(v) else "",
             ]
             found[v] = now
@@ -45,7 +45,7 @@ def node_name(net: Network, v: int) -> str:
     return f"node {v}" if name == v else f"node {v} ({name})"
 
 
-def listed(verb: str, way: str, neighbours: list[int], slots: list[Slot]) -> str:
+def payload_sentence(verb: str, way: str, neighbours: list[int], slots: list[Slot]) -> str:
     """`sends best 4 to 1 and 3`: the payloads of the ports that have one, equal ones together."""
     ends: dict[Payload, list[int]] = {}
     for w, slot in zip(neighbours, slots):

@@ -77,7 +77,7 @@ def time_of(said: str, _here: Here) -> float:
     return float(said)
 
 
-def items(said: str) -> list[str]:
+def filled_items(said: str) -> list[str]:
     """The items of a list; nothing between two `_` is no item."""
     return [one for one in said.split("_") if one]
 
@@ -89,14 +89,14 @@ def step_of(said: str) -> str:
 
 
 def steps_of(said: str, _here: Here) -> list[str]:
-    found = list(map(step_of, items(said)))
+    found = list(map(step_of, filled_items(said)))
     if len(found) > MOST_STEPS:
         raise Fault(Code.TOO_MANY_STEPS, steps=len(found), most=MOST_STEPS)
     return found
 
 
 def plan_of(said: str, here: Here) -> list[int]:
-    found = [within(one, 0, MOST_CHANNEL) for one in items(said)]
+    found = [within(one, 0, MOST_CHANNEL) for one in filled_items(said)]
     if len(found) > here.nodes:
         raise Fault(Code.TOO_MANY_CHANNELS, channels=len(found), nodes=here.nodes)
     return found
@@ -156,8 +156,8 @@ NAMES: dict[str, Name] = {
     "tab": Name("word", among(TABS)),
     "passes": Name("number", lambda said, _: within(said, 1, MAX_PASSES)),
     "root": Name("number", lambda said, here: here.node(said)),
-    "slow": Name("list", lambda said, here: list(map(here.edge, items(said)))),
-    "lazy": Name("list", lambda said, here: list(map(here.node, items(said)))),
+    "slow": Name("list", lambda said, here: list(map(here.edge, filled_items(said)))),
+    "lazy": Name("list", lambda said, here: list(map(here.node, filled_items(said)))),
     "node": Name("number", lambda said, here: here.node(said)),
     "at": Name("number", time_of),
     "forest": Name("number", lambda said, here: within(said, 0, max(0, here.nodes - 2))),

@@ -62,7 +62,7 @@ def decoded(said: str) -> str:
         raise Fault(Code.NO_LETTER_OF_PERCENT, said=shown(said)) from None
 
 
-def listed(said: str) -> list[str]:
+def list_items(said: str) -> list[str]:
     """The items of a list, with `_` between them."""
     return said.split("_") if said else []
 
@@ -70,7 +70,7 @@ def listed(said: str) -> list[str]:
 def drawn_of(code: str) -> Drawn:
     """The network of an address, or what is wrong with it."""
     places, edges, *more = [*code.split("~"), ""][: max(2, code.count("~") + 1)]
-    nodes = [node_at(place) for place in listed(places)]
+    nodes = [node_at(place) for place in list_items(places)]
     found = Drawn(nodes, sorted(edges_of(edges, len(nodes))))
     kinds: set[str] = set()
     for part in more:
@@ -93,7 +93,7 @@ def node_at(place: str) -> Node:
 
 def of_nodes(said: str, nodes: int) -> Iterator[tuple[int, str]]:
     """The pairs of a part, a node and what is said of it."""
-    for pair in listed(said):
+    for pair in list_items(said):
         found = OF_NODE.fullmatch(pair)
         if not found or not 1 <= int(found[1]) <= nodes:
             raise Fault(Code.OF_NO_NODE, pair=shown(pair), nodes=nodes)

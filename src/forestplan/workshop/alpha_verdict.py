@@ -9,7 +9,14 @@ from forestplan.transcripts.proved_judge import verdict_on_run
 from forestplan.transcripts.rules import Standing, rule_of, rules_of_dues
 from forestplan.wording import as_text
 from forestplan.workshop.alpha_run import OWN_DATA, AlphaRun, Entry
-from forestplan.workshop.findings import Finding, NoAnswer, first_of, kind_of, last_of, listed
+from forestplan.workshop.findings import (
+    Finding,
+    NoAnswer,
+    first_of,
+    kind_of,
+    last_of,
+    numbers_in_words,
+)
 from forestplan.workshop.right_rounds import RightRounds, words_of
 from forestplan.workshop.why import Why
 
@@ -40,7 +47,7 @@ class At(Standing):
     v: int
 
     def whose(self, links: list[int], word: str = "of") -> str:
-        return f"by {listed('port', links)}"
+        return f"by {numbers_in_words('port', links)}"
 
     def why_payload(self, link: int) -> str:
         return Why(self.rounds, self.v).of(self.pulse, link)

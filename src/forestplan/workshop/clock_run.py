@@ -10,7 +10,7 @@ from forestplan.network import Network
 from forestplan.networks.texts import plain_text
 from forestplan.networks.verdicts import parsed_verdict
 from forestplan.wording import in_words
-from forestplan.workshop.findings import Finding, NoAnswer, first_of, kind_of, listed
+from forestplan.workshop.findings import Finding, NoAnswer, first_of, kind_of, numbers_in_words
 from forestplan.workshop.nodes import PATIENCE, Answer, Nodes
 from forestplan.workshop.protocol import COLOURING, answer_fields, forms_of, own_data, shown
 from forestplan.workshop.right_rounds import RightRounds, PutsOfRounds, ask
@@ -58,7 +58,7 @@ class ClockRun(PutsOfRounds, ABC):
                 if (finding := self.answered(p, v, answers[v]))
             ]
             if len(found) > 1:
-                others = listed("node", first_of([finding.node for finding in found[1:]]))
+                others = numbers_in_words("node", first_of([finding.node for finding in found[1:]]))
                 found[0].lines.append(("also", f"in the same pulse {others}"))
             if found:
                 return found[0]
@@ -252,7 +252,7 @@ class OpenRun(ClockRun):
         if not self.is_done():
             silent = [v for v in self.network.vertices if v not in self.channels]
             sentence = f"after {p} pulses " + (
-                f"{listed('node', first_of(silent))} said no channel"
+                f"{numbers_in_words('node', first_of(silent))} said no channel"
                 if silent
                 else "all nodes have their channels, and payloads are still sent"
             )

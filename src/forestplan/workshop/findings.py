@@ -59,7 +59,7 @@ def last_of(texts: Sequence[str]) -> list[str]:
     return [*[".."] * (len(texts) > MOST), *texts[-MOST:]]
 
 
-def listed(what: str, numbers: Iterable[object]) -> str:
+def numbers_in_words(what: str, numbers: Iterable[object]) -> str:
     """`no port`, `port 1`, `ports 1 and 2`, `ports 0, 1 and 2`."""
     numbers = list(numbers)
     if not numbers:

@@ -12,7 +12,7 @@ from forestplan.workshop.alpha_run import AlphaRun
 from forestplan.workshop.alpha_verdict import finding_of
 from forestplan.workshop.cases import Case
 from forestplan.workshop.clock_run import ClockRun, OpenRun, RoundsRun
-from forestplan.workshop.findings import Finding, NoAnswer, listed
+from forestplan.workshop.findings import Finding, NoAnswer, numbers_in_words
 from forestplan.workshop.guard import Guard, Limits
 from forestplan.workshop.nodes import Nodes
 from forestplan.workshop.protocol import shown
@@ -91,7 +91,7 @@ class Player:
                 v for v in case.network.vertices if case.owners[v - 1] == owner and v != found.node
             ]
             if nodes:
-                texts.append(f"{listed('node', nodes)}: {shown(shlex.join(command))}")
+                texts.append(f"{numbers_in_words('node', nodes)}: {shown(shlex.join(command))}")
         whose = f"node {found.node}: {shown(shlex.join(self.commands[found.owner]))}"
         found.lines[1:1] = [("whose", whose), *[("others", "; ".join(texts))] * bool(texts)]
 

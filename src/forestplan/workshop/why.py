@@ -3,7 +3,7 @@ from functools import cached_property
 
 from forestplan.network import order
 from forestplan.wording import in_words
-from forestplan.workshop.findings import last_of, listed
+from forestplan.workshop.findings import last_of, numbers_in_words
 from forestplan.workshop.protocol import SEQUELS
 from forestplan.workshop.right_rounds import RightRounds
 
@@ -176,7 +176,7 @@ class Why:
         ]
         have = f" and have {colours[p - 2][self.v][forest]}" if p in DROPPED else ""
         said.append(
-            f"its children are by {listed('port', children)}{have}"
+            f"its children are by {numbers_in_words('port', children)}{have}"
             if children
             else "it has no child"
         )
@@ -188,7 +188,7 @@ class Why:
         barred = [channel - 1 for channel in self.network.bars.get(self.v, ())]
         colour = chosen[-1] if chosen else min(set(range(self.network.channels)) - set(barred))
         return f"it had merged colour {colour}" + (
-            f", and barred at it: {listed('colour', barred)}" if barred else ""
+            f", and barred at it: {numbers_in_words('colour', barred)}" if barred else ""
         )
 
     def passed(self, first: int, last: int) -> str:
