@@ -13,7 +13,6 @@ SEVERAL = {
     "main": 14,
     "command_line": 11,
     "run": 4,
-    "shown": 4,
     "Entry": 3,
     "Found": 3,
     "Refused": 3,

@@ -210,7 +210,7 @@ class Paths(Case):
         line = grade.command_line()
         closed = [os.path.join(home, "subs")]
         data = os.path.join(home, "data")
-        self.same("data", grade.shown(line, data, closed), data)
+        self.same("data", grade.readable_folder(line, data, closed), data)
         for path, sentence in (
             (home, f"would show {closed[0]}, or is in it"),
             (os.path.join(home, "subs", "anna"), f"would show {closed[0]}, or is in it"),

@@ -8,7 +8,7 @@ from forestplan.fault_codes import Code
 from forestplan.faults import Fault, InText
 from forestplan.files import bytes_at, text_at, write
 from forestplan.limits import MAX_CHANNEL
-from forestplan.networks.fields import shown
+from forestplan.networks.fields import shown_field
 from forestplan.networks.forms import Unsaid, decoded
 from forestplan.networks.options import add_stated, commands_for, stated_by
 from forestplan.networks.plan_text import PlanRow, rows_of
@@ -92,7 +92,7 @@ def range_of(word: str) -> range:
     digits = f"([0-9]{{1,{MOST_DIGITS}}})"
     parts = re.fullmatch(f"{digits}(?:-{digits}(?:/([0-9]{{1,6}}))?)?", word)
     if not parts:
-        raise Fault(Code.NO_CHANNELS, word=shown(word))
+        raise Fault(Code.NO_CHANNELS, word=shown_field(word))
     first = int(parts[1])
     last = int(parts[2] or first)
     step = int(parts[3] or 1)
@@ -113,7 +113,7 @@ def rows_of_run(text: str, name: str) -> list[PlanRow]:
         if parts:
             found.append((at, int(parts[1]), int(parts[2])))
         elif line:
-            raise Fault(Code.NO_NODE_WITH_CHANNEL, InText(name, at), row=shown(line))
+            raise Fault(Code.NO_NODE_WITH_CHANNEL, InText(name, at), row=shown_field(line))
     return found
 
 

@@ -12,7 +12,7 @@ from xml.parsers import expat
 
 from forestplan.fault_codes import Code
 from forestplan.faults import Fault, InText
-from forestplan.networks.fields import shown
+from forestplan.networks.fields import shown_field
 from forestplan.networks.listing import Where
 
 
@@ -44,7 +44,7 @@ class Declared:
                 raise self.fault(where, Code.SECOND_GRAPH)
         elif kind == "node":
             if has.get("id") in self.nodes:
-                raise self.fault(where, Code.SECOND_NODE_OF_ID, name=shown(str(has["id"])))
+                raise self.fault(where, Code.SECOND_NODE_OF_ID, name=shown_field(str(has["id"])))
             self.nodes[has.get("id", where)] = where
         elif kind == "edge":
             self.edges.append((where, has.get("source"), has.get("target")))
@@ -59,7 +59,7 @@ class Declared:
         for where, *ends in self.edges:
             for end in ends:
                 if end not in self.nodes:
-                    raise self.fault(where, Code.NO_NODE_OF_ID, name=shown(str(end)))
+                    raise self.fault(where, Code.NO_NODE_OF_ID, name=shown_field(str(end)))
         return self
 
 
@@ -90,7 +90,7 @@ def in_xml(data: bytes, path: str) -> Declared:
             raise declared.fault(parser.CurrentLineNumber, Code.SPACE_TOO_LONG, most=LONGEST_SPACE)
 
     def define(name: str, *_: object) -> None:
-        raise declared.fault(parser.CurrentLineNumber, Code.TEXT_DEFINED, name=shown(name))
+        raise declared.fault(parser.CurrentLineNumber, Code.TEXT_DEFINED, name=shown_field(name))
 
     parser.StartElementHandler = begin
     parser.StartNamespaceDeclHandler = begin_space
@@ -112,7 +112,7 @@ def loaded(data: bytes, path: str) -> dict[str, object]:
     def once(pairs: list[tuple[str, object]]) -> dict[str, object]:
         found = dict(pairs)
         if len(found) < len(pairs):
-            raise Fault(Code.KEY_TWICE, InText(path), keys=shown(", ".join(found)))
+            raise Fault(Code.KEY_TWICE, InText(path), keys=shown_field(", ".join(found)))
         return found
 
     def number(digits: str) -> int:

@@ -31,7 +31,7 @@ def whole(field: str) -> int | None:
     return int(digits or "0") if len(digits) <= MOST_DIGITS else 10**MOST_DIGITS
 
 
-def shown(field: str) -> str:
+def shown_field(field: str) -> str:
     """A field as it may be printed in one line: of a long one the first letters, and no mark that ends a line.
 
     >>> shown("a" * 50)

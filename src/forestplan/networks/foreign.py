@@ -16,7 +16,7 @@ from types import ModuleType
 from forestplan.fault_codes import Code
 from forestplan.faults import Fault, InText
 from forestplan.networks.cross_check import Declared, in_json, in_xml
-from forestplan.networks.fields import shown
+from forestplan.networks.fields import shown_field
 from forestplan.networks.forms import Stated, decoded
 from forestplan.networks.gml import in_gml, with_multigraph
 from forestplan.networks.letters import from_graph6, in_graph6, in_sparse6
@@ -142,7 +142,7 @@ def listed_graph(graph: Graph, form: str, declared: Declared) -> Listed:
         own[node] = name_of(str(has[key] if key else node), declared.path, line)
         if own[node] in nodes:
             raise Fault(
-                Code.SECOND_NODE_OF_NAME, InText(declared.path, line), name=shown(own[node])
+                Code.SECOND_NODE_OF_NAME, InText(declared.path, line), name=shown_field(own[node])
             )
         nodes[own[node]] = line
     found.edges = [(nodes[own[v]], own[v], own[w]) for v, w, _ in graph.edges(data=True)]

@@ -8,7 +8,7 @@ from typing import NamedTuple
 from forestplan.fault_codes import Code
 from forestplan.faults import Fault, InText
 from forestplan.networks.cross_check import Declared
-from forestplan.networks.fields import shown
+from forestplan.networks.fields import shown_field
 
 # What is passed over; a text; a bracket, or a quotation mark that opens a text without an end; a key or a number.
 TOKEN = re.compile(
@@ -97,14 +97,14 @@ class Reader:
             self.declared.declare(done.key, done.line, done.has)
 
     def fault(self, token: Token, code: Code) -> Fault:
-        return self.declared.fault(token.line, code, word=shown(token.word))
+        return self.declared.fault(token.line, code, word=shown_field(token.word))
 
     def end(self) -> Declared:
         """What the whole text declares."""
         if self.key or len(self.lists) > 1:
             last = self.lists[-1]
             raise self.declared.fault(
-                last.line, Code.GML_WITHOUT_END, word=shown(self.key or last.key)
+                last.line, Code.GML_WITHOUT_END, word=shown_field(self.key or last.key)
             )
         return self.declared.checked()
 

@@ -7,7 +7,7 @@ from types import ModuleType
 from forestplan.fault_codes import Code
 from forestplan.faults import Fault, InText
 from forestplan.limits import MAX_EDGES, MAX_NODES
-from forestplan.networks.fields import shown
+from forestplan.networks.fields import shown_field
 from forestplan.networks.networkx_graph import Graph
 
 FIRST, LAST = b"?~"
@@ -67,11 +67,11 @@ def declared(form: str, data: bytes, path: str) -> tuple[int, bytes]:
             Code.NO_LETTERS_OF_FORM,
             InText(path, 1),
             form=form,
-            row=shown(line[:41].decode("utf-8", "replace")),
+            row=shown_field(line[:41].decode("utf-8", "replace")),
         )
     other = OTHER.search(letters)
     if other:
-        letter = shown(letters[other.start() :].decode("utf-8", "replace")[0])
+        letter = shown_field(letters[other.start() :].decode("utf-8", "replace")[0])
         raise Fault(Code.NO_LETTER_OF_FORM, InText(path, 1), form=form, letter=letter)
     # Up to 62 nodes are one letter; more are three after a `~`, or six after two, and so many no network has.
     begin, end = (0, 1) if letters[0] < LAST else (1, 4)

@@ -4,7 +4,7 @@ import re
 
 from forestplan.fault_codes import Code
 from forestplan.faults import Fault, InText
-from forestplan.networks.fields import shown
+from forestplan.networks.fields import shown_field
 from forestplan.networks.listing import Listed, Where, name_of
 from forestplan.networks.table import NUMBER, TITLES
 from forestplan.wording import counted
@@ -30,7 +30,7 @@ def rows_in(text: str, name: str) -> tuple[list[tuple[int, str]], list[str]]:
 def node_of(word: str, name: str, line: int) -> str:
     """A node of a line. Its name has no mark of a table, and doesn't begin as a comment."""
     if NO_NAME.search(word):
-        raise Fault(Code.NO_NAME_IN_LIST, InText(name, line), word=shown(word))
+        raise Fault(Code.NO_NAME_IN_LIST, InText(name, line), word=shown_field(word))
     return name_of(word, name, line)
 
 
@@ -56,11 +56,11 @@ def edges(text: str, name: str) -> Listed:
     for line, row in rows:
         parts = EDGE.fullmatch(row)
         if not parts:
-            raise Fault(Code.NO_TWO_NODES, InText(name, line), row=shown(row))
+            raise Fault(Code.NO_TWO_NODES, InText(name, line), row=shown_field(row))
         one, other, more = parts.groups()
         tails.add(tail_of(more))
         if len(tails) > 1:
-            raise Fault(Code.OTHER_NUMBER_OF_WORDS, InText(name, line), row=shown(row))
+            raise Fault(Code.OTHER_NUMBER_OF_WORDS, InText(name, line), row=shown_field(row))
         is_heading = one.casefold() in TITLES["source"] and other.casefold() in TITLES["target"]
         if is_heading and not found.edges:
             raise Fault(Code.HEADING_IN_LIST, InText(name, line))
@@ -86,9 +86,9 @@ def adjacency(text: str, name: str) -> Listed:
         first, *others = BETWEEN.split(row)
         node = node_of(first.removesuffix(":"), name, line)
         if nodes.setdefault(node, line) != line:
-            raise Fault(Code.SECOND_LINE_OF_NODE, InText(name, line), node=shown(node))
+            raise Fault(Code.SECOND_LINE_OF_NODE, InText(name, line), node=shown_field(node))
         found.edges += [(line, node, node_of(other, name, line)) for other in others]
     for end, where in found.ends():
         if end not in nodes:
-            raise Fault(Code.NODE_WITHOUT_LINE, InText(name, where), node=shown(end))
+            raise Fault(Code.NODE_WITHOUT_LINE, InText(name, where), node=shown_field(end))
     return found

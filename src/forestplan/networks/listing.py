@@ -8,7 +8,7 @@ from functools import lru_cache
 
 from forestplan.fault_codes import Code
 from forestplan.faults import Fault, InText
-from forestplan.networks.fields import shown
+from forestplan.networks.fields import shown_field
 
 LONGEST_NAME = 200
 # A letter that is written as a letter with its marks has at most so many of both.
@@ -70,7 +70,7 @@ def name_of(word: str, path: str, where: Where) -> str:
     """
     name = composed(word)
     if name is None:
-        raise Fault(Code.NO_NAME, InText(path, where), word=shown(word))
+        raise Fault(Code.NO_NAME, InText(path, where), word=shown_field(word))
     return name
 
 
@@ -80,7 +80,7 @@ def not_read(what: str, names: Collection[str]) -> list[str]:
     >>> not_read("columns", ["height", "owner"])
     ["columns that aren't read: height, owner"]
     """
-    return [f"{what} that aren't read: {', '.join(map(shown, names))}"] if names else []
+    return [f"{what} that aren't read: {', '.join(map(shown_field, names))}"] if names else []
 
 
 def check_known(
@@ -96,5 +96,5 @@ def check_known(
     """
     if name not in known:
         alike = difflib.get_close_matches(name, known, n=1, cutoff=0.7)
-        meant = shown(alike[0]) if alike else None
-        raise Fault(code, InText(path, where), name=shown(name), alike=meant, **subject)
+        meant = shown_field(alike[0]) if alike else None
+        raise Fault(code, InText(path, where), name=shown_field(name), alike=meant, **subject)

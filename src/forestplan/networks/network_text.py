@@ -9,7 +9,7 @@ from forestplan.fault_codes import Code
 from forestplan.faults import Fault, InText
 from forestplan.limits import MAX_BARS, MAX_CHANNEL, MAX_DEGREE, MAX_EDGES, MAX_NODES
 from forestplan.network import Edge, Network
-from forestplan.networks.fields import fields_of, shown, whole
+from forestplan.networks.fields import fields_of, shown_field, whole
 
 FORMATS = ("edge", "edges", "col")
 SKIPPED = {"n", "d", "v", "x"}
@@ -78,7 +78,7 @@ class Reading:
             one, other = self.numbers(fields)
             {"e": self.edge, "i": self.identifier, "b": self.bar}[word](one, other)
         elif word not in SKIPPED:
-            raise self.fault(Code.NO_LINE_OF_A_NETWORK, word=shown(word))
+            raise self.fault(Code.NO_LINE_OF_A_NETWORK, word=shown_field(word))
 
     def comment(self, raw: str) -> None:
         """Keeps a place or a name of a vertex."""
@@ -95,7 +95,7 @@ class Reading:
             raise self.fault(Code.SECOND_PROBLEM_LINE)
         pair = two_numbers(fields[2:4])
         if pair is None or fields[1] not in FORMATS:
-            raise self.fault(Code.NO_PROBLEM_LINE, row=shown(" ".join(fields)))
+            raise self.fault(Code.NO_PROBLEM_LINE, row=shown_field(" ".join(fields)))
         if pair[0] > MAX_NODES:
             raise self.fault(Code.NODES_ABOVE_LIMIT, most=MAX_NODES)
         self.nodes, self.promised = pair
@@ -108,13 +108,15 @@ class Reading:
         pair = two_numbers(fields[1:3])
         if pair is None:
             raise self.fault(
-                Code.NO_SUCH_LINE, word=fields[0], form=form, row=shown(" ".join(fields))
+                Code.NO_SUCH_LINE, word=fields[0], form=form, row=shown_field(" ".join(fields))
             )
         for field, v in zip(fields[1 : 1 + count], pair):
             if not 1 <= v <= self.nodes:
-                raise self.fault(Code.NO_VERTEX, vertex=shown(field), nodes=self.nodes)
+                raise self.fault(Code.NO_VERTEX, vertex=shown_field(field), nodes=self.nodes)
         if fields[0] == "b" and not 1 <= pair[1] <= MAX_CHANNEL:
-            raise self.fault(Code.NO_CHANNEL_TO_BAR, channel=shown(fields[2]), most=MAX_CHANNEL)
+            raise self.fault(
+                Code.NO_CHANNEL_TO_BAR, channel=shown_field(fields[2]), most=MAX_CHANNEL
+            )
         return pair
 
     def edge(self, v: int, w: int) -> None:
@@ -194,7 +196,7 @@ def checked(network: Network, path: str) -> Network:
                 Code.TOO_MANY_NEIGHBOURS,
                 InText(path),
                 vertex=v,
-                name=name and shown(name),
+                name=name and shown_field(name),
                 neighbours=len(network.neighbours[v]),
                 most=MAX_DEGREE,
             )

@@ -8,7 +8,7 @@ from itertools import islice
 
 from forestplan.fault_codes import Code
 from forestplan.faults import Fault, InText
-from forestplan.networks.fields import shown
+from forestplan.networks.fields import shown_field
 from forestplan.networks.forms import Stated, Unsaid
 from forestplan.networks.listing import not_read
 from forestplan.wording import in_words
@@ -121,7 +121,7 @@ class Table:
         """The first row with each mark that is in the first line, and with which it is a row."""
         first_line = text.lstrip("\n ").partition("\n")[0]
         if first_line.startswith("sep="):
-            raise self.fault(1, Code.FOR_EXCEL, row=shown(first_line))
+            raise self.fault(1, Code.FOR_EXCEL, row=shown_field(first_line))
         found = []
         fault = Fault(Code.NO_ROW, InText(self.name))
         for mark in [mark for mark in MARKS if mark in first_line] or [","]:
@@ -157,7 +157,7 @@ class Table:
         """The same, if there is one; two that may be meant are refused."""
         places = self.places_of(column, self.titles)
         if len(places) > 1:
-            titles = in_words(shown(self.titles[at]) for at in places)
+            titles = in_words(shown_field(self.titles[at]) for at in places)
             raise self.fault(self.line, Code.TWO_TITLES, titles=titles, column=column)
         return places[0] if places else None
 
@@ -165,7 +165,7 @@ class Table:
         """The refusal of a first row that doesn't have all wanted columns."""
         columns = in_words(self.named.get(column, column) for column in self.wanted)
         code = Code.NO_HEADING_WITH if self.has_heading else Code.NO_ROW_WITH
-        names = {"columns": columns, "row": shown(",".join(first))}
+        names = {"columns": columns, "row": shown_field(",".join(first))}
         titles = [title for title, count in Counter(first).items() if title and count == 1]
         if len(titles) < len(self.wanted) or set(self.wanted) & self.named.keys():
             return self.fault(line, code, **names)
@@ -204,15 +204,15 @@ class Table:
     def number(self, line: int, field: str) -> float:
         """A number with a point, or with a comma if commas don't separate the fields."""
         if not NUMBER.fullmatch(field) or "," in field and "," not in self.decimals:
-            raise self.fault(line, Code.NO_NUMBER, field=shown(field))
+            raise self.fault(line, Code.NO_NUMBER, field=shown_field(field))
         number = float(field.replace(",", "."))
         if abs(number) >= FARTHEST:
-            raise self.fault(line, Code.NO_PLACE_ON_EARTH, field=shown(field))
+            raise self.fault(line, Code.NO_PLACE_ON_EARTH, field=shown_field(field))
         return number
 
 
 def choice_of(columns: tuple[str, ...], titles: list[str]) -> tuple[list[str], str]:
     """The words that state the columns to be those of these titles, and what they mean."""
     meant = dict(zip(columns, titles))
-    said = in_words(f"{column} is {shown(title)}" for column, title in meant.items())
+    said = in_words(f"{column} is {shown_field(title)}" for column, title in meant.items())
     return words_of(meant), f"it is a heading, in which {said}"

@@ -4,7 +4,7 @@ import re
 from forestplan.fault_codes import Code
 from forestplan.faults import Fault, InText
 from forestplan.limits import MAX_BARS, MAX_CHANNEL, MAX_EDGES, MAX_NODES
-from forestplan.networks.fields import shown, whole
+from forestplan.networks.fields import shown_field, whole
 from forestplan.networks.forms import Stated
 from forestplan.networks.listing import Listed, Where, check_known, name_of
 from forestplan.networks.network_text import IDENTIFIERS
@@ -51,7 +51,7 @@ def licence_of(text: str, name: str, stated: Stated) -> tuple[list[int], list[st
 def real_channel(table: Table, line: int, row: dict[str, str]) -> int:
     field = row["channel"]
     if not re.fullmatch(r"[0-9]{1,%d}" % MOST_DIGITS, field):
-        raise table.fault(line, Code.NO_CHANNEL_IN_FIELD, field=shown(field))
+        raise table.fault(line, Code.NO_CHANNEL_IN_FIELD, field=shown_field(field))
     return int(field)
 
 
@@ -97,7 +97,7 @@ class Sites:
     def add(self, name: str, line: int, row: dict[str, str]) -> None:
         """A site: no name and no identifier comes twice."""
         if self.lines.setdefault(name, line) != line:
-            raise self.table.fault(line, Code.SECOND_SITE, name=shown(name))
+            raise self.table.fault(line, Code.SECOND_SITE, name=shown_field(name))
         if len(self.lines) > MAX_NODES:
             raise self.table.fault(line, Code.TOO_MANY_SITES, most=MAX_NODES)
         if self.columns and any(row[column] for column in self.columns):
@@ -107,7 +107,7 @@ class Sites:
             return
         number = whole(field)
         if number is None or number >= IDENTIFIERS:
-            raise self.table.fault(line, Code.NO_IDENTIFIER, field=shown(field))
+            raise self.table.fault(line, Code.NO_IDENTIFIER, field=shown_field(field))
         if self.owners.setdefault(number, name) != name:
             raise self.table.fault(line, Code.SECOND_SITE_OF_IDENTIFIER, number=number)
         self.identifiers[name] = number
@@ -188,7 +188,9 @@ def with_bars(
         else:
             outside += 1
         if len(found.bars.get(site, ())) > MAX_BARS:
-            raise table.fault(line, Code.BARS_OF_SITE_ABOVE_LIMIT, most=MAX_BARS, site=shown(site))
+            raise table.fault(
+                line, Code.BARS_OF_SITE_ABOVE_LIMIT, most=MAX_BARS, site=shown_field(site)
+            )
     found.notes += [f"{name}: {note}" for note in table.notes()]
     if outside:
         found.notes.append(f"{counted(outside, 'bar')} of {name} of a channel outside the licence")

@@ -27,7 +27,7 @@ from forestplan.fault_codes import Code
 from forestplan.faults import Fault, InText
 from forestplan.files import text_at, text_name, write
 from forestplan.network import Edge, Network
-from forestplan.networks.fields import shown
+from forestplan.networks.fields import shown_field
 from forestplan.networks.sources import network_at
 from forestplan.parsers import add_output, add_seed, parser_of
 from forestplan.schedules.policies import POLICIES, Policy, Step
@@ -249,10 +249,10 @@ def events_of(
             and not overtakes
             or note.endswith(", out of turn")
         ):
-            raise Fault(Code.OVERTAKES, InText(name, line), event=shown(raw.strip()))
+            raise Fault(Code.OVERTAKES, InText(name, line), event=shown_field(raw.strip()))
         found = EVENT.fullmatch(" ".join(fields))
         if found is None or found[1] not in (None, own.value):
-            raise Fault(Code.NO_EVENT, InText(name, line), event=shown(raw.strip()))
+            raise Fault(Code.NO_EVENT, InText(name, line), event=shown_field(raw.strip()))
         step, node, kind, v, port, place = found.groups()
         if step:
             yield line, Event(own, int(node))

@@ -13,7 +13,7 @@ from forestplan.definitions.programs import OPTIONS, PROGRAMS
 from forestplan.fault_codes import Code
 from forestplan.faults import Fault
 from forestplan.limits import MAX_PASSES
-from forestplan.networks.fields import shown
+from forestplan.networks.fields import shown_field
 from forestplan.schedules.policies import POLICIES
 from forestplan.schedules.rules import OF_LINKS, OF_PROGRAMS, OF_SCHEDULES
 from forestplan.studio.answers import TABS, Order, PictureKind, Values, Written
@@ -55,13 +55,13 @@ class Here:
         v, _, w = said.partition("-")
         found = min(whole(v), whole(w)), max(whole(v), whole(w))
         if found not in self.edges:
-            raise Fault(Code.NO_LINK, said=shown(said))
+            raise Fault(Code.NO_LINK, said=shown_field(said))
         return found
 
 
 def whole(said: str) -> int:
     if not re.fullmatch("[0-9]{1,6}", said):
-        raise Fault(Code.NO_WHOLE_NUMBER, said=shown(said))
+        raise Fault(Code.NO_WHOLE_NUMBER, said=shown_field(said))
     return int(said)
 
 
@@ -84,7 +84,7 @@ def filled_items(said: str) -> list[str]:
 
 def step_of(said: str) -> str:
     if not re.fullmatch("[0-9]{1,5}(-[0-9]{1,5}){0,2}", said):
-        raise Fault(Code.NO_STEP, said=shown(said))
+        raise Fault(Code.NO_STEP, said=shown_field(said))
     return said
 
 
@@ -107,7 +107,9 @@ def rules_of(said: str, rules: Collection[str]) -> str:
     unknown = [name for name in names if name not in rules]
     if unknown or len(set(names)) < len(names):
         if unknown:
-            raise Fault(Code.NO_RULE, rule=shown(unknown[0]), rules=", ".join(rules) or "none")
+            raise Fault(
+                Code.NO_RULE, rule=shown_field(unknown[0]), rules=", ".join(rules) or "none"
+            )
         raise Fault(Code.RULE_TWICE, rules=", ".join(rules) or "none")
     return said
 
@@ -211,7 +213,7 @@ def pairs_of(place: str) -> tuple[dict[str, str], dict[str, Fault]]:
     for part in filter(None, place.split("&")):
         name, _, value = part.partition("=")
         if name not in NAMES:
-            unread[shown(part)] = Fault(Code.NO_SUCH_NAME)
+            unread[shown_field(part)] = Fault(Code.NO_SUCH_NAME)
         elif name in found:
             unread[name] = Fault(Code.NAME_TWICE)
         elif value or name in ("seed", "net"):
@@ -240,7 +242,7 @@ def read_values(pairs: dict[str, str], unread: dict[str, Fault], here: Here) -> 
         try:
             values[name] = NAMES[name].takes(said if name == "net" else decoded(said), here)
         except Fault as why:
-            unread[shown(f"{name}={said}")] = why
+            unread[shown_field(f"{name}={said}")] = why
         if name == "program":
             here = replace(here, program=str(values.get("program", COLOURING.name)))
         if name == "lesson" and "lesson" in values:

@@ -10,7 +10,7 @@ from urllib.parse import unquote_to_bytes
 from forestplan.fault_codes import Code
 from forestplan.faults import Fault
 from forestplan.limits import MAX_CHANNEL
-from forestplan.networks.fields import shown
+from forestplan.networks.fields import shown_field
 from forestplan.pictures.page_data import Net, PlainNode
 from forestplan.pictures.pages import net_at
 
@@ -59,7 +59,7 @@ def decoded(said: str) -> str:
             raise ValueError
         return unquote_to_bytes(said.encode()).decode()
     except ValueError:
-        raise Fault(Code.NO_LETTER_OF_PERCENT, said=shown(said)) from None
+        raise Fault(Code.NO_LETTER_OF_PERCENT, said=shown_field(said)) from None
 
 
 def list_items(said: str) -> list[str]:
@@ -77,7 +77,7 @@ def drawn_of(code: str) -> Drawn:
         kind = part[:1]
         if kind not in ADDS or kind in kinds:
             said = "are there twice" if kind in kinds else "mean nothing"
-            raise Fault(Code.PART_OF_NETWORK, part=shown(part), said=said)
+            raise Fault(Code.PART_OF_NETWORK, part=shown_field(part), said=said)
         kinds.add(kind)
         for v, what in of_nodes(part[1:], len(nodes)):
             ADDS[kind](nodes[v - 1], v, what)
@@ -87,7 +87,7 @@ def drawn_of(code: str) -> Drawn:
 def node_at(place: str) -> Node:
     found = PLACE.fullmatch(place)
     if not found:
-        raise Fault(Code.NO_PLACE, spot=shown(place))
+        raise Fault(Code.NO_PLACE, spot=shown_field(place))
     return Node(int(found[1]), int(found[2]))
 
 
@@ -96,7 +96,7 @@ def of_nodes(said: str, nodes: int) -> Iterator[tuple[int, str]]:
     for pair in list_items(said):
         found = OF_NODE.fullmatch(pair)
         if not found or not 1 <= int(found[1]) <= nodes:
-            raise Fault(Code.OF_NO_NODE, pair=shown(pair), nodes=nodes)
+            raise Fault(Code.OF_NO_NODE, pair=shown_field(pair), nodes=nodes)
         yield int(found[1]), found[2]
 
 
@@ -106,7 +106,7 @@ def edges_of(said: str, nodes: int) -> set[tuple[int, int]]:
         w = int(other) if NUMBER.fullmatch(other) else 0
         edge = min(v, w), max(v, w)
         if not 1 <= edge[0] < edge[1] <= nodes:
-            raise Fault(Code.WRONG_EDGE, edge=shown(f"{v}-{other}"))
+            raise Fault(Code.WRONG_EDGE, edge=shown_field(f"{v}-{other}"))
         if edge in found:
             raise Fault(Code.EDGE_TWICE, v=v, other=other)
         found.add(edge)
@@ -115,7 +115,7 @@ def edges_of(said: str, nodes: int) -> set[tuple[int, int]]:
 
 def add_identifier(node: Node, v: int, said: str) -> None:
     if not IDENTIFIER.fullmatch(said):
-        raise Fault(Code.IDENTIFIER_NO_NUMBER, node=v, said=shown(said))
+        raise Fault(Code.IDENTIFIER_NO_NUMBER, node=v, said=shown_field(said))
     if node.id:
         raise Fault(Code.TWO_IDENTIFIERS, node=v)
     node.id = said
@@ -123,7 +123,7 @@ def add_identifier(node: Node, v: int, said: str) -> None:
 
 def add_bar(node: Node, v: int, said: str) -> None:
     if not CHANNEL.fullmatch(said) or not 1 <= int(said) <= MAX_CHANNEL:
-        raise Fault(Code.CHANNEL_NOT_TO_BAR, said=shown(said), node=v, most=MAX_CHANNEL)
+        raise Fault(Code.CHANNEL_NOT_TO_BAR, said=shown_field(said), node=v, most=MAX_CHANNEL)
     if int(said) in node.bars:
         raise Fault(Code.BARRED_TWICE, channel=int(said), node=v)
     node.bars.append(int(said))

@@ -15,7 +15,7 @@ from typing import Annotated, Literal, TypeVar, Union, get_args, get_origin, get
 
 from forestplan.fault_codes import Code
 from forestplan.faults import Fault
-from forestplan.networks.fields import shown
+from forestplan.networks.fields import shown_field
 
 Asked = TypeVar("Asked")
 # The value of a field, or what it has to be, as `Fault` says it.
@@ -89,7 +89,7 @@ def among(names: Collection[str]) -> Parse:
     def parse_name(value: object) -> str:
         name = text(value)
         if name not in names:
-            raise Fault(Code.NOT_THERE, name=shown(name), names=", ".join(names))
+            raise Fault(Code.NOT_THERE, name=shown_field(name), names=", ".join(names))
         return name
 
     return parse_name
@@ -139,7 +139,7 @@ def parsed_call(kind: type[Asked], body: Mapping[str, object]) -> Asked:
     known = call_fields(of)
     for name in body:
         if name not in known:
-            raise Fault(Code.NO_FIELD, name=shown(name), known=", ".join(known) or "none")
+            raise Fault(Code.NO_FIELD, name=shown_field(name), known=", ".join(known) or "none")
     make: Callable[..., Asked] = kind
     return make(**{name: value_of(name, body.get(name), field) for name, field in known.items()})
 
@@ -171,6 +171,6 @@ def once_each(pairs: list[tuple[str, object]]) -> dict[str, object]:
     found: dict[str, object] = {}
     for name, value in pairs:
         if name in found:
-            raise Fault(Code.FIELD_TWICE, name=shown(name))
+            raise Fault(Code.FIELD_TWICE, name=shown_field(name))
         found[name] = value
     return found

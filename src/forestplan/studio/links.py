@@ -5,7 +5,7 @@ from functools import partial
 from forestplan.definitions.reacting_program import Reacting
 from forestplan.fault_codes import Code
 from forestplan.faults import Fault
-from forestplan.networks.fields import shown
+from forestplan.networks.fields import shown_field
 from forestplan.studio.address import program_named
 from forestplan.studio.call_values import either_program_asked, network_asked
 from forestplan.studio.dares import judged
@@ -35,7 +35,7 @@ def judged_link(link: str, session: Session) -> str:
     """What is said of a link."""
     host, mark, place = link.partition("#")
     if not mark:
-        raise Fault(Code.NO_ADDRESS, host=shown(host))
+        raise Fault(Code.NO_ADDRESS, host=shown_field(host))
     opened = opened_by(place, session)
     opened.address.refuse()
     values = opened.address.values

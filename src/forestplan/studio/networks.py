@@ -61,7 +61,7 @@ ROW_APART = 2
 EXAMPLES = os.path.join(TOP, "examples")
 
 
-def shown(network: Network) -> Net:
+def drawable_net(network: Network) -> Net:
     """A network as the page has it."""
     if network.nodes > MOST_DRAWN:
         raise Fault(
@@ -109,7 +109,7 @@ def example_text(name: str) -> str:
 
 
 def example(call: ExampleCall, session: Session, _tell: Tell) -> Net:
-    return shown(read_network(example_text(call.name), call.name))
+    return drawable_net(read_network(example_text(call.name), call.name))
 
 
 @dataclass
@@ -131,7 +131,7 @@ def opened_by(place: str, session: Session, before: Here = Here()) -> Place:
         raise Fault(Code.EXAMPLE_AND_NETWORK)
     if "example" in pairs:
         text = example_text(pairs["example"])
-        network = shown(read_network(text, pairs["example"]))
+        network = drawable_net(read_network(text, pairs["example"]))
     elif "net" in pairs:
         drawn = drawn_of(pairs["net"])
         if len(drawn.nodes) > MOST_DRAWN:
@@ -165,7 +165,7 @@ def file_read(call: ReadCall, session: Session, _tell: Tell) -> FileRead | FileU
         check_text(call.data, name)
         form = form_of(name, name, stated)
         network, said = read_any(call.data, name, form, stated)
-        net = shown(network)
+        net = drawable_net(network)
         return FileRead(net.name, net.nodes, net.edges, net.bends, said)
     except Unsaid as why:
         choices = [Choice(command, means) for command, means in why.choices]
@@ -210,7 +210,7 @@ def make(call: MakeCall, session: Session, _tell: Tell) -> Net:
     network = read_network(dimacs_text(KINDS[kind].make(*sizes, *more)), kind)
     network.name = "-".join(map(str, [kind, *sizes, *more]))
     network.places = by_shape(kind, *sizes) or network.places
-    return shown(network)
+    return drawable_net(network)
 
 
 def by_shape(kind: str, nodes: int, *_: int) -> dict[int, tuple[float, float]]:
@@ -237,4 +237,4 @@ def tidy(call: TidyCall, session: Session, _tell: Tell) -> Net:
     network = network_asked(call)
     network.places = {}
     network.places = places_of(network)
-    return shown(network)
+    return drawable_net(network)

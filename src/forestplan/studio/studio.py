@@ -21,7 +21,7 @@ from forestplan.parsers import Parser, parser_of
 from forestplan.studio.building import are_built
 from forestplan.studio.call_values import form_of_program
 from forestplan.studio.links import judge
-from forestplan.studio.networks import shown
+from forestplan.studio.networks import drawable_net
 from forestplan.studio.publishing import PAGE, publish
 from forestplan.studio.server import Server
 from forestplan.studio.session import SAMPLES, Form, Session
@@ -163,7 +163,7 @@ def main(arguments: list[str]) -> int:
         return judge_links(given)
     with tempfile.TemporaryDirectory(prefix="forestplan-studio-") as folder:
         try:
-            network = None if given.network is None else shown(opened(given.network))
+            network = None if given.network is None else drawable_net(opened(given.network))
             session = Session(network, *own_programs(given.own), are_built())
             server = server_at(given.port, folder, session)
         except Fault as why:

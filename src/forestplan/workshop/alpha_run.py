@@ -12,7 +12,7 @@ from forestplan.transcripts.proved_judge import verdict_on_run
 from forestplan.wording import as_text
 from forestplan.workshop.findings import NoAnswer
 from forestplan.workshop.nodes import PATIENCE, Nodes
-from forestplan.workshop.protocol import answer_fields, forms_of, own_data, shown, wire_of
+from forestplan.workshop.protocol import answer_fields, forms_of, own_data, start_of_output, wire_of
 from forestplan.workshop.right_rounds import RightRounds, words_of
 
 OWN_DATA = "its own data"
@@ -114,10 +114,12 @@ class AlphaRun:
         """Refuses what isn't the one result of a node that has made its last pulse."""
         if v in self.results:
             sentence = f"it has said `{self.results[v]}` before, and a result is final"
-            raise NoAnswer("garbage", f"{shown(line)}: {sentence}")
+            raise NoAnswer("garbage", f"{start_of_output(line)}: {sentence}")
         if self.pulses[v] != self.rounds.last:
             sentence = f"a node says that once it has made its last pulse, {self.rounds.last}"
-            raise NoAnswer("garbage", f"{shown(line)} at pulse {self.pulses[v]}: {sentence}")
+            raise NoAnswer(
+                "garbage", f"{start_of_output(line)} at pulse {self.pulses[v]}: {sentence}"
+            )
 
     def write(self, v: int, text: str, after: int = 0) -> None:
         self.counters[v] = 1 + max(self.counters[v], after)

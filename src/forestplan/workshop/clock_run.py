@@ -12,7 +12,13 @@ from forestplan.networks.verdicts import parsed_verdict
 from forestplan.wording import in_words
 from forestplan.workshop.findings import Finding, NoAnswer, first_of, kind_of, numbers_in_words
 from forestplan.workshop.nodes import PATIENCE, Answer, Nodes
-from forestplan.workshop.protocol import COLOURING, answer_fields, forms_of, own_data, shown
+from forestplan.workshop.protocol import (
+    COLOURING,
+    answer_fields,
+    forms_of,
+    own_data,
+    start_of_output,
+)
 from forestplan.workshop.right_rounds import RightRounds, PutsOfRounds, ask
 from forestplan.workshop.why import Why
 
@@ -114,7 +120,7 @@ class ClockRun(PutsOfRounds, ABC):
                     if int(port) in puts:
                         raise NoAnswer(
                             "garbage",
-                            f"{shown(line)} is a second payload by this port in one pulse",
+                            f"{start_of_output(line)} is a second payload by this port in one pulse",
                         )
                     puts[int(port)] = " ".join(payload)
                 case fields:
@@ -147,7 +153,7 @@ class RoundsRun(ClockRun):
         about = {"colour": " ".join(fields[:2]), "chose": "chose"}.get(fields[0], "result")
         if about in self.told[v]:
             sentence = f"it has said `{self.told[v][about]}` in this answer already"
-            raise NoAnswer("garbage", f"{shown(line)}: {sentence}")
+            raise NoAnswer("garbage", f"{start_of_output(line)}: {sentence}")
         self.told[v][about] = " ".join(fields)
 
     def difference(self, p: int, v: int) -> Finding | None:
@@ -225,11 +231,12 @@ class OpenRun(ClockRun):
         channel = int(fields[1])
         if channel == 0:
             raise NoAnswer(
-                "garbage", f"{shown(line)}: channels count from 1; a channel is a colour plus 1"
+                "garbage",
+                f"{start_of_output(line)}: channels count from 1; a channel is a colour plus 1",
             )
         if v in self.channels:
             sentence = f"it has said channel {self.channels[v]} before, and a result is final"
-            raise NoAnswer("garbage", f"{shown(line)}: {sentence}")
+            raise NoAnswer("garbage", f"{start_of_output(line)}: {sentence}")
         self.channels[v] = channel
 
     def is_done(self) -> bool:

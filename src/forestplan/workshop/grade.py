@@ -187,7 +187,7 @@ def command_line() -> argparse.ArgumentParser:
     return parser
 
 
-def shown(line: argparse.ArgumentParser, path: str, closed: list[str]) -> str:
+def readable_folder(line: argparse.ArgumentParser, path: str, closed: list[str]) -> str:
     """A folder that programs may read, too."""
     if not os.path.isdir(path):
         line.error(f"--show {path}: there is no such folder")
@@ -204,7 +204,7 @@ def main(arguments: list[str]) -> int:
     given.before = arguments[at + 1 :]
     given.folder = os.path.realpath(given.folder)
     given.seed = given.seed or secrets.token_hex(4)
-    given.show = [shown(line, path, [given.folder, TOP, PACKAGE]) for path in given.show]
+    given.show = [readable_folder(line, path, [given.folder, TOP, PACKAGE]) for path in given.show]
     submissions = submissions_of(given.folder)
     given.users = {student: USERS[at % len(USERS)] for at, student in enumerate(submissions)}
     status, _, why = ask("forestplan", "plain", "p edge 0 0\n")

@@ -15,7 +15,7 @@ from forestplan.workshop.clock_run import ClockRun, OpenRun, RoundsRun
 from forestplan.workshop.findings import Finding, NoAnswer, numbers_in_words
 from forestplan.workshop.guard import Guard, Limits
 from forestplan.workshop.nodes import Nodes
-from forestplan.workshop.protocol import shown
+from forestplan.workshop.protocol import start_of_output
 from forestplan.workshop.right_rounds import RightRounds
 
 MOST_SHRINKS = 60
@@ -91,8 +91,10 @@ class Player:
                 v for v in case.network.vertices if case.owners[v - 1] == owner and v != found.node
             ]
             if nodes:
-                texts.append(f"{numbers_in_words('node', nodes)}: {shown(shlex.join(command))}")
-        whose = f"node {found.node}: {shown(shlex.join(self.commands[found.owner]))}"
+                texts.append(
+                    f"{numbers_in_words('node', nodes)}: {start_of_output(shlex.join(command))}"
+                )
+        whose = f"node {found.node}: {start_of_output(shlex.join(self.commands[found.owner]))}"
         found.lines[1:1] = [("whose", whose), *[("others", "; ".join(texts))] * bool(texts)]
 
     def played(self, cases: list[Case]) -> tuple[list[Case], Case | None, float]:

@@ -13,7 +13,7 @@ from dataclasses import dataclass
 
 from forestplan.workshop.findings import NoAnswer
 from forestplan.workshop.guard import Guard, Limits
-from forestplan.workshop.protocol import END, MOST_BYTES, lines_of, shown
+from forestplan.workshop.protocol import END, MOST_BYTES, lines_of, start_of_output
 
 LOOK = 0.004  # seconds between two looks whether a program has ended
 LOOK_AT_FILES = 1.0  # seconds between two looks at what a program that says nothing writes
@@ -59,7 +59,9 @@ class Process:
                 **guard.start(limits, tasks),
             )
         except OSError as why:
-            said = f"{shown(' '.join(command))} can't be started: {why.strerror}{START_HINT}"
+            said = (
+                f"{start_of_output(' '.join(command))} can't be started: {why.strerror}{START_HINT}"
+            )
             raise NoAnswer("start", said) from None
         guard.programs.add(self.process.pid)
         assert self.process.stdin and self.process.stdout
@@ -102,7 +104,8 @@ class Process:
                 )
             nothing = "it wrote nothing" + FIRST_HINT * (self.asked == 1)
             self.wait(
-                self.readable, f"it wrote {shown(got)}, and no line `end`" if got else nothing
+                self.readable,
+                f"it wrote {start_of_output(got)}, and no line `end`" if got else nothing,
             )
             part = os.read(self.output, 1 << 16)
             if not part:
@@ -140,7 +143,7 @@ class Process:
         if found is None:
             sentence = "it closed its standard input or output, and goes on running"
             return NoAnswer("ended", sentence + self.last_errors())
-        after = f" after {shown(got)}" if got else ""
+        after = f" after {start_of_output(got)}" if got else ""
         sentence = f"it ended with {found}{after} instead of an answer"
         return NoAnswer("ended", sentence + self.last_errors(), found.is_by_signal)
 
@@ -170,7 +173,9 @@ class Process:
 
 
 def after_its_end(got: bytes | bytearray) -> NoAnswer:
-    return NoAnswer("garbage", f"it wrote after the line `end` of its answer: {shown(got)}")
+    return NoAnswer(
+        "garbage", f"it wrote after the line `end` of its answer: {start_of_output(got)}"
+    )
 
 
 @dataclass(frozen=True)
@@ -211,4 +216,4 @@ def last_errors(text: bytes) -> str:
     lines in one, or nothing."""
     lines = UNSHOWN.sub(r"\1", text.decode("utf-8", "replace") + "\n").splitlines()
     last = " | ".join(line.strip() for line in lines[-LAST_LINES:])
-    return shown(last[-LAST_LETTERS:], LAST_LETTERS) if last else ""
+    return start_of_output(last[-LAST_LETTERS:], LAST_LETTERS) if last else ""

@@ -65,7 +65,7 @@ def lines_of(text: bytes | bytearray) -> list[str]:
     return [line.rstrip("\r") for line in text.decode("utf-8", "replace").split("\n")[:-1]]
 
 
-def shown(got: str | bytes | bytearray, most: int = 80) -> str:
+def start_of_output(got: str | bytes | bytearray, most: int = 80) -> str:
     """The first of what a program wrote, as it may be printed in one line."""
     text = got if isinstance(got, str) else bytes(got[:most]).decode("utf-8", "replace")
     text = text.replace("\r", "").replace("\n", " | ").strip(" |")[:most]
@@ -97,7 +97,7 @@ def answer_fields(line: str, forms: list[str], degree: int) -> tuple[str, ...]:
         if found := pattern(form).fullmatch(text):
             break
     else:
-        what = shown(line) if text else "an empty line"
+        what = start_of_output(line) if text else "an empty line"
         lines = ", ".join(f"`{form}`" for form in forms)
         raise NoAnswer(
             "garbage",
@@ -107,7 +107,7 @@ def answer_fields(line: str, forms: list[str], degree: int) -> tuple[str, ...]:
     if found[1] == "put" and int(found[2]) >= degree:
         ports = {0: "no port", 1: "port 0 alone"}.get(degree, f"ports 0 to {degree - 1}")
         text = f"there is no port {found[2][:9]}; the node has {ports}"
-        raise NoAnswer("garbage", f"{shown(line)}: {text}")
+        raise NoAnswer("garbage", f"{start_of_output(line)}: {text}")
     return found.groups()
 
 
@@ -116,5 +116,5 @@ def wire_of(line: str, wire: str, program: str) -> str:
     try:
         read_wire(program, *wire.encode().split())
     except NoEntry as why:
-        raise NoAnswer("garbage", f"{shown(line)}: {why}") from None
+        raise NoAnswer("garbage", f"{start_of_output(line)}: {why}") from None
     return re.sub("\\b0+(?=[0-9])", "", wire)

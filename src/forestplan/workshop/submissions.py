@@ -9,7 +9,7 @@ from typing import TypedDict
 from forestplan.fault_codes import Code
 from forestplan.faults import Fault, InText
 from forestplan.schedules.policies import POLICIES
-from forestplan.workshop.protocol import shown
+from forestplan.workshop.protocol import start_of_output
 
 # Of each assignment how many runs are played, and the most points. For another scale change these lines.
 RUNS = {"rounds": 100, "alpha": 120, "open": 50}
@@ -196,4 +196,4 @@ def check_folder(folder: str) -> None:
 
 def clean(text: str) -> str:
     """Words of a student, as they may be printed in one line."""
-    return shown(text, 200)[1:-1]
+    return start_of_output(text, 200)[1:-1]
