@@ -46,7 +46,7 @@ def main() -> int:
         "forestplan.version" if "--version" in (name, *sys.argv[1:2]) else f"build.{MODULES[name]}"
     )
     process_exit = importlib.import_module("forestplan.process_exit")
-    status: int = process_exit.run(name, lambda: importlib.import_module(module).main)
+    status: int = process_exit.run_command(name, lambda: importlib.import_module(module).main)
     return status
 
 

@@ -92,7 +92,7 @@ def main() -> int:
     process_exit = importlib.import_module("forestplan.process_exit")
     # What a file of the user's does mustn't end this command, nor its status.
     calls_a_file = name != "studio" and any(word.endswith(".py") for word in arguments)
-    run = process_exit.run_apart if calls_a_file else process_exit.run
+    run = process_exit.run_apart if calls_a_file else process_exit.run_command
     status: int = run(
         name if name in COMMANDS else "forestlab", lambda: command_of(name, arguments)
     )

@@ -42,7 +42,7 @@ def held() -> Iterator[None]:
         signal.pthread_sigmask(signal.SIG_SETMASK, before)
 
 
-def run(name: str, load: Load) -> int:
+def run_command(name: str, load: Load) -> int:
     """Runs the command that `load` imports, a function that returns its status, and returns the status to end with."""
     for number in STOPS:
         if (
@@ -93,9 +93,9 @@ def run_apart(name: str, load: Load) -> int:
             signal.signal(number, signal.SIG_IGN)
         # Nothing else that ends the process gets here.
         atexit.register(os.write, writer, b".")
-        return run(name, load)
+        return run_command(name, load)
     os.close(writer)
-    return run(name, lambda: lambda: status_of(child, reader))
+    return run_command(name, lambda: lambda: status_of(child, reader))
 
 
 def status_of(child: int, reader: int) -> int:

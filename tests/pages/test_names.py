@@ -12,7 +12,6 @@ from tests.cases import Case
 SEVERAL = {
     "main": 14,
     "command_line": 11,
-    "run": 4,
     "Entry": 3,
     "Found": 3,
     "Refused": 3,

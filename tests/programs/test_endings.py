@@ -149,7 +149,7 @@ class Endings(Case):
             ("[].pop()", 70, f"{own}IndexError: "),
             ("bytearray(1 << 62)", 1, "some: out of memory\n"),
         ):
-            run = f"process_exit.run('some', lambda: lambda: {fault})"
+            run = f"process_exit.run_command('some', lambda: lambda: {fault})"
             script = f"import sys; from forestplan import process_exit; sys.exit({run})"
             done = subprocess.run(
                 [sys.executable, "-c", script], capture_output=True, text=True, cwd=SOURCES

@@ -66,7 +66,7 @@ def play(part: Part, given: argparse.Namespace, room: str) -> dict[str, object]:
     return {"result": as_json(options, *found), "report": report(*found), "by_signal": is_by_signal}
 
 
-def run(part: Part, given: argparse.Namespace, room: str, to: Connection) -> None:
+def grade_part(part: Part, given: argparse.Namespace, room: str, to: Connection) -> None:
     """In the process itself: its status is 0 if it has said what there is to say."""
     status = 2  # ended from outside, or a mistake of the workshop's own
     try:
@@ -97,7 +97,7 @@ def play_all(parts: list[Part], given: argparse.Namespace, jobs: int, room: str)
             while waiting and len(running) < jobs:
                 part = waiting.pop()
                 pipe, to = FORK.Pipe(duplex=False)
-                process = FORK.Process(target=run, args=(part, given, room, to))
+                process = FORK.Process(target=grade_part, args=(part, given, room, to))
                 with held():
                     process.start()
                     running[pipe] = part, process, time.monotonic() + given.seconds + GRACE

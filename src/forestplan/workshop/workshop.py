@@ -42,13 +42,13 @@ def main(arguments: list[str]) -> int:
         options = parsed(arguments)
         cases = cases_of(options)
     try:
-        return other(arguments[1:]) if other else run(options, cases)
+        return other(arguments[1:]) if other else run_cases(options, cases)
     except (Fault, OSError) as why:
         print(f"workshop: {why}", file=sys.stderr)
         return 2
 
 
-def run(options: Namespace, cases: list[Case]) -> int:
+def run_cases(options: Namespace, cases: list[Case]) -> int:
     shut()
     cases, shown, seconds = Player(options, is_shown=True).played(cases)
     case = shown or cases[-1]
