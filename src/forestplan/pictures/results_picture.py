@@ -17,7 +17,7 @@ from forestplan.wording import counted
 OF_CHANNELS, SHOWN = (Colouring, Recolouring), (Matching, IndependentSet)
 
 
-class Found(Vertex):
+class ResultVertex(Vertex):
     """What a node is drawn with: `colour`, from 0, and `other`, the vertex at the end of the edge that it has chosen,
     or None; `words` are beside it."""
 
@@ -52,8 +52,8 @@ class Found(Vertex):
         return self.before + 1
 
 
-def found_in(rounds: ProgramRounds) -> dict[int, Found]:
-    return {v: Found(rounds, v) for v in rounds.network.vertices}
+def found_in(rounds: ProgramRounds) -> dict[int, ResultVertex]:
+    return {v: ResultVertex(rounds, v) for v in rounds.network.vertices}
 
 
 def results_svg(rounds: ProgramRounds) -> str:
@@ -77,7 +77,7 @@ def results_svg(rounds: ProgramRounds) -> str:
     return svg.document()
 
 
-def draw_chosen(svg: Svg, drawn: Map, found: dict[int, Found]) -> None:
+def draw_chosen(svg: Svg, drawn: Map, found: dict[int, ResultVertex]) -> None:
     """The edges that nodes have chosen; one that only one of its ends has chosen is an arrow."""
     for v, one in found.items():
         is_mutual = one.other and found[one.other].other == v
@@ -87,7 +87,7 @@ def draw_chosen(svg: Svg, drawn: Map, found: dict[int, Found]) -> None:
             )
 
 
-def legend(found: dict[int, Found]) -> str:
+def legend(found: dict[int, ResultVertex]) -> str:
     """What the marks mean, of those that there are."""
     said = ["a thick line is an edge that a node has chosen"] * any(
         one.other for one in found.values()
@@ -99,7 +99,7 @@ def legend(found: dict[int, Found]) -> str:
     return f": {'; '.join(said)}" if said else ""
 
 
-def counts(found: dict[int, Found], network: Network) -> str:
+def counts(found: dict[int, ResultVertex], network: Network) -> str:
     """How much there is of what is found."""
     if all(one.has_channel for one in found.values()):
         after = len({one.colour for one in found.values()})

@@ -11,7 +11,7 @@ from forestplan.definitions.reacting_program import AnyProgram
 from forestplan.fault_codes import Code
 from forestplan.faults import Fault, InText
 from forestplan.network import Edge, Network
-from forestplan.transcripts.judge import Found, check_form, find_order
+from forestplan.transcripts.judge import FoundOrder, check_form, find_order
 from forestplan.transcripts.reading import WrongEntry, read_to_fault
 
 # How many steps of time a pulse of the rounds takes.
@@ -73,7 +73,7 @@ class Run:
         name: str,
         network: Network,
         program: Program,
-        order: Found,
+        order: FoundOrder,
         wrong: tuple[Entry, WrongEntry] | None,
     ) -> None:
         self.name, self.network, self.program = name, network, program
@@ -137,7 +137,7 @@ def wires_of(made: list[Entry]) -> list[Wire]:
 
 def ordered(
     text: str, name: str, network: Network, program: AnyProgram, is_wrong_drawn: bool | None = False
-) -> tuple[Found, tuple[Entry, WrongEntry] | None]:
+) -> tuple[FoundOrder, tuple[Entry, WrongEntry] | None]:
     """The order that is found of the entries, which are then by stamp; and the first one that isn't possible, with what
     is wrong, if that is drawn, and else refused."""
     try:

@@ -208,7 +208,7 @@ def refused_of_rounds(given: Namespace) -> str:
     return ""
 
 
-class Found(NamedTuple):
+class Explored(NamedTuple):
     """What was found: whether something goes wrong, in words; of the schedules the list of events that leads to it, or
     to an end, and how many states and steps were searched."""
 
@@ -222,12 +222,12 @@ class Found(NamedTuple):
 # The rounds.
 
 
-def rounds_found(given: Namespace) -> Found:
+def rounds_found(given: Namespace) -> Explored:
     """What the rounds of the network do without the rules, or a smallest network on which they go wrong."""
     net = None if given.network is None else network_at(given.network)
     rounds, said = looked_at(net, given.without, program_asked("explore", given, net))
     text = f"{said}\n{rounds.sentence()}\n" if rounds else f"{said}\n"
-    return Found(rounds is not None, text + refused_words(given.without))
+    return Explored(rounds is not None, text + refused_words(given.without))
 
 
 def refused_words(without: Collection[str]) -> str:
@@ -238,16 +238,16 @@ def refused_words(without: Collection[str]) -> str:
     )
 
 
-def networks_found(given: Namespace) -> Found:
+def networks_found(given: Namespace) -> Explored:
     """Whether the rounds of a file end right on networks by chance, by its `right`."""
     program = program_asked("explore", given)
     if not has_verdict(program):
         raise Fault(Code.NO_FUNCTION_RIGHT, program=given.program)
     is_right, text = verdict_on_many(program, given.networks, given.seed, given.connected)
-    return Found(not is_right, text)
+    return Explored(not is_right, text)
 
 
-def found_as_json(found: Found) -> str:
+def found_as_json(found: Explored) -> str:
     # Only this option pays for what the import takes.
     import json
 
@@ -257,7 +257,7 @@ def found_as_json(found: Found) -> str:
 # The schedules.
 
 
-def schedules_found(given: Namespace) -> Found:
+def schedules_found(given: Namespace) -> Explored:
     net = network_at(given.network)
     program = any_program_asked("explore", given, net)
     if isinstance(program, Reacting):
@@ -279,10 +279,12 @@ def schedules_found(given: Namespace) -> Found:
         text = broken_text(given, space, events)
     else:
         text = whole_text(given, net.name, space)
-    return Found(bool(space.faults), text, list(map(str, events)), space.count, len(space.target))
+    return Explored(
+        bool(space.faults), text, list(map(str, events)), space.count, len(space.target)
+    )
 
 
-def found_by_rounds(given: Namespace, net: Network, program: Program) -> Found | None:
+def found_by_rounds(given: Namespace, net: Network, program: Program) -> Explored | None:
     """What the rounds show already of a file that says what is right: all of a network that is too large for its
     schedules, and of another one that they end wrong."""
     if given.without or given.list or not has_verdict(program):
@@ -291,10 +293,10 @@ def found_by_rounds(given: Namespace, net: Network, program: Program) -> Found |
     if not is_large and not wrong_end(net, program):
         return None
     is_right, text = verdict_of(net, program)
-    return Found(not is_right, text + (ROUNDS_ALONE if is_large else ""))
+    return Explored(not is_right, text + (ROUNDS_ALONE if is_large else ""))
 
 
-def reacting_found(given: Namespace, net: Network, program: Reacting) -> Found:
+def reacting_found(given: Namespace, net: Network, program: Reacting) -> Explored:
     """What is found of nodes that react to messages: there are no rounds to compare them with."""
     if set(given.without) - {"fifo"}:
         raise Fault(Code.NO_SYNCHRONISER, program=given.program)
@@ -316,10 +318,10 @@ def reacting_found(given: Namespace, net: Network, program: Reacting) -> Found:
         lines += draws_words(given, [node for own in space.locals for node in own])
     listed = list(map(str, events))
     text = as_text(listed if given.list else lines)
-    return Found(bool(space.faults), text, listed, space.count, len(space.target))
+    return Explored(bool(space.faults), text, listed, space.count, len(space.target))
 
 
-def runs_found(given: Namespace, runs: Runs) -> Found:
+def runs_found(given: Namespace, runs: Runs) -> Explored:
     """What is found in runs by a seed."""
     lines = list(reacting_words.runs_words(runs))
     if runs.wrong:
@@ -330,7 +332,7 @@ def runs_found(given: Namespace, runs: Runs) -> Found:
             *reacting_words.lines_of_list(runs.net, runs.program, runs.events),
         ]
     listed = list(map(str, runs.events))
-    return Found(bool(runs.wrong), as_text(listed if given.list else lines), listed)
+    return Explored(bool(runs.wrong), as_text(listed if given.list else lines), listed)
 
 
 def search(given: Namespace, space: Space[AnySearched]) -> None:

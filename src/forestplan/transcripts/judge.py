@@ -19,7 +19,7 @@ from forestplan.transcripts.reading import Head, WrongEntry, read_to_fault
 from forestplan.transcripts.stamps import Clock, check_whole, refusal, unfinished
 
 
-class Found:
+class FoundOrder:
     """What is found of entries: those `made`, in an order that is a run, each with its stamp, and the `state` after
     them; and of each node whose entries can't all be made, those that are `left`, and the code of the refusal of the
     first one."""
@@ -79,7 +79,7 @@ class Found:
         return not self.refusals and not any(unfinished(self.state))
 
 
-def find_order(net: Network, entries: list[Entry], program: AnyProgram = COLOURING) -> Found:
+def find_order(net: Network, entries: list[Entry], program: AnyProgram = COLOURING) -> FoundOrder:
     """Makes the entries in their order, if they have stamps, and else the next one of any node as long as one is
     possible.
 
@@ -93,7 +93,7 @@ def find_order(net: Network, entries: list[Entry], program: AnyProgram = COLOURI
 
     A node is looked at again only if a neighbour has put the wire that it waits for; so the time is linear.
     """
-    found = Found(net, entries, program)
+    found = FoundOrder(net, entries, program)
     if found.is_stamped:
         for entry in entries:
             if entry.node not in found.refusals:
