@@ -27,8 +27,8 @@ run_program "$top/lib/$name" "$name" "$@"
 """
 
 
-class Refused(Exception):
-    """A program refused: `status` is its own, and `words` is what it wrote to standard error."""
+class ProgramRefused(Exception):
+    """A program refused: `status` is its own, and `message` is what it wrote to standard error."""
 
     def __init__(self, status: int, message: str) -> None:
         super().__init__(status, message)
@@ -58,10 +58,10 @@ def called(name: str, arguments: Iterable[str], data: bytes) -> subprocess.Compl
 
 
 def output_of(name: str, arguments: Iterable[str], data: bytes) -> str:
-    """What a program writes of a text; what it says besides goes on to standard error, or into `Refused`."""
+    """What a program writes of a text; what it says besides goes on to standard error, or into `ProgramRefused`."""
     done = called(name, arguments, data)
     said = done.stderr.decode("utf-8", "replace")
     if done.returncode:
-        raise Refused(done.returncode, said)
+        raise ProgramRefused(done.returncode, said)
     sys.stderr.write(said)
     return done.stdout.decode()

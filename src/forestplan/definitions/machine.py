@@ -1,6 +1,6 @@
 """The event machine: a network of nodes without a common clock, event by event, by its definition
 (docs/claim/DEFINITIONS.md), slow and plain. What a caller may only do wrong (an event that isn't possible) raises
-`Refused`.
+`NotPossible`.
 
 A node reacts to each message that it takes, and may have steps of its own, as the pulses of a node under synchroniser
 alpha are (`AlphaNode` of src/forestplan/definitions/nodes.py). Messages and events are as in
@@ -14,7 +14,7 @@ from forestplan.fault_codes import Code
 from forestplan.network import Network
 
 
-class Refused(Exception):
+class NotPossible(Exception):
     """Why an event isn't possible: a code; of a message that isn't due, which it is."""
 
     def __init__(self, code: Code, message: str = "") -> None:
@@ -47,7 +47,7 @@ class Node(Protocol):
         """The number of its next step of its own."""
 
     def on_wire(self, at: int, wire: Message) -> None:
-        """It takes a message by a port; raises `Refused` if that isn't due."""
+        """It takes a message by a port; raises `NotPossible` if that isn't due."""
 
     def lacks(self, neighbours: list[int]) -> str:
         """What its next step of its own waits for, or why there is none."""
@@ -95,22 +95,22 @@ class NetState(Generic[AnyNode]):
         taken."""
         v, port = event.node, event.port
         if v not in self.nodes or port is not None and port >= len(self.nodes[v].ports):
-            raise Refused(Code.NO_SUCH)
+            raise NotPossible(Code.NO_SUCH)
         node = self.nodes[v]
         if port is None:
             if not node.may_act():
-                raise Refused(Code.NOT_READY)
+                raise NotPossible(Code.NOT_READY)
             return node.next_act()
         wires = node.ports[port].out if event.kind is PUT else self.link_to(v, port)
         if not wires:
-            raise Refused(Code.NOTHING_TO_PUT if event.kind is PUT else Code.LINK_EMPTY)
+            raise NotPossible(Code.NOTHING_TO_PUT if event.kind is PUT else Code.LINK_EMPTY)
         return wires[0]
 
     def step(self, event: Event, what: int | Message | None = None) -> int | Message:
         """Makes an event that is possible, and carries this if that is given; returns what it carries."""
         carried = self.carried(event)
         if what is not None and what is not carried and what != carried:
-            raise Refused(Code.WRONG_WIRE)
+            raise NotPossible(Code.WRONG_WIRE)
         v, port = event.node, event.port
         if port is None or isinstance(carried, int):
             self.nodes[v].act()
@@ -149,11 +149,11 @@ def event_of(state: NetState[Node], entry: Entry) -> Event:
     """The event of an entry of a transcript."""
     event = state.events.get((entry.kind, entry.node, entry.neighbour))
     if event is None:
-        raise Refused(Code.NO_SUCH)
+        raise NotPossible(Code.NO_SUCH)
     return event
 
 
-def entry_words(state: NetState[Node], entry: Entry, refused: Refused) -> str:
+def entry_words(state: NetState[Node], entry: Entry, refused: NotPossible) -> str:
     """What comes after the line of a refused entry: what its event lacks, or the step or message to which its event
     comes."""
     if refused.code is Code.NO_SUCH:

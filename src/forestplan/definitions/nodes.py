@@ -1,5 +1,5 @@
 """The rounds of the colouring at one node, and a node under synchroniser alpha, by their definitions
-(docs/claim/DEFINITIONS.md), slow and plain. A wire that is refused, which a caller may only do wrong, raises `Refused`.
+(docs/claim/DEFINITIONS.md), slow and plain. A wire that is refused, which a caller may only do wrong, raises `NotPossible`.
 
 The node under alpha is of any program (src/forestplan/definitions/program.py, which says what vertices, ports, pulses
 and payloads are; src/forestplan/definitions/programs.py has all programs). Wires are as in
@@ -11,7 +11,7 @@ from functools import partial
 
 from forestplan.definitions.colours import other_than
 from forestplan.definitions.events import CLOSE, PULSE, Message, ack, safe
-from forestplan.definitions.machine import NetState, Node, Outgoing, Refused
+from forestplan.definitions.machine import NetState, Node, Outgoing, NotPossible
 from forestplan.definitions.program import Payload, Program, RoundsNode, Slot
 from forestplan.fault_codes import Code
 from forestplan.network import Network
@@ -275,7 +275,7 @@ class AlphaNode(Node):
     def act(self) -> None:
         """It begins its next pulse."""
         if not self.may_act():
-            raise Refused(Code.NOT_READY)
+            raise NotPossible(Code.NOT_READY)
         sent = self.simulated.next(self.pulse_number + 1, [port.present for port in self.ports])
         self.pulse_number, self.safe_sent = self.pulse_number + 1, False
         for port in self.ports:
@@ -304,7 +304,7 @@ class AlphaNode(Node):
         """It takes a wire by a port."""
         port = self.ports[at]
         if port.closed or not self.is_due(port, wire):
-            raise Refused(Code.NOT_DUE, f"{wire} at port {at}")
+            raise NotPossible(Code.NOT_DUE, f"{wire} at port {at}")
         match wire.word, wire.fields:
             case "safe", (q,):
                 if q == self.pulse_number:

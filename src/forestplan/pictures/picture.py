@@ -548,7 +548,7 @@ def main(arguments: list[str]) -> int:
         given.refuse("--stopped is for --wrong")
     try:
         picture = drawn(given)
-    except proved_programs.Refused as why:
+    except proved_programs.ProgramRefused as why:
         sys.stderr.write(why.message)
         return why.status
     write(given, picture)

@@ -12,7 +12,7 @@ from typing import TypeVar
 from forestplan.definitions.events import Message, ack
 from forestplan.definitions.layers import Layers
 from forestplan.definitions.leader import Leader
-from forestplan.definitions.machine import Refused
+from forestplan.definitions.machine import NotPossible
 from forestplan.definitions.nodes import COLOURING, AlphaNode, Colouring, Port, Role
 from forestplan.definitions.own_program import OwnNode
 from forestplan.definitions.program import Payload, Program, RoundsNode, Slot, synchronous_pulses
@@ -84,7 +84,7 @@ class RuledNode(AlphaNode, SearchedNode):
             case Message("payload", (int(pulse), str(word), int(number))):
                 ahead = pulse - self.pulse_number
                 if ahead > 1 or ahead < 0 and "safes" not in self.without:
-                    raise Refused(Code.NOT_DUE, f"{wire}: no place for it")
+                    raise NotPossible(Code.NOT_DUE, f"{wire}: no place for it")
                 if ahead == 0 or ahead == 1 and "early" in self.without:
                     port.present = Payload(word, number)
                 elif ahead == 1:

@@ -12,7 +12,7 @@ from itertools import islice
 from typing import Generic
 
 from forestplan.definitions.events import ACT, PULSE, PUT, TAKE, Entry, Event, Kind, Message
-from forestplan.definitions.machine import AnyNode, NetState, Node, Refused, missing_words
+from forestplan.definitions.machine import AnyNode, NetState, Node, NotPossible, missing_words
 from forestplan.definitions.nodes import COLOURING, AlphaNode, alpha_start
 from forestplan.definitions.own_program import check_repeats, what_is_wrong, wrong_end
 from forestplan.definitions.program import Program
@@ -127,7 +127,7 @@ class Player(Generic[AnyNode]):
             self.steps[v].append(Step(kind, v, w, wires[0].word, times[0], latest))
 
     def make(self, event: Event) -> Entry:
-        """Makes an event, and returns its entry; raises `Refused` if it isn't possible."""
+        """Makes an event, and returns its entry; raises `NotPossible` if it isn't possible."""
         kind, v = event.kind, event.node
         what = self.state.step(event)
         w = None if event.port is None else self.state.neighbours[v][event.port]
@@ -147,7 +147,7 @@ class Player(Generic[AnyNode]):
         for line, event in events:
             try:
                 self.make(event)
-            except Refused as refused:
+            except NotPossible as refused:
                 missing = missing_words(self.state, event)
                 raise Fault(
                     Code.EVENT_REFUSED,

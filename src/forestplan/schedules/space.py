@@ -34,7 +34,7 @@ from functools import cache
 from typing import Generic, NamedTuple, Protocol, TypeVar
 
 from forestplan.definitions.events import Event, Kind, Message
-from forestplan.definitions.machine import Node, Refused
+from forestplan.definitions.machine import Node, NotPossible
 from forestplan.definitions.own_program import (
     UnderWay,
     asks_for_messages,
@@ -185,7 +185,7 @@ class Space(Generic[AnySearched]):
         node, wire = self.locals[a][i].copied(), self.wires[number]
         try:
             node.on_wire(port, wire)
-        except Refused:
+        except NotPossible:
             v = self.vertices[a]
             return None, (), f"node {v} refuses `{wire}` from {self.ports[v][port]}"
         return *self.after(a, node), None

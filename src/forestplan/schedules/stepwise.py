@@ -9,7 +9,7 @@ from collections.abc import Collection, Iterable
 from functools import cached_property
 
 from forestplan.definitions.events import PULSE, PUT, TAKE, Event, Kind
-from forestplan.definitions.machine import AnyNode, NetState, Refused
+from forestplan.definitions.machine import AnyNode, NetState, NotPossible
 from forestplan.definitions.nodes import COLOURING, AlphaNode
 from forestplan.definitions.program import Program
 from forestplan.fault_codes import Code
@@ -204,7 +204,7 @@ class Stepwise(ByHand[AlphaNode]):
         try:
             self.make(event)
             self.put_all(v)
-        except Refused:
+        except NotPossible:
             self.is_over = True
             w = self.state.neighbours[v][event.port or 0]
             return f"node {v} can't take what came from {w}"

@@ -10,7 +10,7 @@ from dataclasses import dataclass, field
 from functools import cached_property
 
 from forestplan.definitions.events import Message
-from forestplan.definitions.machine import NetState, Refused
+from forestplan.definitions.machine import NetState, NotPossible
 from forestplan.definitions.program import Program
 from forestplan.network import Network
 from forestplan.pictures.page_data import Look
@@ -129,7 +129,7 @@ class LocalStates:
         node, port = self.nodes[v][number].copied(), self.network.neighbours[v].index(w)
         try:
             node.on_wire(port, wire)
-        except Refused:
+        except NotPossible:
             return
         if self.without or self.can_be(v, node, port, wire):
             # It is there before what it puts comes back to it.

@@ -7,7 +7,7 @@ from collections import deque
 from dataclasses import replace
 
 from forestplan.definitions.events import ACT, PUT, Entry, Message
-from forestplan.definitions.machine import Refused, make
+from forestplan.definitions.machine import NotPossible, make
 from forestplan.definitions.nodes import COLOURING
 from forestplan.definitions.own_program import what_is_wrong
 from forestplan.definitions.program import Program
@@ -38,7 +38,7 @@ class FoundOrder:
         entry = self.left[v][0]
         try:
             make(self.state, entry)
-        except Refused as refused:
+        except NotPossible as refused:
             self.refusals[v] = refused.code
             return
         stamp = self.clock.next(entry.kind, v, entry.neighbour)

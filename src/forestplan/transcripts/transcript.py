@@ -214,7 +214,7 @@ def main(arguments: list[str]) -> int:
         else:
             print(wrong, file=sys.stderr)
         return 1
-    except proved_programs.Refused as why:
+    except proved_programs.ProgramRefused as why:
         sys.stderr.write(why.message)
         return why.status
     return 0
