@@ -13,7 +13,6 @@ SEVERAL = {
     "main": 14,
     "command_line": 11,
     "Entry": 3,
-    "Run": 3,
     "check": 3,
     "columns_of": 3,
     "judged": 3,

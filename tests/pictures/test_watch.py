@@ -6,7 +6,7 @@ from forestplan.definitions.nodes import last_pulse
 from forestplan.definitions.rounds import ColouringRounds
 from forestplan.networks.network_text import network_of
 from forestplan.pictures import watch_page
-from forestplan.pictures.watch_page import Run, Steps, steps_of_text
+from forestplan.pictures.watch_page import ShownRun, Steps, steps_of_text
 from forestplan.schedules.policies import Policy
 from forestplan.schedules.simulate import AlphaPlayer, text_of_run
 from tests.cases import example
@@ -79,8 +79,8 @@ class Watch(PictureCase):
         for entry in player.entries(Policy("random", network.vertices, network.edges, "watch")):
             steps.add(entry)
         text = text_of_run(network.nodes, player.made)
-        wanted = Run("run", network, steps_of_text("run", network, text)).table()
-        self.same("a player", Run("run", network, steps.by_stamp()).table(), wanted)
+        wanted = ShownRun("run", network, steps_of_text("run", network, text)).table()
+        self.same("a player", ShownRun("run", network, steps.by_stamp()).table(), wanted)
 
     def test_same_rounds(self):
         """Two runs beside each other: a pulse of both is where a node makes it last."""

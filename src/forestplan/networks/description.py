@@ -20,7 +20,7 @@ AN_INSTANT = 100_000
 WIRES_A_SECOND = {"plan": 1_500_000, "transcript": 1_000_000}
 
 
-class Run:
+class RunSize:
     """What every whole run of a network comes to; `payloads` counts them, or if they may be many, `is_bound`, it is the
     most that there can be."""
 
@@ -77,7 +77,7 @@ def most_payloads(network: Network) -> int:
     return 13 * len(network.edges) + 2 * merged
 
 
-def processor_seconds(run: Run, command: str) -> float:
+def processor_seconds(run: RunSize, command: str) -> float:
     """About how many seconds of processor time `plan` or `transcript` takes, by its wires alone.
 
     >>> run = Run(Network(2, [(1, 2)]))
@@ -87,7 +87,7 @@ def processor_seconds(run: Run, command: str) -> float:
     return run.wires / WIRES_A_SECOND[command]
 
 
-def times(run: Run) -> str:
+def times(run: RunSize) -> str:
     """About how much processor time `plan` and `transcript` take."""
     if run.wires <= AN_INSTANT:
         return "less than a second"
@@ -102,7 +102,7 @@ def times(run: Run) -> str:
 
 def facts(reading: Reading, network: Network) -> list[tuple[str, str]]:
     """(name, what) of each line that `tell` prints."""
-    run = Run(network)
+    run = RunSize(network)
     degrees = [len(network.neighbours[v]) for v in network.vertices]
     edges = len(network.edges)
     forests = network.forest_count

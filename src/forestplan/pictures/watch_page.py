@@ -132,7 +132,7 @@ def steps_of_text(
     return steps
 
 
-class Run:
+class ShownRun:
     """The entries of a run that are shown, `moments`, the wires among them, and the nodes before the first one. `steps`
     are those of a text, or of an `AlphaPlayer` by stamp."""
 
@@ -242,9 +242,9 @@ def run_of_text(
     network: Network,
     pulses: tuple[int, int] | None = None,
     program: Program = COLOURING,
-) -> Run:
+) -> ShownRun:
     """The run of a transcript, as far as these pulses need it."""
-    return Run(name, network, steps_of_text(name, network, text, pulses, program), pulses)
+    return ShownRun(name, network, steps_of_text(name, network, text, pulses, program), pulses)
 
 
 def wires_of(every: list[Step], first: int) -> list[Flight]:
@@ -265,7 +265,7 @@ def wires_of(every: list[Step], first: int) -> list[Flight]:
     return [flight for flight in found if flight.take is None or flight.take >= 0]
 
 
-def watch_html(runs: list[Run]) -> str:
+def watch_html(runs: list[ShownRun]) -> str:
     """The page of one run, or of two of one network."""
     network, first = runs[0].network, runs[0]
     pulses = max(run.pulses[0] for run in runs), min(run.pulses[1] for run in runs)
@@ -288,7 +288,7 @@ def watch_html(runs: list[Run]) -> str:
     )
 
 
-def about(runs: list[Run], pulses: tuple[int, int]) -> str:
+def about(runs: list[ShownRun], pulses: tuple[int, int]) -> str:
     run = runs[0]
     shown_ = f"Pulses {pulses[0]} to {pulses[1]} of {run.last}"
     entries = " and ".join(f"{len(one.moments):,}" for one in runs)
@@ -304,7 +304,7 @@ def about(runs: list[Run], pulses: tuple[int, int]) -> str:
     return said + (f" {names_of_runs(cut)[0]} ends before the nodes are through." if cut else "")
 
 
-def names_of_runs(runs: list[Run]) -> list[str]:
+def names_of_runs(runs: list[ShownRun]) -> list[str]:
     """What a page calls its runs: by their files, without the folders of the machine that they are on."""
     names = [os.path.basename(run.name) for run in runs]
     if len(set(names)) == len(names):

@@ -17,7 +17,7 @@ from forestplan.network import Edge, Network
 from forestplan.pictures.program_rounds import is_own, least_wires, rounds_of
 from forestplan.pictures.watch_page import (
     MOST_ENTRIES,
-    Run,
+    ShownRun,
     Steps,
     watch_html,
     look_of,
@@ -73,7 +73,7 @@ def held_of(held: Held, net: Network) -> tuple[set[tuple[int, int]], set[int]]:
 
 def played(
     call: RunCall, network: Network, program: Program, session: Session, tell: Tell
-) -> tuple[str, Run]:
+) -> tuple[str, ShownRun]:
     """(transcript, run) by a seed, which no thread made; steps of somebody's may come first."""
     most = least_wires(network, program)
     if most > MOST_WIRES_PLAYED:
@@ -96,8 +96,8 @@ def played(
             tell(min(len(player.made), of), of)
         if len(player.made) == next_part:
             next_part *= 2
-            tell(part=run_part(Run("the run", network, made.by_stamp())))
-    return text_of_run(network.nodes, player.made, program), Run(
+            tell(part=run_part(ShownRun("the run", network, made.by_stamp())))
+    return text_of_run(network.nodes, player.made, program), ShownRun(
         "the run", network, made.by_stamp()
     )
 
@@ -112,7 +112,7 @@ def first_steps(steps: str, net: Network, program: Program) -> Iterator[Event]:
         yield event
 
 
-def run_part(found: Run) -> RunPart:
+def run_part(found: ShownRun) -> RunPart:
     """What is shown of a run."""
     return RunPart(found.table(), found.last, found.pulses, found.is_cut)
 
@@ -181,7 +181,7 @@ def singled_out(call: RunCall, network: Network) -> str | None:
 
 
 def compared(
-    found: Run, network: Network, program: Program
+    found: ShownRun, network: Network, program: Program
 ) -> tuple[tuple[int, int, int], list[str | int]]:
     """(pulses whose payloads are those of the rounds, pulses compared, payloads), and what the rounds find."""
     there, results = rounds_of(network, program), results_of(network, program)
