@@ -172,15 +172,15 @@ READS = {
         "all_of: os.read",
     ): "1 MiB (MOST_SAID), and 64 KiB of the next part",
     # What the system says.
-    ("src/forestplan/progress.py", "fields_of: open"): "a line of /proc",
-    ("src/forestplan/progress.py", "fields_of: file.read"): "a line of /proc",
+    ("src/forestplan/progress.py", "process_fields: open"): "a line of /proc",
+    ("src/forestplan/progress.py", "process_fields: file.read"): "a line of /proc",
     ("src/forestplan/workshop/leftovers.py", "processes: open"): "a line of /proc",
     ("src/forestplan/workshop/leftovers.py", "processes: file.read"): "a line of /proc",
     (
         "src/forestplan/workshop/memory.py",
-        "text_of: open",
+        "process_file: open",
     ): "1 MiB of a file of /proc; more is refused",
-    ("src/forestplan/workshop/memory.py", "text_of: file.read"): "the same",
+    ("src/forestplan/workshop/memory.py", "process_file: file.read"): "the same",
     (
         "src/forestplan/workshop/calls.py",
         "Filter.program: os.pread",
@@ -192,7 +192,7 @@ READS = {
     ("src/forestplan/interface/programs.py", "called: subprocess.run"): OF_PROGRAM,
     (
         "src/forestplan/workshop/workshop.py",
-        "draw: subprocess.run",
+        "draw_wrong_run: subprocess.run",
     ): "a line of `forestlab picture`",
     (
         "src/forestplan/workshop/sandbox.py",
@@ -233,8 +233,8 @@ READS = {
     ("src/forestplan/version.py", "text: open"): OF_TREE,
     ("src/forestplan/version.py", "text: file.read"): OF_TREE,
     ("src/forestplan/version.py", "text: kits.read"): OF_TREE,
-    ("src/forestplan/pictures/pages.py", "text_of: open"): OF_TREE,
-    ("src/forestplan/pictures/pages.py", "text_of: file.read"): OF_TREE,
+    ("src/forestplan/pictures/pages.py", "page_file_text: open"): OF_TREE,
+    ("src/forestplan/pictures/pages.py", "page_file_text: file.read"): OF_TREE,
     ("src/forestplan/studio/lessons.py", "page_text: open"): OF_TREE,
     ("src/forestplan/studio/lessons.py", "page_text: file.read"): OF_TREE,
     ("src/forestplan/studio/networks.py", "example_text: open"): OF_TREE,
@@ -255,7 +255,7 @@ READS = {
     # What is written.
     ("src/forestplan/files.py", "write: open"): WRITTEN,
     ("src/forestplan/files.py", "write_apart: open"): WRITTEN,
-    ("src/forestplan/process_exit.py", "run: os.open"): WRITTEN,
+    ("src/forestplan/process_exit.py", "run_command: os.open"): WRITTEN,
     ("src/forestplan/studio/building.py", "Building.look: open"): WRITTEN,
     ("src/forestplan/studio/limits.py", "begin: open"): WRITTEN,
     ("src/forestplan/studio/studio.py", "open_browser: open"): WRITTEN,
