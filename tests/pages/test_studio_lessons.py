@@ -47,6 +47,11 @@ STAR = [(v, 9) for v in range(1, 9)]
 # Refuses all that a browser keeps, as one does whose user wants nothing kept.
 NOTHING_KEPT = """Object.defineProperty(window, 'localStorage',
   {get() { throw new DOMException('refused', 'SecurityError'); }})"""
+# A browser that tells no page of another size of anything, as one does whose page has been asleep.
+NO_SIZES = "window.ResizeObserver = class { observe() {} disconnect() {} }"
+# Where a node is seen in the window.
+SEEN_AT = """(v => { const b = document.querySelector(`#net [data-node="${v}"] circle`).getBoundingClientRect();
+  return [b.x + b.width / 2, b.y + b.height / 2]; })"""
 # The keys that the tests press, with their numbers.
 KEYS = {"Enter": 13, " ": 32, "Tab": 9, "End": 35, "PageDown": 34}
 TICKED = (
@@ -694,6 +699,27 @@ class Cards(Page):
         self.step_to(2, 4)
         self.click(1)
         self.sees("a step to change it", "studio.net.edges.length === 7")
+
+    def test_a_click_is_where_a_node_is_seen(self) -> None:
+        """From one file to another the network keeps its width, and a click is on the node that is seen there, also
+        after the network has been moved."""
+        script = self.page.ask("Page.addScriptToEvaluateOnNewDocument", source=NO_SIZES)
+        self.addCleanup(self.open)
+        self.addCleanup(self.page.ask, "Page.removeScriptToEvaluateOnNewDocument", **script)
+        for is_moved in (False, True):
+            self.open()
+            self.go_to("lesson=8&step=3")
+            self.step_to(8, 3)
+            self.page.until("!code.hidden && codetext.textContent.includes('def ')", 20)
+            if is_moved:
+                self.value("studio.stage.pan(20, 10)")
+            self.press("n")
+            self.step_to(8, 4)
+            self.page.until("codetext.textContent.includes('me.state') && studio.steps.found", 20)
+            time.sleep(0.3)
+            for count, v in enumerate((3, 2, 1), 1):
+                self.page.click(*self.value(f"{SEEN_AT}({v})"))
+                self.sees(f"node {v} acts", f"studio.steps.made.length === {count}", 5)
 
     def test_cleared(self) -> None:
         """Once the step's network is cleared its card only has its title and the way back, whatever is drawn then."""

@@ -64,10 +64,13 @@ export class Stage {
     this.to = {scale, x: (this.wide - scale * across) / 2 - scale * left,
       y: (this.high - scale * up) / 2 - scale * top};
   }
-  // Fits it once more if there is another size for it.
+  // Fits it once more if there is another size for it; what somebody has zoomed or moved stays where it is.
   refit() {
     const {width, height} = this.svg.getBoundingClientRect();
-    if (!this.isZoomed && (width !== this.wide || height !== this.high)) this.fit();
+    if (width === this.wide && height === this.high) return;
+    if (!this.isZoomed) return this.fit();
+    this.wide = width || 1;
+    this.high = height || 1;
   }
   /** @param {number} by @param {number} x @param {number} y */
   zoom(by, x = this.wide / 2, y = this.high / 2) {

@@ -77,18 +77,19 @@ export function markRan(functions, node) {
 }
 function show() {
   const isMoving = seen.tab === "adversary" || seen.tab === "rounds" && !reacts();
-  const isSeen = isMoving && isOwn() && file.name === seen.program;
+  // Its box is there before the file is, so that the network keeps its width.
+  const isSeen = isMoving && isOwn(), isRead = file.name === seen.program;
   by("code").hidden = !isSeen;
   document.body.classList.toggle("coded", isSeen);
   if (!isSeen) return;
-  const name = last.functions.find(one => Object.hasOwn(file.lines, one)) || "";
-  const key = JSON.stringify([file.name, file.text, file.fault, lost, said, name, last.node]);
+  const name = isRead && last.functions.find(one => Object.hasOwn(file.lines, one)) || "";
+  const key = JSON.stringify([seen.program, file.name, file.text, file.fault, lost, said, name, last.node]);
   if (key === drawn) return;
   drawn = key;
-  by("codesaid").replaceChildren(html("b", `${file.name}.py`), " Nothing is proved of this file. ",
+  by("codesaid").replaceChildren(html("b", `${seen.program}.py`), " Nothing is proved of this file. ",
     ...name ? coded(ranWords(name)) : []);
-  sayFault(lost || file.fault);
-  showText(name ? file.lines[name] : [0, 0]);
+  sayFault(lost || isRead && file.fault || "");
+  showText(isRead ? file.text || "" : "", name ? file.lines[name] : [0, 0]);
 }
 /** @param {string} wrong */
 function sayFault(wrong) {
@@ -101,9 +102,9 @@ function ranWords(name) {
   return `\`${name}\` of ${last.node ? `node ${last.node}` : "each node"} ran last: ${where}.`;
 }
 // The text with its lines' numbers. The lines of the function that ran last are marked; of 0 there are none.
-/** @param {[number, number]} marked */
-function showText([from, to]) {
-  const lines = (file.text || "").split(/\r\n|\r|\n/);
+/** @param {string} whole @param {[number, number]} marked */
+function showText(whole, [from, to]) {
+  const lines = whole.split(/\r\n|\r|\n/);
   if (lines[lines.length - 1] === "") lines.pop();
   /** @type {(low: number, high: number) => string} */
   const part = (low, high) => lines.slice(low, high).map(line => line + "\n").join("");

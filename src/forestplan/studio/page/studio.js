@@ -32,6 +32,8 @@ let isMoved = false, isReplaced = false;
 const CALLS = ["rounds", "why", "broken", "run", "run2", "run3", "replay", "check", "picture", "steps"];
 
 hooks.show = () => {
+  // The file of a program that comes or goes leaves the network another width, and a click has to be where it is seen.
+  if (!time.timer && !drag) stage.refit();
   const tab = tabs[seen.tab], isThere = !net.nodes.length && seen.tab !== "draw" || tab.show() !== false;
   // Nothing is known of this network yet, and nothing of another one is left.
   if (!isThere) { stage.draw({node: (v, x, y, r) => blank(x, y, r)}); say("when", ""); }
@@ -265,7 +267,10 @@ function zoom(by_) {
 by("zoomin").onclick = () => zoom(1.25);
 by("zoomout").onclick = () => zoom(0.8);
 by("zoomfit").onclick = () => zoom(0);
-new ResizeObserver(() => { if (!drag && seen.hello && !stage.isZoomed) zoom(0); }).observe(by("stage"));
+new ResizeObserver(() => {
+  if (drag || !seen.hello) return;
+  if (by("picture").hidden) show(); else zoomPicture(0);
+}).observe(by("stage"));
 
 // The address. It is written a moment after the last change: browsers refuse many changes in a row.
 let linked = "", isFollowing = false, follows = 0, linking = 0;
