@@ -12,6 +12,7 @@ from forestplan.schedules import reacting_runs, simulate
 from forestplan.transcripts.judge import whole_run
 from tests import SOURCES
 from tests.cases import Case, called, said_by
+from tests.sentences import NO_LINE, NO_PORT, NO_RETURN, NO_WORD
 
 # The middle one of a path of three nodes says who was first to send it something: by hand, both ends can be.
 FIRST = """\
@@ -120,7 +121,7 @@ ENDED = (
     ),
     (SHOWN.format("ValueError('r')"), "return R()", ": ValueError: r, in `on_ping`"),
     (SHOWN.format("KeyboardInterrupt"), "me.send(R(), 'ping', 7)", ": KeyboardInterrupt, in"),
-    ("", "return 'a' * (1 << 20)", "aaa..: it returns nothing, and sends with `me.send`"),
+    ("", "return 'a' * (1 << 20)", f"aaa..: {NO_RETURN}"),
     (
         "",
         "me._sent.append((99, 'junk'))",
@@ -136,13 +137,9 @@ ENDED = (
     (
         "class I(int):\n    def __ge__(self, other):\n        return other == 0",
         "me.send(I(99), 'ping', 7)",
-        "`me.send` has 99 as its port: the node's ports are 0 to 1",
+        NO_PORT.format(99),
     ),
-    (
-        "class S:\n    __class__ = str",
-        "me.send(0, S(), 7)",
-        "a message begins with a word of small letters, and None is none",
-    ),
+    ("class S:\n    __class__ = str", "me.send(0, S(), 7)", NO_WORD.format(None)),
     (
         "class L:\n    def __reduce_ex__(self, protocol):\n        raise KeyboardInterrupt",
         "me.kept = L()",
@@ -210,8 +207,7 @@ class FileAttacks(Case):
         for text in ("'a\\rb'", "'\\u2028'", "'\\ud800'", "'a\\n'"):
             path = self.file("words.py", ROUNDS.format(sent="None", result=text))
             done = said_by("explore", "path2", "--program", path)
-            said = f"`result` returns {text}: it must be words on one line"
-            self.refusal(text, done, 1, said)
+            self.refusal(text, done, 1, NO_LINE.format(text))
 
     def test_caught(self) -> None:
         """A call that doesn't end, and catches what ends it, ends the command."""

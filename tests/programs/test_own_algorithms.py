@@ -13,6 +13,7 @@ from tests import FORESTLAB
 from tests.cases import Case, forestlab, said_by, text_in
 from tests.pictures.marks import data_of
 from tests.programs.test_sequels import SAMPLES
+from tests.sentences import KEEP, NO_LINE, NO_TRUTH, NOT_COPIED, OTHERWISE, OUTSIDE
 
 SET = SAMPLES[0]
 FLOOD = """\
@@ -102,9 +103,7 @@ def always(results, neighbours, messages):
     there = [words for words in results.values() if words == "token True"]
     return len(there) + len(messages) == 1 or f"{len(there)} held, under way: {messages}"
 """
-TWICE = (
-    "does something else the second time: does it use chance other than `me.random`, or a variable"
-)
+TWICE = f"{OTHERWISE}, or a variable"
 # What counts its calls where no value shows it.
 LATE = "import builtins\nbuiltins.calls = getattr(builtins, 'calls', 0)\n" + FLOOD.replace(
     "    if heard", "    builtins.calls += 1\n    if heard"
@@ -155,13 +154,13 @@ WRONG = [
         FLOOD.replace("return None", "return ('best', 1)"),
         ": `next` at pulse 2 of the node of identifier 1 sends something, and 2 is the last pulse",
     ),
-    (FLOOD.replace('f"best {me.best}"', "7"), ": `result` returns 7: it must be words on one line"),
+    (FLOOD.replace('f"best {me.best}"', "7"), f": {NO_LINE.format(7)}"),
     (
         FLOOD + "def last_pulse(nodes, degree):\n    return -1\n",
         ": `last_pulse` returns -1, which is no pulse",
     ),
     *(
-        (keeping(what), "what `me` keeps can't be copied and compared", named)
+        (keeping(what), NOT_COPIED, named)
         for what, named in (
             ("(n for n in [1])", "generator"),
             ("open(__file__)", "TextIOWrapper"),
@@ -171,10 +170,9 @@ WRONG = [
     # A place for each node in one variable.
     (
         "KEPT = {}\n" + FLOOD.replace("me.best", "KEPT[me.id]"),
-        ": `greet` at pulse 0 of the node of identifier 1 changes the variable `KEPT` outside `me`: keep "
-        "everything in `me`",
+        f": `greet` at pulse 0 of the node of identifier 1 {OUTSIDE.format('KEPT')}{KEEP}",
     ),
-    (ELECTION, "changes the variable `best` outside `me`"),
+    (ELECTION, OUTSIDE.format("best")),
     # Chance that is only kept would make more states, and ends that no seed repeats.
     (keeping("__import__('random').random()"), "`greet` at pulse 0 of the node of ", TWICE),
     # The rounds, played twice and once more, have 12 calls, so they can't show this one.
@@ -183,10 +181,7 @@ WRONG = [
         "does something else in another order of events: ",
     ),
     *(
-        (
-            FLOOD + f"def right(results, neighbours):\n    return {returned}\n",
-            "it must be True, False, or what isn't right in words",
-        )
+        (FLOOD + f"def right(results, neighbours):\n    return {returned}\n", NO_TRUTH)
         for returned in ("None", "7", "''")
     ),
 ]

@@ -30,6 +30,16 @@ from forestplan.transcripts.judge import whole_run
 from tests import TOP
 from tests.cases import Case, called, example, said_by, text_in
 from tests.pictures.marks import data_of, marks, parsed, title, titles
+from tests.sentences import (
+    KEEP,
+    NO_PORT,
+    NO_RETURN,
+    NO_TRUTH,
+    NO_WORD,
+    NOT_COPIED,
+    OTHERWISE,
+    OUTSIDE,
+)
 from tests.settings import PLAY
 from tests.tools import needs
 
@@ -489,12 +499,12 @@ WRONG: list[tuple[str, ...]] = [
     ),
     (
         echo('send_all("wave")', 'send("wave")'),
-        " line {start}: `me.send` has 'wave' as its port: the node's ports are 0 to 1, in `start`",
+        f" line {{start}}: {NO_PORT.format(repr('wave'))}, in `start`",
     ),
     (
         echo("send(me.parent", "send(7"),
         "broken after 6 events (3 takes): ",
-        " line {sends}: `me.send` has 7 as its port: the node's ports are 0 to 1, in `on_wave`",
+        f" line {{sends}}: {NO_PORT.format(7)}, in `on_wave`",
     ),
     (
         echo('"echo", me.count', '"echo", me.count / 2'),
@@ -507,17 +517,14 @@ WRONG: list[tuple[str, ...]] = [
         echo('"echo", me.count', '"echo"'),
         " line {sends}: `echo` is sent with 0 fields, and its function is `on_echo(me, port, count)`, in `on_",
     ),
-    (
-        echo('"echo", me.count', "1"),
-        " line {sends}: a message begins with a word of small letters, and 1 is none",
-    ),
+    (echo('"echo", me.count', "1"), f" line {{sends}}: {NO_WORD.format(1)}"),
     (
         echo(', "echo", me.count', ""),
         " line {sends}: a message begins with a word, and here is none",
     ),
     (
         echo("heard(me, 0)", 'return "wave"'),
-        ": `on_wave` of the node of identifier 2 returns 'wave': it returns nothing, and sends with `me.send`",
+        f": `on_wave` of the node of identifier 2 returns 'wave': {NO_RETURN}",
     ),
     (
         echo("    return f", '    me.send_all("wave")\n    return f'),
@@ -554,14 +561,14 @@ WRONG: list[tuple[str, ...]] = [
     ),
     (
         echo("me.parent, me", "me.chance = __import__('random').random()\n    me.parent, me"),
-        ": the node of identifier 1 does something else the second time: does it use chance other than `me.random`",
+        f": the node of identifier 1 {OTHERWISE}",
     ),
     (
         echo(
             "def heard(me, count):",
             "total = 0\n\n\ndef heard(me, count):\n    global total\n    total += 1",
         ),
-        ": `on_wave` of the node of identifier 2 changes the variable `total` outside `me`: keep everything in `me`",
+        f": `on_wave` of the node of identifier 2 {OUTSIDE.format('total')}{KEEP}",
     ),
     (
         echo(
@@ -570,27 +577,24 @@ WRONG: list[tuple[str, ...]] = [
             "def result",
             "seen = []\n\n\ndef result",
         ),
-        ": `result` of the node of identifier 1 changes the variable `seen` outside `me`",
+        f": `result` of the node of identifier 1 {OUTSIDE.format('seen')}",
     ),
     (
         echo("def heard(me, count):", "def heard(me, count, seen=[]):\n    seen.append(count)"),
-        ": `on_wave` of the node of identifier 2 changes the variable `seen of heard` outside `me`",
+        f": `on_wave` of the node of identifier 2 {OUTSIDE.format('seen of heard')}",
     ),
     (
         echo(
             "def heard(me, count):",
             "class Seen:\n    n = 0\n\n\ndef heard(me, count):\n    Seen.n += 1",
         ),
-        ": `on_wave` of the node of identifier 2 changes the variable `Seen.n` outside `me`",
+        f": `on_wave` of the node of identifier 2 {OUTSIDE.format('Seen.n')}",
     ),
     (
         echo("    return f", "    return str(__import__('random').random())\n    return f"),
-        ": the node of identifier 1 does something else the second time",
+        f": the node of identifier 1 {OTHERWISE}",
     ),
-    (
-        echo("me.parent, me", "me.kept = (n for n in [1])\n    me.parent, me"),
-        ": what `me` keeps can't be copied and compared",
-    ),
+    (echo("me.parent, me", "me.kept = (n for n in [1])\n    me.parent, me"), f": {NOT_COPIED}"),
     (
         echo('me.send_all("wave")', 'while True:\n            me.send_all("wave")'),
         " line {start_more}: more than 10,000 messages are sent in one call, in `start`",
@@ -605,10 +609,7 @@ WRONG: list[tuple[str, ...]] = [
         "broken after 2 events (1 take): ",
         " line {parent}: AttributeError: `me` has no `parrent`, in `on_wave` of the node of identifier 2",
     ),
-    (
-        echo("    return right(", "    right("),
-        ": `always` returns None: it must be True, False, or what isn't",
-    ),
+    (echo("    return right(", "    right("), f": `always` returns None: {NO_TRUTH}"),
 ]
 
 

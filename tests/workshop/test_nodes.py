@@ -17,6 +17,7 @@ from forestplan.workshop.cases import cases_of
 from forestplan.workshop.protocol import SEQUELS
 from forestplan.workshop.right_rounds import RightRounds
 from forestplan.workshop.why import FOUND, RULES
+from tests.sentences import ACK, NO_ACK, PULSE, SAFE
 from tests.tools import needs
 from tests.workshop.base import (
     ALPHA,
@@ -59,23 +60,14 @@ COLOURING = {
     "drop_four": (None, None, (2, 10)),
 }
 # By mistake, what is found on alone4; what else the node could do there, why it can't do that, and what came early.
-PULSE = "a node makes its next pulse once it has said safe and has the safes of all its neighbours"
-SAFE = "once each payload that it sent in P is acknowledged; it "
-NO_ACK = "it can't have said safe yet: it lacks the acknowledgement of pulse 1 by port 0"
 SYNCHRONISER: dict[str, tuple] = {
-    "acks_own_pulse": (
-        "WrongWire",
-        2,
-        2,
-        "put 1 ack 3",
-        "a payload is acknowledged with its own pulse as soon",
-    ),
+    "acks_own_pulse": ("WrongWire", 2, 2, "put 1 ack 3", ACK),
     "acks_first": (
         "NothingToPut",
         2,
         0,
         "waits for ack 0 by port 0; safe 0 by ports 0 and 1",
-        f"{SAFE}can't have",
+        f"{SAFE}; it can't have",
     ),
     "early_lost": (
         "WrongWire",
@@ -102,13 +94,19 @@ SYNCHRONISER: dict[str, tuple] = {
         "waits for safe 0 by port 0",
         f"{PULSE}; it lacks safe 0 by port 0",
     ),
-    "safe_unsaid": ("NotReady", 2, 1, "waits for ack 1 by port 0", f"{PULSE}; {NO_ACK}"),
+    "safe_unsaid": (
+        "NotReady",
+        2,
+        1,
+        "waits for ack 1 by port 0",
+        f"{PULSE}; {NO_ACK.format(1, 'by port 0')}",
+    ),
     "safe_twice": (
         "NothingToPut",
         3,
         0,
         "waits for safe 0 by port 0",
-        f"{SAFE}has put safe 0 by port 0 already",
+        f"{SAFE}; it has put safe 0 by port 0 already",
     ),
     "safe_with_ack": (
         "WrongWire",

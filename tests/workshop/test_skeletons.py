@@ -5,6 +5,7 @@ import sys
 
 from forestplan.workshop.player import APART
 from tests.cases import Case, text_in
+from tests.sentences import ACK
 from tests.tools import needs
 from tests.workshop.base import EXAMPLES, call, compiled
 
@@ -52,7 +53,7 @@ ROWS = (
 WRONG = {
     "rounds": "node 1, pulse 1 (orient)",
     "open": "nodes 1, 2 and 3 said no",
-    "alpha": "doesn't put 0 ack 0\nwhy    a payload is acknowledged with its own pulse as soon as it is taken\n",
+    "alpha": f"doesn't put 0 ack 0\nwhy    {ACK}\n",
 }
 
 

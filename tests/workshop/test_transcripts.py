@@ -1,6 +1,7 @@
 """What `forestlab transcript check` says of a run that isn't right: whose entry, which rule, who owes what, which
 field."""
 from tests.cases import Case, said_by
+from tests.sentences import ACK, NO_ACK, PULSE, SAFE
 from tests.tools import needs
 
 HELLO_1, HELLO_2 = "payload 0 hello 1", "payload 0 hello 2"
@@ -8,20 +9,15 @@ HELLO_1, HELLO_2 = "payload 0 hello 1", "payload 0 hello 2"
 GREETED = f"1 1 put 2 {HELLO_1}|1 2 put 1 {HELLO_2}|2 1 take 2 {HELLO_2}|2 2 take 1 {HELLO_1}|"
 ACKED = GREETED + "3 1 put 2 ack 0|3 2 put 1 ack 0|4 1 take 2 ack 0|4 2 take 1 ack 0|"
 WIRES = "`payload P WORD NUMBER`, `ack P`, `safe P` and `close`"
-SAFE = (
-    "safe P is said once in each pulse P but the last, to each neighbour, once each payload that it sent in P is "
-    "acknowledged"
-)
-NO_ACK = "it can't have said safe yet: it lacks the acknowledgement of pulse 0 from 2"
-PULSE = "a node makes its next pulse once it has said safe and has the safes of all its neighbours"
+LACKS_ACK = NO_ACK.format(0, "from 2")
 PUT_LATER = "; it is put in line {}, which can't have come before"
 NEVER_PUT = ", and 2 never puts it (is the text cut?)"
 # (the entries of edition 2, the line that is said)
 ROWS = (
     (
         GREETED + "3 2 put 1 ack 1|",
-        "line 6: WrongWire: node 2 puts ack 1 for 1, but the next one there is ack 0; a payload is acknowledged with "
-        "its own pulse as soon as it is taken, before anything else is put on that link",
+        f"line 6: WrongWire: node 2 puts ack 1 for 1, but the next one there is ack 0; {ACK}, before anything else is "
+        "put on that link",
     ),
     (
         "1 1 put 2 payload 0 hello 7|",
@@ -97,7 +93,7 @@ ROWS = (
     # An entry before a line that is none comes first.
     (
         "1 1 pulse 1|1 1 put 2 payload 0 colour -2|",
-        f"line 2: NotReady: node 1 makes pulse 1, but it lacks ack 0 of 2; safe 0 of 2; {PULSE}; {NO_ACK}",
+        f"line 2: NotReady: node 1 makes pulse 1, but it lacks ack 0 of 2; safe 0 of 2; {PULSE}; {LACKS_ACK}",
     ),
     (
         f"1 1 put 2 {HELLO_1}|1 1 put 2 payload 0 colour -2|",
@@ -168,7 +164,7 @@ class Transcripts(Case):
             self.same(stamp, (status, "not an entry" in said), (1, not is_entry))
 
     def test_of_edition_1(self):
-        line = f"line 3: NotReady: node 1 makes pulse 2, but it lacks ack 0 of 2; safe 0 of 2; {PULSE}; {NO_ACK}"
+        line = f"line 3: NotReady: node 1 makes pulse 2, but it lacks ack 0 of 2; safe 0 of 2; {PULSE}; {LACKS_ACK}"
         self.says(f"transcript 1 2|1 put 2 {HELLO_1}|1 pulse 2|1 put 2 odd|", line)
 
     def test_of_edition_3(self):
