@@ -12,7 +12,7 @@ from tests.cases import Case
 SEVERAL = {
     "main": 14,
     "command_line": 11,
-    "Entry": 3,
+    "Entry": 2,
     "check": 3,
     "columns_of": 3,
     "judged": 3,

@@ -18,7 +18,7 @@ from forestplan.workshop.right_rounds import RightRounds, words_of
 OWN_DATA = "its own data"
 
 
-class Entry(NamedTuple):
+class StampedText(NamedTuple):
     """What a node did: `words` as a transcript has them, with the neighbour's vertex; `stamp` is Lamport's."""
 
     stamp: int
@@ -55,7 +55,7 @@ class AlphaRun:
         self.links: dict[tuple[int, int], Link] = {}
         self.count = 0
         self.counters = dict.fromkeys(self.network.vertices, 0)
-        self.entries: list[Entry] = []
+        self.entries: list[StampedText] = []
         self.results: dict[int, str] = {}
         self.pulses = dict.fromkeys(self.network.vertices, 0)
         self.stop: tuple[int, NoAnswer, str] | None = None
@@ -123,9 +123,9 @@ class AlphaRun:
 
     def write(self, v: int, text: str, after: int = 0) -> None:
         self.counters[v] = 1 + max(self.counters[v], after)
-        self.entries.append(Entry(self.counters[v], v, text))
+        self.entries.append(StampedText(self.counters[v], v, text))
 
-    def in_order(self) -> list[Entry]:
+    def in_order(self) -> list[StampedText]:
         """The entries in the order of a transcript: by stamp, and then by vertex."""
         return sorted(self.entries, key=lambda entry: entry[:2])
 

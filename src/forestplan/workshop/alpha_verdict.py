@@ -8,7 +8,7 @@ from forestplan.networks.verdicts import Verdict
 from forestplan.transcripts.proved_judge import verdict_on_run
 from forestplan.transcripts.rules import Standing, rule_of, rules_of_dues
 from forestplan.wording import as_text
-from forestplan.workshop.alpha_run import OWN_DATA, AlphaRun, Entry
+from forestplan.workshop.alpha_run import OWN_DATA, AlphaRun, StampedText
 from forestplan.workshop.findings import (
     Finding,
     NoAnswer,
@@ -83,7 +83,7 @@ class At(Standing):
         ]
 
 
-def at_node(rounds: RightRounds, before: list[Entry], v: int) -> At:
+def at_node(rounds: RightRounds, before: list[StampedText], v: int) -> At:
     """Asks the machine what v can do after these entries, all of which are right: by entries that can't be right, since
     it refuses each, and says what would be possible there, or that v lacks `ack 0 of 2; safe 0 of 2 and 3`.
     """
@@ -128,7 +128,7 @@ def finding_of(run: AlphaRun) -> Finding | None:
     return stuck(run, entries, verdict) if verdict.code == "NotWhole" else wrong_result(run)
 
 
-def wrong_entry(run: AlphaRun, entries: list[Entry], verdict: Verdict) -> Finding:
+def wrong_entry(run: AlphaRun, entries: list[StampedText], verdict: Verdict) -> Finding:
     stamp, v, text = entries[verdict.entry]
     at = at_node(run.rounds, entries[: verdict.entry], v)
     own = with_port(run.rounds, v, text)
@@ -147,7 +147,9 @@ def wrong_entry(run: AlphaRun, entries: list[Entry], verdict: Verdict) -> Findin
     return Finding(verdict.code, v, at.pulse, lines, verdict.entry, way=kind_of(text))
 
 
-def no_answer(run: AlphaRun, entries: list[Entry], v: int, fault: NoAnswer, asked: str) -> Finding:
+def no_answer(
+    run: AlphaRun, entries: list[StampedText], v: int, fault: NoAnswer, asked: str
+) -> Finding:
     at = at_node(run.rounds, entries, v)
     inbox = f", for which {run.rounds.came(at.pulse + 1, v)} came" if at.can_pulse else ""
     lines = [
@@ -162,7 +164,7 @@ def no_answer(run: AlphaRun, entries: list[Entry], v: int, fault: NoAnswer, aske
     )
 
 
-def stuck(run: AlphaRun, entries: list[Entry], verdict: Verdict) -> Finding:
+def stuck(run: AlphaRun, entries: list[StampedText], verdict: Verdict) -> Finding:
     """Nothing is on its way, and not all is done: who could do something, and who waits for what."""
     all_at = [at_node(run.rounds, entries, v) for v in run.network.vertices]
     owing = [at for at in all_at if at.dues()]
