@@ -16,7 +16,6 @@ SEVERAL = {
     "check": 3,
     "columns_of": 3,
     "judged": 3,
-    "legend": 3,
     "number": 3,
     "rounds_of": 3,
     "said_of": 3,

@@ -14,7 +14,7 @@ from forestplan.pictures.marks import Map, colour_square
 from forestplan.pictures.palette import INK, PAPER, SOFT, WRONG
 from forestplan.pictures.panel import PANEL, Panel
 from forestplan.pictures.program_rounds import program_rounds
-from forestplan.pictures.results_picture import ResultVertex, draw_chosen, found_in, legend
+from forestplan.pictures.results_picture import ResultVertex, draw_chosen, found_in, result_legend
 from forestplan.pictures.rounds_picture import COLUMN, LEFT, ROW, SQUARE, draw_rows, place_of
 from forestplan.pictures.schedules_space import left_out_words
 from forestplan.pictures.svg import Svg, text_width, wrapped
@@ -250,9 +250,7 @@ class OfEnd:
             self.net, [one for found in self.found for one in found.values()], LEAST_WIDTH / 2, 0
         )
         self.width, self.height, self.step = 2 * self.box[0], self.box[1] + OVER, (self.box[0], 0)
-        self.legend = (
-            f"What each node has found at the end{legend(self.found[1])}. Red: what isn’t right."
-        )
+        self.legend = f"What each node has found at the end{result_legend(self.found[1])}. Red: what isn’t right."
 
     def draw(self, svg: Svg, left: float, top: float, number: int) -> None:
         width, height, beside, _ = self.box

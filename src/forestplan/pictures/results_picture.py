@@ -59,7 +59,7 @@ def found_in(rounds: ProgramRounds) -> dict[int, ResultVertex]:
 def results_svg(rounds: ProgramRounds) -> str:
     network, found = rounds.network, found_in(rounds)
     lines = [
-        f"What each node has found after pulse {rounds.last}{legend(found)}.",
+        f"What each node has found after pulse {rounds.last}{result_legend(found)}.",
         counts(found, network) + ".",
     ]
     if rounds.wrong:
@@ -87,7 +87,7 @@ def draw_chosen(svg: Svg, drawn: Map, found: dict[int, ResultVertex]) -> None:
             )
 
 
-def legend(found: dict[int, ResultVertex]) -> str:
+def result_legend(found: dict[int, ResultVertex]) -> str:
     """What the marks mean, of those that there are."""
     said = ["a thick line is an edge that a node has chosen"] * any(
         one.other for one in found.values()

@@ -65,7 +65,7 @@ def draw_strips(
     top = TOP + 18 * len(lines)
     svg = Svg(width, top + len(forests) * block - FOOT + 18, f"Rounds of {network.name}")
     svg.heading(title, *lines)
-    legend(svg, 50 + 18 * len(lines), network.bars)
+    draw_colour_legend(svg, 50 + 18 * len(lines), network.bars)
     for number, forest in enumerate(forests):
         strip = Strip(svg, rounds, forest, top + number * block, steps[forest], column, cone)
         strip.colours()
@@ -98,7 +98,7 @@ def bars_room(network: Network) -> float:
     return max((20 + bars_width(bars, BAR) for bars in network.bars.values()), default=0)
 
 
-def legend(svg: Svg, y: float, has_bars: object) -> None:
+def draw_colour_legend(svg: Svg, y: float, has_bars: object) -> None:
     for colour in range(6):
         colour_square(svg, 28 + 17 * colour, y, 7.5, colour, mark="legend")
     svg.note(130, y + 4, "square: colour in the forest; 3, 4, 5 are dropped")

@@ -122,7 +122,7 @@ def run_svg(
         else " and ".join(f"{NAMES[kind]}s" for kind in kinds)
     )
     svg.heading(f"{run.name}: {said}, pulses {first} to {last} of {run.last}", time_words(run))
-    legend(svg, kinds)
+    draw_wire_legend(svg, kinds)
     svg.clip("window", window.left - 8, 0, window.width - window.left - 8, window.bottom + 62)
     draw_bands(svg, window)
     draw_lines(svg, window)
@@ -177,7 +177,7 @@ def draw_lines(svg: Svg, window: Window) -> None:
             svg.note(x, y + 3.6, name, 10, "end", mark="vertex-name")
 
 
-def legend(svg: Svg, kinds: tuple[str, ...]) -> None:
+def draw_wire_legend(svg: Svg, kinds: tuple[str, ...]) -> None:
     x: float = 20
     y = 72
     for kind in (kind for kind in KINDS if kind in kinds):
