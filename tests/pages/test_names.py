@@ -14,7 +14,6 @@ SEVERAL = {
     "command_line": 11,
     "Entry": 2,
     "check": 3,
-    "columns_of": 3,
     "judged": 3,
     "number": 3,
     "rounds_of": 3,

@@ -12,7 +12,7 @@ LEFT, TOP, ROW, SIZE = 64, 112, 46, 11
 
 def program_svg(rounds: ProgramRounds, pulses: tuple[int, int] | None = None) -> str:
     """All pulses at which something is sent or found, or those of A to B."""
-    network, shown = rounds.network, columns_of(rounds, pulses)
+    network, shown = rounds.network, drawn_pulses(rounds, pulses)
     at_most(
         "rounds",
         len(shown),
@@ -85,7 +85,7 @@ def is_new(rounds: ProgramRounds, pulse: Pulse, v: int) -> bool:
     return pulse.number == 0 or rounds.pulses[pulse.number - 1].results[v] != pulse.results[v]
 
 
-def columns_of(rounds: ProgramRounds, pulses: tuple[int, int] | None) -> list[Pulse]:
+def drawn_pulses(rounds: ProgramRounds, pulses: tuple[int, int] | None) -> list[Pulse]:
     """The pulses that are drawn: those at which something is sent or found, among those asked for."""
     first, last = pulses or (0, rounds.last)
     return [

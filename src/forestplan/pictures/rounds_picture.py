@@ -56,7 +56,7 @@ def draw_strips(
 ) -> str:
     """Forests under a title and lines; of a `cone` (why_picture.py), what isn't in it is faded."""
     network = rounds.network
-    steps = columns_of(rounds, forests)
+    steps = merge_steps(rounds, forests)
     is_full = all(len(steps[f]) == 3 * rounds.width for f in forests)
     most = max(map(len, steps.values()))
     column = 21 if is_full or most > 12 else COLUMN
@@ -83,7 +83,7 @@ def left_out_of(rounds: ColouringRounds, forests: list[int]) -> list[str]:
     return [f"Here {shown} of 0 to {rounds.forests - 1}; draw others with --forest A..B."]
 
 
-def columns_of(rounds: ColouringRounds, forests: list[int]) -> dict[int, list[Pulse]]:
+def merge_steps(rounds: ColouringRounds, forests: list[int]) -> dict[int, list[Pulse]]:
     """The merge steps shown of each forest: all of them, or, if that are many, those at which some node chooses."""
     steps = {
         f: [pulse for pulse in rounds.pulses if pulse.step and pulse.step[0] == f] for f in forests

@@ -25,7 +25,9 @@ APART = [BAND, "#CFE3F1", "#8FBBDD", "#56B4E9"]
 
 def schedules_svg(network: Network, space: AlphaSpace, asked: tuple[int, int] | None) -> str:
     """The states after the events A to B that are `asked` for, or after the first ones."""
-    low, high = window_of(network.name, last_column(space), asked, 1 + columns_of(space), "events")
+    low, high = window_of(
+        network.name, last_column(space), asked, 1 + columns_with_room(space), "events"
+    )
     at_most(
         "schedules", high - low, "events at a time", MOST_COLUMNS, "fewer events (--columns A..B)"
     )
@@ -58,7 +60,7 @@ def steps_between(space: AlphaSpace) -> list[int]:
     return counts
 
 
-def columns_of(space: AlphaSpace) -> int:
+def columns_with_room(space: AlphaSpace) -> int:
     """How many columns are drawn beside the first one if none are asked for: as many as have room."""
     return min(COLUMNS, max(1, bisect_right(list(accumulate(steps_between(space))), STEPS)))
 
