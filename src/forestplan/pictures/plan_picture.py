@@ -36,7 +36,7 @@ def plan_svg(network: Network, plan: dict[int, int]) -> str:
         vertices,
         f"Channel plan of {network.name}",
         f"{network.name}: the plan is proper",
-        said_of(network),
+        plan_words(network),
         used + ("; crossed out: barred" if network.bars else ""),
     )
     edge = ("#B9B9B9", 0.9) if network.nodes > SMALL else ("#9A9A9A", 1.6)
@@ -45,7 +45,7 @@ def plan_svg(network: Network, plan: dict[int, int]) -> str:
     return svg.document()
 
 
-def said_of(network: Network) -> str:
+def plan_words(network: Network) -> str:
     """What there is, and what to look for."""
     if not network.edges:
         return f"{counted(network.nodes, 'transmitter')}, and no pair interferes"

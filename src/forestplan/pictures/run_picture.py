@@ -13,7 +13,7 @@ from forestplan.pictures.palette import BAND, BORDER, INK, PAPER, PULSE, WIRES, 
 from forestplan.pictures.places import Point
 from forestplan.pictures.svg import Svg, text_width, wrapped
 from forestplan.pictures.transcripts import Run, Wire
-from forestplan.pictures.wrong_run import draw_wrong, said_of
+from forestplan.pictures.wrong_run import draw_wrong, stop_words
 from forestplan.wording import counted
 
 LEFT, TOP, WIDTH = 64, 136, 1214
@@ -111,7 +111,9 @@ def run_svg(
         "fewer pulses (--pulses A..B)",
     )
     first, last = window.first, window.last
-    wrong = wrapped(said_of(run, stopped), window.width - 40, 12.5 * BOLD) if is_wrong_drawn else []
+    wrong = (
+        wrapped(stop_words(run, stopped), window.width - 40, 12.5 * BOLD) if is_wrong_drawn else []
+    )
     lower = Window(
         run.in_rounds(first, last), shown, window.bottom + 150 + 12 * len(wrong), lower_row, 0
     )

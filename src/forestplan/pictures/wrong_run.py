@@ -18,7 +18,7 @@ if TYPE_CHECKING:
     from forestplan.pictures.run_picture import Window
 
 
-def said_of(run: Run, stopped: int | None) -> str:
+def stop_words(run: Run, stopped: int | None) -> str:
     """What is wrong with a run, if something is. Of one that isn't whole `stopped` may say at which vertex it
     stopped."""
     if stopped is not None and stopped not in run.network.vertices:

@@ -84,9 +84,9 @@ def hello(_call: HelloCall, session: Session, _tell: Tell) -> Hello:
         passes=MAX_PASSES,
         policies=POLICIES,
         rules=RulesSaid(
-            orders=said_of(OF_SCHEDULES),
-            links=said_of(OF_LINKS),
-            rounds={name: said_of(of) for name, of in OF_PROGRAMS.items()},
+            orders=rules_on_page(OF_SCHEDULES),
+            links=rules_on_page(OF_LINKS),
+            rounds={name: rules_on_page(of) for name, of in OF_PROGRAMS.items()},
         ),
         lessons=lessons(),
         lecture=LECTURE,
@@ -97,7 +97,7 @@ def hello(_call: HelloCall, session: Session, _tell: Tell) -> Hello:
     )
 
 
-def said_of(rules: dict[str, Rule]) -> dict[str, RuleSaid]:
+def rules_on_page(rules: dict[str, Rule]) -> dict[str, RuleSaid]:
     return {word: RuleSaid(rule.says, rule.without) for word, rule in rules.items()}
 
 
