@@ -17,7 +17,6 @@ SEVERAL = {
     "judged": 3,
     "number": 3,
     "rounds_of": 3,
-    "table": 3,
     "text": 2,
     "whole": 3,
     "Message": 2,

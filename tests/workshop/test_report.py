@@ -3,7 +3,7 @@ from random import Random
 
 from forestplan.workshop.cases import Case, network_of
 from forestplan.workshop.findings import Finding
-from forestplan.workshop.report import league, report, table
+from forestplan.workshop.report import league, report, policy_table
 from tests.cases import Case as Rows
 
 
@@ -28,10 +28,10 @@ class Tables(Rows):
             case_of("path3", "newest", is_right=False),
         ]
         wanted = [["two", "path3"], ["random", "1/2", "1/1"], ["newest", "0/1"]]
-        self.assertEqual(cells(table(cases)), wanted)
+        self.assertEqual(cells(policy_table(cases)), wanted)
 
     def test_without_policies(self):
-        self.assertEqual(cells(table([case_of("two", "")])), [["two"], ["right", "1/1"]])
+        self.assertEqual(cells(policy_table([case_of("two", "")])), [["two"], ["right", "1/1"]])
 
     def test_a_league(self):
         """On each network the most that a right run took, of each kind for itself."""

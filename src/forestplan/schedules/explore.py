@@ -25,7 +25,7 @@ from forestplan.schedules.own_rounds import verdict_of, verdict_on_many
 from forestplan.schedules.reacting_runs import Runs
 from forestplan.schedules.reacting_space import MOST_KEPT, ReactingSpace
 from forestplan.schedules.ruled_rounds import looked_at
-from forestplan.schedules.rules import ALL, OF_SCHEDULES, program_of, table, unknown_to
+from forestplan.schedules.rules import ALL, OF_SCHEDULES, program_of, rules_table, unknown_to
 from forestplan.schedules.space import AnySearched, Space
 from forestplan.wording import as_text, counted
 
@@ -67,7 +67,7 @@ go wrong. Rules of a program that goes on where the colouring ends are left out 
 MORE_HELP = f"""\
 Rules of the synchroniser and of its links, then of the rounds of the colouring, and
 last, two each, of matching, independent-set and recolouring:
-{table()}
+{rules_table()}
 NETWORK is a file in the DIMACS format, - for standard input, or a name. A state takes some
 {BYTES_A_STATE} bytes of memory, so {LIMIT:,} states some {LIMIT * BYTES_A_STATE // 10 ** 6} MB; most networks of four
 nodes have fewer.

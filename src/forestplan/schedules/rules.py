@@ -162,7 +162,7 @@ def unknown_to(program: str, names: Collection[str]) -> str | None:
     )
 
 
-def table() -> str:
+def rules_table() -> str:
     """The rules as lines of help."""
     return "".join(
         f"  {word:9} {rule.says};\n            left out: {rule.without}\n"

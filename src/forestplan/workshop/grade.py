@@ -69,7 +69,7 @@ Examples:
 """
 
 
-def table(submissions: dict[str, list[Part]]) -> list[str]:
+def grade_table(submissions: dict[str, list[Part]]) -> list[str]:
     rows = [["", *(name for a in RUNS for name in (a, "points")), "in all"]]
     remarks = [""]
     for student, own in submissions.items():
@@ -242,6 +242,6 @@ def grade(submissions: dict[str, list[Part]], given: argparse.Namespace, room: s
     if given.json:
         print(json.dumps(as_one(submissions, given.seed)), flush=True)
     else:
-        print("\n".join([*table(submissions), "", f"seed {given.seed}"]), flush=True)
+        print("\n".join([*grade_table(submissions), "", f"seed {given.seed}"]), flush=True)
     if given.reports:
         write_reports(submissions, given.reports)

@@ -8,7 +8,7 @@ from forestplan.workshop.findings import first_of
 EDITION = 1
 
 
-def table(cases: list[Case]) -> list[str]:
+def policy_table(cases: list[Case]) -> list[str]:
     """Right runs of all, by policy and network."""
     names = list(dict.fromkeys(case.network.name for case in cases))
     rows = [["", *names]]
@@ -70,7 +70,7 @@ def report(cases: list[Case], shown: Case | None, seconds: float) -> list[str]:
     """For people."""
     right = sum(case.finding is None for case in cases)
     lines = [
-        *(table(cases) if len(cases) > 1 else []),
+        *(policy_table(cases) if len(cases) > 1 else []),
         f"{right} of {len(cases)} runs right, {seconds:.1f} seconds",
     ]
     rows = league(cases)
