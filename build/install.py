@@ -125,7 +125,7 @@ def make(room: str, section: str = SECTION) -> None:
         write(os.path.join(share, path), completion(commands))
     # The sources name several kits, so the folder says which one is here.
     here = f"built where rt is of {kit.found()}\n" if kit.command() else ""
-    write(os.path.join(room, "VERSION"), version.text() + here)
+    write(os.path.join(room, "VERSION"), version.version_text() + here)
     write_sums(room)
     subprocess.run(["chmod", "-R", "u=rwX,go=rX", room], check=True)
 

@@ -30,7 +30,7 @@ def commit() -> str:
     return done.stdout.strip() or "unknown, since this is no checkout of git"
 
 
-def text() -> str:
+def version_text() -> str:
     """The three lines."""
     try:
         with open(os.path.join(TOP, "VERSION"), encoding="utf-8") as file:
@@ -42,5 +42,5 @@ def text() -> str:
 
 
 def main() -> int:
-    sys.stdout.write(text())
+    sys.stdout.write(version_text())
     return 0

@@ -230,9 +230,9 @@ READS = {
         ("src/forestplan/studio/recording.py", f"linked_places: {what}"): OF_TREE
         for what in ("open", "file.read")
     },
-    ("src/forestplan/version.py", "text: open"): OF_TREE,
-    ("src/forestplan/version.py", "text: file.read"): OF_TREE,
-    ("src/forestplan/version.py", "text: kits.read"): OF_TREE,
+    ("src/forestplan/version.py", "version_text: open"): OF_TREE,
+    ("src/forestplan/version.py", "version_text: file.read"): OF_TREE,
+    ("src/forestplan/version.py", "version_text: kits.read"): OF_TREE,
     ("src/forestplan/pictures/pages.py", "page_file_text: open"): OF_TREE,
     ("src/forestplan/pictures/pages.py", "page_file_text: file.read"): OF_TREE,
     ("src/forestplan/studio/lessons.py", "page_text: open"): OF_TREE,

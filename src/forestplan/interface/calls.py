@@ -5,7 +5,7 @@ from typing import Any
 from forestplan import limits
 from forestplan import processors
 from forestplan.interface.answers import Entry, Message, Plan, Pulse, Refused, Rounds, Transcript
-from forestplan.interface.graphs import Bars, Channels, Graph, Licence, Node, text_of, whole
+from forestplan.interface.graphs import Bars, Channels, Graph, Licence, Node, text_of, whole_value
 from forestplan.interface.programs import called, program_at
 from forestplan.networks import codes
 
@@ -114,7 +114,7 @@ def transcript(
 
 def _workers(workers: int) -> list[str]:
     """The words that ask for so many worker threads, or for fewer where there are fewer processors."""
-    asked = whole(workers, "workers", 1, limits.MAX_WORKERS)
+    asked = whole_value(workers, "workers", 1, limits.MAX_WORKERS)
     return ["--workers", str(processors.workers(asked))]
 
 
@@ -122,7 +122,7 @@ def _command_of(workers: int | None, passes: int) -> list[str]:
     """The program and its arguments that find a plan."""
     more = [] if workers is None else _workers(workers)
     command = ["forestplan", "plan" if more else "plain"]
-    if many := whole(passes, "passes", 0, limits.MAX_PASSES):
+    if many := whole_value(passes, "passes", 0, limits.MAX_PASSES):
         command = ["forestplay", "run" if more else "ends"]
         more += ["--program", "recolouring", "--passes", str(many)]
     return [*command, *more]

@@ -32,7 +32,7 @@ def bounded(value: Any, what: str, least: float, most: float, kind: type = numbe
     return number
 
 
-def whole(value: object, what: str, least: int, most: int) -> int:
+def whole_value(value: object, what: str, least: int, most: int) -> int:
     return int(bounded(value, what, least, most, numbers.Integral))
 
 
@@ -48,7 +48,9 @@ class Licence:
             raise TypeError(
                 f"the licence is {channels!r}, and has to be a list of whole numbers, in order of preference"
             )
-        self.channels = [whole(one, "a channel of the licence", 0, MAX_REAL) for one in channels]
+        self.channels = [
+            whole_value(one, "a channel of the licence", 0, MAX_REAL) for one in channels
+        ]
         bounded(len(channels), "the number of channels of the licence", 0, limits.MAX_CHANNEL)
         self.counted = {channel: k for k, channel in enumerate(self.channels, 1)}
         if len(self.counted) < len(channels):
@@ -57,8 +59,8 @@ class Licence:
     def number(self, channel: object, what: str) -> int | None:
         """Which channel of a program it is; None if the licence lacks it."""
         if self.channels is None:
-            return whole(channel, what, 1, limits.MAX_CHANNEL)
-        return self.counted.get(whole(channel, what, 0, MAX_REAL))
+            return whole_value(channel, what, 1, limits.MAX_CHANNEL)
+        return self.counted.get(whole_value(channel, what, 0, MAX_REAL))
 
 
 class Sites(dict[Node, list[Node]]):

@@ -18,7 +18,7 @@ def fields_of(line: str) -> list[str]:
 
 
 @lru_cache(1 << 16)
-def whole(field: str) -> int | None:
+def field_number(field: str) -> int | None:
     """The number of a field, or None if it has something else than digits. A number that no text of ours may hold is
     one that is greater than all of them.
 

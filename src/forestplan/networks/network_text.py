@@ -9,7 +9,7 @@ from forestplan.fault_codes import Code
 from forestplan.faults import Fault, InText
 from forestplan.limits import MAX_BARS, MAX_CHANNEL, MAX_DEGREE, MAX_EDGES, MAX_NODES
 from forestplan.network import Edge, Network
-from forestplan.networks.fields import fields_of, shown_field, whole
+from forestplan.networks.fields import fields_of, shown_field, field_number
 
 FORMATS = ("edge", "edges", "col")
 SKIPPED = {"n", "d", "v", "x"}
@@ -42,7 +42,7 @@ LINES = {
 
 def two_numbers(fields: list[str]) -> tuple[int, int] | None:
     """Two fields as numbers; None if they aren't two, or one of them is no number."""
-    found = [number for number in map(whole, fields) if number is not None]
+    found = [number for number in map(field_number, fields) if number is not None]
     return (found[0], found[1]) if len(found) == 2 else None
 
 
@@ -84,9 +84,9 @@ class Reading:
         """Keeps a place or a name of a vertex."""
         place = PLACE.fullmatch(raw)
         name = NAME.fullmatch(raw.rstrip(" \t\r"))
-        if place and (v := whole(place[1])) is not None:
+        if place and (v := field_number(place[1])) is not None:
             self.places[v] = float(place[2]), float(place[3])
-        if name and (v := whole(name[1])) is not None:
+        if name and (v := field_number(name[1])) is not None:
             self.names[v] = name[2]
 
     def problem(self, fields: list[str]) -> None:

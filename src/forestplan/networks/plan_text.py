@@ -4,7 +4,7 @@ from collections.abc import Iterator
 from forestplan.fault_codes import Code
 from forestplan.faults import Fault, InText
 from forestplan.network import Edge, Network
-from forestplan.networks.fields import fields_of, shown_field, whole
+from forestplan.networks.fields import fields_of, shown_field, field_number
 
 
 # The line, the vertex and the channel.
@@ -25,7 +25,9 @@ def rows_of(text: str, name: str, least: int = 1, below: int = 2**32) -> list[Pl
         raise Fault(Code.NO_PLAN, InText(name, line))
     found = []
     for line, fields in rows:
-        numbers = [number for number in map(whole, fields) if number is not None and number < below]
+        numbers = [
+            number for number in map(field_number, fields) if number is not None and number < below
+        ]
         if not len(numbers) == len(fields) == 2 or numbers[1] < least:
             raise Fault(
                 Code.NO_LINE_OF_A_PLAN, InText(name, line), row=shown_field(" ".join(fields))

@@ -3,7 +3,7 @@ from forestplan.fault_codes import Code
 from forestplan.faults import Fault, InText
 from forestplan.network import Edge, Network
 from forestplan.networks import foreign, lines, tables
-from forestplan.networks.fields import whole
+from forestplan.networks.fields import field_number
 from forestplan.networks.forms import Stated, decoded, form_of, letters_of
 from forestplan.networks.listing import Listed
 from forestplan.networks.network_text import checked, network_of, read_network, stem
@@ -100,7 +100,7 @@ def summary(network: Network, many: int, form: str, by: str) -> str:
 
 def numbered(names: list[str]) -> tuple[list[str], str]:
     """The names by their numbers, which are those that the names are, if these count from 1 or from 0."""
-    numbers = {whole(name) for name in names}
+    numbers = {field_number(name) for name in names}
     by = {1: "numbers as in the text", 0: "it counts from 0, so each number is one more"}
     for least, note in by.items():
         if len(numbers) == len(names) and numbers == set(range(least, len(names) + least)):

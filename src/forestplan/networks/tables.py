@@ -4,7 +4,7 @@ import re
 from forestplan.fault_codes import Code
 from forestplan.faults import Fault, InText
 from forestplan.limits import MAX_BARS, MAX_CHANNEL, MAX_EDGES, MAX_NODES
-from forestplan.networks.fields import shown_field, whole
+from forestplan.networks.fields import shown_field, field_number
 from forestplan.networks.forms import Stated
 from forestplan.networks.listing import Listed, Where, check_known, name_of
 from forestplan.networks.network_text import IDENTIFIERS
@@ -105,7 +105,7 @@ class Sites:
         field = row.get("identifier", "")
         if not field:
             return
-        number = whole(field)
+        number = field_number(field)
         if number is None or number >= IDENTIFIERS:
             raise self.table.fault(line, Code.NO_IDENTIFIER, field=shown_field(field))
         if self.owners.setdefault(number, name) != name:

@@ -66,7 +66,9 @@ def pulse_of_colouring(rounds: ColouringRounds, pulse: Pulse) -> PulseOfColourin
     title, said = caption(rounds, pulse.number)
     forests, colours = range(rounds.forests), None
     if pulse.colours:
-        colours = [[number(pulse.colours[v, f]) for f in forests] for v in rounds.network.vertices]
+        colours = [
+            [script_number(pulse.colours[v, f]) for f in forests] for v in rounds.network.vertices
+        ]
     return PulseOfColouring(
         caption=title,
         said=said,
@@ -95,10 +97,10 @@ def pulse_of_program(rounds: ProgramRounds, pulse: Pulse) -> PulseOfProgram:
 
 
 def put_rows(pulse: Pulse) -> list[tuple[int, int, str, Numeral]]:
-    return [(v, w, word, number(sent)) for v, w, word, sent in pulse.puts]
+    return [(v, w, word, script_number(sent)) for v, w, word, sent in pulse.puts]
 
 
-def number(value: int) -> Numeral:
+def script_number(value: int) -> Numeral:
     """A number that JavaScript can hold, or its digits."""
     return value if value < 2**53 else str(value)
 

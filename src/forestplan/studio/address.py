@@ -46,29 +46,29 @@ class Here:
         return self.own.get(self.program) == "reactions"
 
     def node(self, said: str) -> int:
-        v = whole(said)
+        v = address_number(said)
         if not 1 <= v <= self.nodes:
             raise Fault(Code.NO_NODE_OF_ADDRESS, node=v, nodes=self.nodes)
         return v
 
     def edge(self, said: str) -> tuple[int, int]:
         v, _, w = said.partition("-")
-        found = min(whole(v), whole(w)), max(whole(v), whole(w))
+        found = min(address_number(v), address_number(w)), max(address_number(v), address_number(w))
         if found not in self.edges:
             raise Fault(Code.NO_LINK, said=shown_field(said))
         return found
 
 
-def whole(said: str) -> int:
+def address_number(said: str) -> int:
     if not re.fullmatch("[0-9]{1,6}", said):
         raise Fault(Code.NO_WHOLE_NUMBER, said=shown_field(said))
     return int(said)
 
 
 def within(said: str, low: int, high: int) -> int:
-    if not low <= whole(said) <= high:
+    if not low <= address_number(said) <= high:
         raise Fault(Code.NUMBER_OUTSIDE, low=low, high=high)
-    return whole(said)
+    return address_number(said)
 
 
 def time_of(said: str, _here: Here) -> float:

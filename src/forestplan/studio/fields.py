@@ -33,7 +33,7 @@ class Field:
     default: object
 
 
-def text(value: object) -> str:
+def text_value(value: object) -> str:
     if not isinstance(value, str):
         raise Fault(Code.NO_TEXT)
     if not value.isascii() and re.search("[\ud800-\udfff]", value):
@@ -41,7 +41,7 @@ def text(value: object) -> str:
     return value
 
 
-def number(value: object) -> int:
+def number_value(value: object) -> int:
     if isinstance(value, bool) or not isinstance(value, int):
         raise Fault(Code.NO_NUMBER_IN_FIELD)
     if abs(value) > MOST_NUMBER:
@@ -57,13 +57,13 @@ def truth(value: object) -> bool:
 
 def word(value: object) -> str:
     """A text or a number, as the field of a form has it."""
-    return text(value) if isinstance(value, str) else str(number(value))
+    return text_value(value) if isinstance(value, str) else str(number_value(value))
 
 
 def data(value: object) -> bytes:
     """Bytes, in base 64."""
     try:
-        return base64.b64decode(text(value), validate=True)
+        return base64.b64decode(text_value(value), validate=True)
     except (binascii.Error, ValueError):
         raise Fault(Code.NO_BASE_64) from None
 
@@ -87,7 +87,7 @@ def words_by_name(value: object) -> dict[str, str]:
 
 def among(names: Collection[str]) -> Parse:
     def parse_name(value: object) -> str:
-        name = text(value)
+        name = text_value(value)
         if name not in names:
             raise Fault(Code.NOT_THERE, name=shown_field(name), names=", ".join(names))
         return name
@@ -95,7 +95,7 @@ def among(names: Collection[str]) -> Parse:
     return parse_name
 
 
-SIMPLE: dict[object, Parse] = {str: text, int: number, bool: truth, bytes: data}
+SIMPLE: dict[object, Parse] = {str: text_value, int: number_value, bool: truth, bytes: data}
 
 
 def parse_for(hint: object) -> Parse:

@@ -56,7 +56,7 @@ def json_of(value: object) -> str:
 def hello_of(session: Session, recording: Recording) -> Hello:
     """What there is to choose from on the page: what was recorded."""
     whole = hello(HelloCall(), session, tell)
-    commit = version.text().splitlines()[1].removeprefix("commit ")
+    commit = version.version_text().splitlines()[1].removeprefix("commit ")
     return replace(
         whole,
         examples=sorted(recording.examples),

@@ -84,7 +84,7 @@ def bound_of(program: str, word: bytes) -> int:
 
 
 @functools.lru_cache(maxsize=2**16)
-def number(field: bytes, what: str, bound: int = 2**32) -> int:
+def number_in_field(field: bytes, what: str, bound: int = 2**32) -> int:
     """The number of a field, from 0 and below the bound; `what` it is of is said in a refusal.
 
     >>> number(b"0017", "pulse")
@@ -111,12 +111,12 @@ def wire_of(program: str, *fields: bytes) -> Message:
     match fields:
         case [b"payload", pulse, word, of_word]:
             name = word.decode("latin-1")
-            of_payload = number(of_word, name, bound_of(program, word))
-            return Message("payload", (number(pulse, "pulse"), name, of_payload))
+            of_payload = number_in_field(of_word, name, bound_of(program, word))
+            return Message("payload", (number_in_field(pulse, "pulse"), name, of_payload))
         case [b"ack", pulse]:
-            return ack(number(pulse, "pulse"))
+            return ack(number_in_field(pulse, "pulse"))
         case [b"safe", pulse]:
-            return safe(number(pulse, "pulse"))
+            return safe(number_in_field(pulse, "pulse"))
         case [b"close"]:
             return CLOSE
     raise NoEntry(Code.NO_WIRE, words=field_words(b" ".join(fields)))
@@ -130,7 +130,7 @@ def message_of(*fields: bytes) -> Message:
     return Message(
         fields[0].decode(),
         tuple(
-            field.decode() if is_small_word(field) else number(field, "message", 2**128)
+            field.decode() if is_small_word(field) else number_in_field(field, "message", 2**128)
             for field in fields[1:]
         ),
     )

@@ -11,7 +11,7 @@ from forestplan.transcripts.fields import (
     NoEntry,
     fields_in_bytes,
     name_in_texts,
-    number,
+    number_in_field,
     field_words,
     message_of,
     wire_of,
@@ -64,13 +64,13 @@ def entry_of(line: int, fields: list[bytes], program: str, head: Head) -> Entry:
     """The entry of a line's fields, of which the first is its stamp if the text is stamped."""
     stamp, own = None, fields
     if head.is_stamped:
-        stamp, own = number(fields[0], "stamp", 2**64), fields[1:]
+        stamp, own = number_in_field(fields[0], "stamp", 2**64), fields[1:]
     match own:
         case [vertex, step, count] if step == head.own.value.encode():
-            v = number(vertex, "node")
-            return Entry(line, v, head.own, None, number(count, head.own.value), stamp)
+            v = number_in_field(vertex, "node")
+            return Entry(line, v, head.own, None, number_in_field(count, head.own.value), stamp)
         case [vertex, b"put" | b"take" as kind, neighbour, *of_wire] if of_wire:
-            v, w = number(vertex, "node"), number(neighbour, "neighbour")
+            v, w = number_in_field(vertex, "node"), number_in_field(neighbour, "neighbour")
             wire = message_of(*of_wire) if head.own is ACT else wire_of(program, *of_wire)
             return Entry(line, v, OF_WIRES[kind], w, wire, stamp)
     code = Code.NO_ENTRY_AFTER_STAMP if head.is_stamped else Code.NO_KIND_OF_ENTRY
@@ -123,9 +123,9 @@ def head_of(lines: list[bytes], program: str | None) -> Head:
     with contextlib.suppress(NoEntry):
         match fields:
             case [b"transcript", b"1" | b"2" as edition, nodes]:
-                return Head(line, int(edition), number(nodes, "node"))
+                return Head(line, int(edition), number_in_field(nodes, "node"))
             case [b"transcript", b"3" | b"4" as edition, _, nodes] if is_name:
-                return Head(line, int(edition), number(nodes, "node"), named)
+                return Head(line, int(edition), number_in_field(nodes, "node"), named)
     raise WrongEntry(line, code_of_head(fields[0]))
 
 

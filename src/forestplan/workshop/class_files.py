@@ -206,5 +206,5 @@ def copy_class(room: str) -> None:
                 write(os.path.join(room, path), page_for_a_class(file.read(), path, found))
     write_scripts(room)
     write(os.path.join(room, "README.md"), README)
-    write(os.path.join(room, "VERSION"), version.text())
+    write(os.path.join(room, "VERSION"), version.version_text())
     write_sums(room)
