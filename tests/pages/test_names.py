@@ -15,7 +15,6 @@ SEVERAL = {
     "Entry": 2,
     "check": 3,
     "judged": 3,
-    "rounds_of": 3,
     "Message": 2,
     "Node": 2,
     "Player": 2,

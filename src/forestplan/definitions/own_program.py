@@ -494,7 +494,7 @@ def check_repeats(net: Network, program: Program) -> None:
         return
     vertices = net.vertices
     for (node, where, one), (_, _, two) in zip(
-        rounds_of(net, file, vertices), rounds_of(net, file, vertices[::-1])
+        rounds_in_order(net, file, vertices), rounds_in_order(net, file, vertices[::-1])
     ):
         if one != two:
             raise Fault(Code.NOT_REPEATED, InText(file.path), where=where)
@@ -502,7 +502,7 @@ def check_repeats(net: Network, program: Program) -> None:
             raise Fault(Code.VARIABLE_CHANGED, InText(file.path), where=where, name=name)
 
 
-def rounds_of(
+def rounds_in_order(
     net: Network, file: ProgramFile, order: Sequence[int]
 ) -> Iterator[tuple[OwnNode, str, tuple[object, Hashable]]]:
     """(node, where, what it sends or finds and what it keeps) of all rounds, by vertex, the nodes being called in an

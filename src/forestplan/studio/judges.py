@@ -51,7 +51,7 @@ def plan_of(network: Network, text: str, session: Session) -> str:
     return plan_text(network).decode()
 
 
-def rounds_of(network: Network, text: str, session: Session) -> ColouringRounds:
+def proved_rounds(network: Network, text: str, session: Session) -> ColouringRounds:
     """The rounds of the colouring, which those of the proved program have to be."""
     rounds = ColouringRounds(network)
     if session.is_proved and text_from("forestplay", ["rounds"], text) != as_text(rounds.lines()):

@@ -30,7 +30,7 @@ from forestplan.studio.call_values import (
     rules_asked,
     vertex_asked,
 )
-from forestplan.studio.judges import plan_of, rounds_of, verdict_on
+from forestplan.studio.judges import plan_of, proved_rounds, verdict_on
 from forestplan.studio.messages import (
     BrokenCall,
     CheckCall,
@@ -94,7 +94,7 @@ def rounds_asked(call: OfProgram, session: Session) -> ProgramRounds | Colouring
     program = program_asked(call, network, session)
     if program != COLOURING:
         return program_rounds(network, program)
-    return rounds_of(network, call.network, session)
+    return proved_rounds(network, call.network, session)
 
 
 def rounds(call: RoundsCall, session: Session, _tell: Tell) -> RoundsFound:
