@@ -166,7 +166,7 @@ def command_line() -> ArgumentParser:
     return asked
 
 
-def refuse_words(given: Namespace) -> None:
+def check_channel_options(given: Namespace) -> None:
     """Refuses words that don't go together."""
     if not given.table and not given.back and not given.run:
         given.refuse("a table is wanted, as 1 6 11")
@@ -177,7 +177,7 @@ def refuse_words(given: Namespace) -> None:
 def main(arguments: list[str]) -> int:
     given = command_line().parse_args(arguments)
     given.stated = stated_by(given)
-    refuse_words(given)
+    check_channel_options(given)
     try:
         table = channels_asked(given, given.table, "channels")
         given.stated.check_found()

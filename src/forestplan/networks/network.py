@@ -63,7 +63,7 @@ def made(given: Namespace) -> str:
 
 def was_read(given: Namespace) -> str:
     """The network of a file, of a table of sites, or of both."""
-    refuse_words(given)
+    check_read_options(given)
     path = given.file if given.file is not None else given.sites
     name = one_line(path)
     asked = [] if given.channels is None else [given.channels]
@@ -94,7 +94,7 @@ def numbered_text(given: Namespace, network: Network, head: Iterable[str] = ()) 
     return dimacs_text(near, [*head, NEAR.capitalize()])
 
 
-def refuse_words(given: Namespace) -> None:
+def check_read_options(given: Namespace) -> None:
     """Refuses words that don't go together."""
     if given.reach is not None and not (given.sites and LEAST_REACH <= given.reach <= MOST_REACH):
         given.refuse(

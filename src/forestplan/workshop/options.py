@@ -129,7 +129,7 @@ def parsed(arguments: list[str]) -> argparse.Namespace:
     options = line.parse_intermixed_args(arguments[:at])
     groups = groupby(arguments[at + 1 :], "--".__eq__)
     options.commands = [list(command) for is_mark, command in groups if not is_mark]
-    check(options, line)
+    check_workshop_options(options, line)
     is_alpha = options.assignment == "alpha"
     options.program = options.program or COLOURING
     options.policies = options.policies or (list(POLICIES) if is_alpha else [""])
@@ -138,7 +138,7 @@ def parsed(arguments: list[str]) -> argparse.Namespace:
     return options
 
 
-def check(options: argparse.Namespace, line: argparse.ArgumentParser) -> None:
+def check_workshop_options(options: argparse.Namespace, line: argparse.ArgumentParser) -> None:
     """Refuses options that don't go together."""
     if not options.commands:
         line.error("there is no command after `--`")
