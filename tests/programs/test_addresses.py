@@ -25,7 +25,7 @@ from forestplan.studio import limits, links
 from forestplan.studio.address import NAMES, Here
 from forestplan.studio.answers import PictureKind, TabName, Values
 from forestplan.studio.dares import DARES
-from forestplan.studio.links import judge, judged_link
+from forestplan.studio.links import judged_links, judged_link
 from forestplan.studio.messages import HelloCall
 from forestplan.studio.networks import hello, opened_by
 from forestplan.studio.recording import tell
@@ -489,22 +489,22 @@ class Links(Case):
             "judged_link",
             lambda link, session: bytes(1 << 30) if link == "large" else judged(link, session),
         ):
-            found = list(judge(["large", f"#{TWO}&dare=apart"], Session()))
+            found = list(judged_links(["large", f"#{TWO}&dare=apart"], Session()))
         said = ["1: can't be judged: it took too much memory, so it was ended", False]
         self.same("too much memory", list(found[0]), said)
         self.note("the next one", found[1][0].startswith("2: not won"), found[1])
         with mock.patch(
             "forestplan.studio.links.judged_link", lambda link, _: time.sleep(60)
         ), mock.patch.object(limits, "SECONDS", 1):
-            found = list(judge(["x"], Session()))
+            found = list(judged_links(["x"], Session()))
         self.same("too much time", found, [(f"1: can't be judged: {limits.TOO_LATE}", False)])
         with mock.patch(
             "forestplan.studio.links.judged_link", side_effect=lambda link, _: os._exit(3)
         ):
-            found = list(judge(["x"], Session()))
+            found = list(judged_links(["x"], Session()))
         self.note("an end without a word", "so it was ended" in found[0][0], found)
         with mock.patch("forestplan.studio.links.judged_link", lambda link, _: 1 // 0):
-            found = list(judge(["x"], Session()))
+            found = list(judged_links(["x"], Session()))
         self.note("a fault of ours", "can't be judged: a fault of the studio" in found[0][0], found)
 
     def test_dared(self):

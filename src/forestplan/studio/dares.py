@@ -48,7 +48,7 @@ def impossible(program: Program, without: tuple[str, ...], dare: str) -> str:
     return f"With all rules nobody wins it: it is proved that {PROVED[dare]}. Leave out a rule"
 
 
-def judged(
+def dare_judged(
     network: Network, program: Program, without: tuple[str, ...], steps: Iterable[str], dare: str
 ) -> DareJudged:
     """Whether steps win the dare, and how far they come."""

@@ -189,7 +189,7 @@ class Dared:
         program = program_asked(call, network, session)
         steps = list(filter(None, call.steps.split("_")))
         rules = rules_asked(call, OF_SCHEDULES)
-        is_ = dares.judged(network, program, rules, steps, self.dare)
+        is_ = dares.dare_judged(network, program, rules, steps, self.dare)
         if is_.won and self.most is not None and len(steps) > self.most:
             return ExerciseJudged(False, is_.said + self.enough())
         return ExerciseJudged(is_.won, is_.said)

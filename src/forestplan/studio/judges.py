@@ -90,7 +90,7 @@ def by_definitions(network: Network, text: str, program: Program) -> tuple[str, 
         return str(fault), fault.line
 
 
-def judged(
+def transcript_judged(
     network: Network,
     network_text: str,
     text: str,

@@ -8,7 +8,7 @@ from forestplan.faults import Fault
 from forestplan.networks.fields import shown_field
 from forestplan.studio.address import program_named
 from forestplan.studio.call_values import either_program_asked, network_asked
-from forestplan.studio.dares import judged
+from forestplan.studio.dares import dare_judged
 from forestplan.studio.limits import apart
 from forestplan.studio.messages import OfProgram
 from forestplan.studio.networks import opened_by
@@ -16,7 +16,7 @@ from forestplan.studio.own_dares import own_dare_judged
 from forestplan.studio.session import Session
 
 
-def judge(lines: list[str], session: Session) -> Iterator[tuple[str, bool]]:
+def judged_links(lines: list[str], session: Session) -> Iterator[tuple[str, bool]]:
     """For each link the line that is said of it, as soon as it is judged, and whether it could be."""
     for number, line in enumerate(lines, 1):
         link = line.strip()
@@ -51,7 +51,7 @@ def judged_link(link: str, session: Session) -> str:
     if isinstance(program, Reacting):
         found = own_dare_judged(network, program, rules, steps, values.dare)
     else:
-        found = judged(network, program, rules, steps, values.dare)
+        found = dare_judged(network, program, rules, steps, values.dare)
     without = f" without {','.join(rules)}" if rules else ""
     verdict = "won" if found.won else "not won"
     return f"{verdict}: {values.dare}{without}: {found.said}"

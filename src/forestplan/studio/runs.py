@@ -47,8 +47,14 @@ from forestplan.studio.call_values import (
     program_asked,
     rules_asked,
 )
-from forestplan.studio.dares import impossible, judged as dare_judged, results_of
-from forestplan.studio.judges import PYTHON, beginning_judged, by_definitions, judged, text_from
+from forestplan.studio.dares import impossible, dare_judged as dare_judged, results_of
+from forestplan.studio.judges import (
+    PYTHON,
+    beginning_judged,
+    by_definitions,
+    transcript_judged,
+    text_from,
+)
 from forestplan.studio.messages import Held, JudgeCall, ReplayCall, RunCall, RunPageCall, StepsCall
 from forestplan.studio.reactions import reactions_found
 from forestplan.studio.session import Session
@@ -155,7 +161,7 @@ def run(call: RunCall, session: Session, tell: Tell) -> WholeRun:
         pulses=found.pulses,
         cut=found.is_cut,
         text=text,
-        judge=judged(network, call.network, text, program, session),
+        judge=transcript_judged(network, call.network, text, program, session),
         same=same,
         results=results,
         costs={kind: len(re.findall(f"^.* put \\d+ {kind}", text, re.M)) for kind in KINDS},
@@ -210,7 +216,9 @@ def judge(call: JudgeCall, session: Session, _tell: Tell) -> JudgedText:
     program = program_asked(call, network, session)
     before = call.network.count("\n") + 1
     proved = (
-        judged(network, call.network, text, program, session, before) if session.is_proved else None
+        transcript_judged(network, call.network, text, program, session, before)
+        if session.is_proved
+        else None
     )
     said, line = by_definitions(network, text, program)
     return JudgedText(ok=line is None, said=said, line=line, by=PYTHON, proved=proved)

@@ -20,7 +20,7 @@ from forestplan.networks.sources import network_bytes
 from forestplan.parsers import Parser, parser_of
 from forestplan.studio.building import are_built
 from forestplan.studio.call_values import form_of_program
-from forestplan.studio.links import judge
+from forestplan.studio.links import judged_links
 from forestplan.studio.networks import drawable_net
 from forestplan.studio.publishing import PAGE, publish
 from forestplan.studio.server import Server
@@ -183,7 +183,7 @@ def judge_links(given: Namespace) -> int:
     try:
         own, forms = own_programs(given.own)
         session = Session(own=own, forms=forms)
-        for said, is_judged in judge(text_at(given.links).split("\n"), session):
+        for said, is_judged in judged_links(text_at(given.links).split("\n"), session):
             print(one_line(said), flush=True)
             are_judged = are_judged and is_judged
     except Fault as why:

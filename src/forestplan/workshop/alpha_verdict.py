@@ -32,7 +32,7 @@ MEANINGS = {
 }
 
 
-def judged(verdict: Verdict) -> str:
+def verdict_sentence(verdict: Verdict) -> str:
     """The judge's own line, and what it means."""
     meaning = MEANINGS.get(verdict.code)
     return f"{verdict.line} ({meaning})" if meaning else verdict.line
@@ -142,7 +142,7 @@ def wrong_entry(run: AlphaRun, entries: list[StampedText], verdict: Verdict) -> 
         ("right", at.right()),
         ("why", START if text == "pulse 0" else rule_of(at, own)),
         *at.hints(),
-        ("judge", judged(verdict)),
+        ("judge", verdict_sentence(verdict)),
     ]
     return Finding(verdict.code, v, at.pulse, lines, verdict.entry, way=kind_of(text))
 
@@ -184,7 +184,7 @@ def stuck(run: AlphaRun, entries: list[StampedText], verdict: Verdict) -> Findin
         *first.hints(),
         *others[:3],
         *waits,
-        ("judge", judged(verdict)),
+        ("judge", verdict_sentence(verdict)),
     ]
     return Finding("stuck", first.v, first.pulse, lines, way=kind_of(first.dues()[0]))
 
