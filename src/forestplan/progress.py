@@ -27,7 +27,7 @@ def process_fields(process: int) -> list[str] | None:
     return None if fields[0] in ("Z", "X") else fields
 
 
-def about(process: int, command: str) -> str:
+def time_expected(process: int, command: str) -> str:
     """About how much processor time a run takes, if its input is a file that can be read once more; or nothing."""
     try:
         with open(f"/proc/{process}/fd/0", "rb") as file:
@@ -52,7 +52,7 @@ def main(arguments: list[str]) -> int:
     for moment in MOMENTS:
         while process_fields(process) and time.monotonic() - start < moment:
             time.sleep(0.5)
-        reckons = about(process, command) if reckons is None else reckons
+        reckons = time_expected(process, command) if reckons is None else reckons
         fields = process_fields(process)
         if fields is None:
             return 0

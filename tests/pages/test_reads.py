@@ -109,7 +109,7 @@ READS = {
     ("src/forestplan/files.py", "bytes_at: open"): "the same",
     (
         "src/forestplan/progress.py",
-        "about: open",
+        "time_expected: open",
     ): "256 MiB by `bytes_in`: the program's own input, if it is a file",
     (
         "src/forestplan/workshop/submissions.py",

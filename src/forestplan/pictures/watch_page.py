@@ -284,11 +284,11 @@ def watch_html(runs: list[ShownRun]) -> str:
         "watch",
         data,
         title=f"{network.name}: {title}",
-        about=f"{about(runs, pulses)} {ORDER}",
+        about=f"{page_sentence(runs, pulses)} {ORDER}",
     )
 
 
-def about(runs: list[ShownRun], pulses: tuple[int, int]) -> str:
+def page_sentence(runs: list[ShownRun], pulses: tuple[int, int]) -> str:
     run = runs[0]
     shown_ = f"Pulses {pulses[0]} to {pulses[1]} of {run.last}"
     entries = " and ".join(f"{len(one.moments):,}" for one in runs)
