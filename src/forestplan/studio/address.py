@@ -116,10 +116,10 @@ def rules_of(said: str, rules: Collection[str]) -> str:
 
 def other_run(said: str, here: Here) -> Order:
     policy, has_seed, seed = said.partition(".")
-    return Order(among(POLICIES)(policy, here), seed if has_seed else "1")
+    return Order(word_among(POLICIES)(policy, here), seed if has_seed else "1")
 
 
-def among(names: Collection[str]) -> Callable[[str, Here], str]:
+def word_among(names: Collection[str]) -> Callable[[str, Here], str]:
     def parse(said: str, _here: Here) -> str:
         if said not in names:
             raise Fault(Code.NOT_AMONG, names=", ".join(names))
@@ -129,7 +129,7 @@ def among(names: Collection[str]) -> Callable[[str, Here], str]:
 
 
 def program_of(said: str, here: Here) -> str:
-    return among([*PROGRAMS, *here.own])(said, here)
+    return word_among([*PROGRAMS, *here.own])(said, here)
 
 
 def lesson_step_of(said: str, here: Here) -> int:
@@ -139,7 +139,7 @@ def lesson_step_of(said: str, here: Here) -> int:
 
 
 def flag_of(said: str, here: Here) -> bool:
-    return among(("0", "1"))(said, here) == "1"
+    return word_among(("0", "1"))(said, here) == "1"
 
 
 @dataclass(frozen=True)
@@ -155,7 +155,7 @@ NAMES: dict[str, Name] = {
     "example": Name("word", lambda said, _: said),
     "net": Name("network", lambda said, _: said),
     "program": Name("word", program_of),
-    "tab": Name("word", among(TABS)),
+    "tab": Name("word", word_among(TABS)),
     "passes": Name("number", lambda said, _: within(said, 1, MAX_PASSES)),
     "root": Name("number", lambda said, here: here.node(said)),
     "slow": Name("list", lambda said, here: list(map(here.edge, filled_items(said)))),
@@ -166,8 +166,8 @@ NAMES: dict[str, Name] = {
     "broken": Name("rules", lambda said, here: rules_of(said, OF_PROGRAMS.get(here.program, {}))),
     "predict": Name("flag", flag_of),
     "play": Name("flag", flag_of),
-    "how": Name("word", among(("seed", "threads"))),
-    "policy": Name("word", among(POLICIES)),
+    "how": Name("word", word_among(("seed", "threads"))),
+    "policy": Name("word", word_among(POLICIES)),
     "seed": Name("text", lambda said, _: said),
     "other": Name("run", other_run),
     "beside": Name("flag", flag_of),
@@ -175,9 +175,11 @@ NAMES: dict[str, Name] = {
     "without": Name(
         "rules", lambda said, here: rules_of(said, OF_LINKS if here.reacts else OF_SCHEDULES)
     ),
-    "dare": Name("word", lambda said, here: among(OWN_DARES if here.reacts else DARES)(said, here)),
+    "dare": Name(
+        "word", lambda said, here: word_among(OWN_DARES if here.reacts else DARES)(said, here)
+    ),
     "plan": Name("list", plan_of),
-    "kind": Name("word", among(get_args(PictureKind))),
+    "kind": Name("word", word_among(get_args(PictureKind))),
     "lesson": Name("number", lambda said, _: within(said, 1, len(LESSONS))),
     "step": Name("number", lesson_step_of),
     "lecture": Name("number", lambda said, _: within(said, 1, len(LECTURE))),

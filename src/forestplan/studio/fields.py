@@ -85,7 +85,7 @@ def words_by_name(value: object) -> dict[str, str]:
     return {name: word(one) for name, one in value.items()}
 
 
-def among(names: Collection[str]) -> Parse:
+def value_among(names: Collection[str]) -> Parse:
     def parse_name(value: object) -> str:
         name = text_value(value)
         if name not in names:
@@ -106,7 +106,7 @@ def parse_for(hint: object) -> Parse:
     if kind is Annotated:
         return parser_in(within[1])
     if kind is Literal:
-        return among(within)
+        return value_among(within)
     if kind in (Union, UnionType):
         (only,) = (one for one in within if one is not NoneType)
         return parse_for(only)

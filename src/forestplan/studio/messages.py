@@ -12,7 +12,7 @@ from forestplan.networks.kinds import KINDS
 from forestplan.schedules.policies import POLICIES
 from forestplan.studio.answers import PictureKind
 from forestplan.studio.dares import DARES
-from forestplan.studio.fields import among, word, words_by_name
+from forestplan.studio.fields import value_among, word, words_by_name
 from forestplan.studio.own_dares import OWN_DARES
 
 # A text or a number, as the field of a form has it.
@@ -91,7 +91,7 @@ class ReadCall:
 
 @dataclass(frozen=True, kw_only=True)
 class MakeCall:
-    kind: Annotated[str, among(KINDS)]
+    kind: Annotated[str, value_among(KINDS)]
     sizes: Annotated[dict[str, str], words_by_name]
     seed: Word = ""
 
@@ -156,8 +156,8 @@ class PictureCall(AfterSteps, OfProgram):
 class RunCall(Seeded, AfterSteps, Held, OfProgram):
     """Asks for a run: of a transcript, by threads, or by a seed, which has a policy."""
 
-    how: Annotated[str, among(("seed", "threads"))] = "seed"
-    policy: Annotated[str, among(POLICIES)] | None = None
+    how: Annotated[str, value_among(("seed", "threads"))] = "seed"
+    policy: Annotated[str, value_among(POLICIES)] | None = None
     workers: int = 4
     capacity: int = 4
     transcript: str | None = None
@@ -191,7 +191,7 @@ class StepsCall(Seeded, WithoutRules, AfterSteps, Held, OfProgram):
     `in_step` makes all nodes' next pulse."""
 
     list: str | None = None
-    dare: Annotated[str, among(("", *DARES, *OWN_DARES))] | None = None
+    dare: Annotated[str, value_among(("", *DARES, *OWN_DARES))] | None = None
     by: int = 0
     in_step: bool = False
 
