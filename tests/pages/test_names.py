@@ -19,7 +19,6 @@ SEVERAL = {
     "Player": 2,
     "Pulse": 2,
     "Sites": 2,
-    "as_json": 2,
     "begin": 2,
     "below": 2,
     "box_of": 2,

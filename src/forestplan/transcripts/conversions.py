@@ -36,7 +36,7 @@ def entries_of(text: bytes) -> tuple[Head, Made]:
     return head, found
 
 
-def as_json(head: Head, entries: Made) -> Iterator[str]:
+def json_lines(head: Head, entries: Made) -> Iterator[str]:
     named = {"program": head.program} if head.program else {}
     yield json.dumps({"edition": head.edition, "nodes": head.nodes} | named)
     for entry, put in entries:
@@ -85,7 +85,7 @@ def as_shiviz(_: Head, entries: Made) -> Iterator[str]:
             yield f"{entry.kind.value} {entry.what} {way} {entry.neighbour}"
 
 
-FORMS = {"json": as_json, "shiviz": as_shiviz}
+FORMS = {"json": json_lines, "shiviz": as_shiviz}
 # The form that needs a program, too.
 ROUNDS = "rounds"
 

@@ -22,7 +22,7 @@ from forestplan.workshop.guard import Guard, Unguarded
 from forestplan.workshop.leftovers import PARENT_DEATH_SIGNAL, control, end_all, shut
 from forestplan.workshop.options import parsed
 from forestplan.workshop.player import Player
-from forestplan.workshop.report import as_json, report
+from forestplan.workshop.report import report_json, report
 from forestplan.workshop.sandbox import Sandbox
 from forestplan.workshop.submissions import RUNS, Graded, Part, clean
 from forestplan.workshop.visible_files import on_the_path
@@ -63,7 +63,11 @@ def play(part: Part, given: argparse.Namespace, room: str) -> dict[str, object]:
         return {"why": str(why)}
     _, shown, _ = found
     is_by_signal = shown is not None and shown.wrong.is_by_signal
-    return {"result": as_json(options, *found), "report": report(*found), "by_signal": is_by_signal}
+    return {
+        "result": report_json(options, *found),
+        "report": report(*found),
+        "by_signal": is_by_signal,
+    }
 
 
 def grade_part(part: Part, given: argparse.Namespace, room: str, to: Connection) -> None:

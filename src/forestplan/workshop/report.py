@@ -100,7 +100,7 @@ def case_as_json(case: Case, commands: list[list[str]]) -> dict[str, object]:
     return row
 
 
-def as_json(
+def report_json(
     options: Namespace, cases: list[Case], shown: Case | None, seconds: float
 ) -> dict[str, object]:
     """For an autograder. `workshop` is the edition of this form."""

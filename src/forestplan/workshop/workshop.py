@@ -16,7 +16,7 @@ from forestplan.workshop.cases import Case, cases_of
 from forestplan.workshop.leftovers import shut
 from forestplan.workshop.options import parsed
 from forestplan.workshop.player import Player
-from forestplan.workshop.report import as_json, described, report
+from forestplan.workshop.report import report_json, described, report
 from forestplan.workshop.right_rounds import words_of
 
 OTHERS = {"grade": grade.main, "class": class_files.main}
@@ -55,7 +55,7 @@ def run_cases(options: Namespace, cases: list[Case]) -> int:
     if options.keep:
         keep(case, options.keep, options.program)
     if options.json:
-        print(json.dumps(as_json(options, cases, shown, seconds)), flush=True)
+        print(json.dumps(report_json(options, cases, shown, seconds)), flush=True)
     else:
         print("\n".join(report(cases, shown, seconds)), flush=True)
     if options.picture and (why := draw_wrong_run(case, options.picture, options.program)):
