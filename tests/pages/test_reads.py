@@ -257,7 +257,7 @@ READS = {
     ("src/forestplan/files.py", "write_apart: open"): WRITTEN,
     ("src/forestplan/process_exit.py", "run_command: os.open"): WRITTEN,
     ("src/forestplan/studio/building.py", "Building.look: open"): WRITTEN,
-    ("src/forestplan/studio/limits.py", "begin: open"): WRITTEN,
+    ("src/forestplan/studio/limits.py", "limit_process: open"): WRITTEN,
     ("src/forestplan/studio/studio.py", "open_browser: open"): WRITTEN,
     ("src/forestplan/studio/studio.py", "open_browser: os.open"): WRITTEN,
     ("src/forestplan/studio/studio.py", "open_browser: webbrowser.open"): "a browser opens it",

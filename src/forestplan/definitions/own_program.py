@@ -155,7 +155,7 @@ def end_call(*_: object) -> None:
 
 
 @contextlib.contextmanager
-def limited() -> Iterator[None]:
+def time_limited() -> Iterator[None]:
     """Ends what takes too long, where a signal can do that."""
     # Only who has a file pays for what the import takes.
     import threading
@@ -179,7 +179,7 @@ def call(path: str, where: str, function: Callable[..., Returned], *values: obje
     """What a function returns that is of the file, or calls the file's. Whatever the file raises is said with its line
     and where that was; what it prints goes to standard error."""
     try:
-        with contextlib.redirect_stdout(sys.stderr), limited():
+        with contextlib.redirect_stdout(sys.stderr), time_limited():
             try:
                 return function(*values)
             except BaseException as why:

@@ -13,7 +13,7 @@ from forestplan.limits import MAX_EDGES, MAX_NODES
 from forestplan.network import Edge, Network, Places
 from forestplan.networks.network_text import checked
 from forestplan.networks.places import near
-from forestplan.networks.random_networks import alike_edges, below
+from forestplan.networks.random_networks import alike_edges, random_below
 
 SIDE = 1000
 # Half of a queen's directions: the other half leads back.
@@ -78,7 +78,7 @@ def queen(rows: int, columns: int) -> Network:
 
 def tree(nodes: int, seed: str | int) -> Network:
     source = random.Random(seed)
-    return made(nodes, ((1 + below(source, v - 1), v) for v in range(2, nodes + 1)))
+    return made(nodes, ((1 + random_below(source, v - 1), v) for v in range(2, nodes + 1)))
 
 
 def disk(nodes: int, radius: float, seed: str | int) -> Network:
@@ -89,7 +89,7 @@ def disk(nodes: int, radius: float, seed: str | int) -> Network:
     free = set()
     places: dict[int, tuple[int, int]] = {}
     while len(places) < nodes:
-        place = below(source, SIDE + 1), below(source, SIDE + 1)
+        place = random_below(source, SIDE + 1), random_below(source, SIDE + 1)
         if place not in free:
             free.add(place)
             places[len(places) + 1] = place
@@ -117,7 +117,7 @@ def any_edges(
         return made(nodes, found)
     chosen: set[Edge] = set()
     while len(chosen) < min(edges, pairs - edges):
-        v, w = 1 + below(source, nodes), 1 + below(source, nodes)
+        v, w = 1 + random_below(source, nodes), 1 + random_below(source, nodes)
         if v != w:
             chosen.add((min(v, w), max(v, w)))
     if edges > pairs - edges:

@@ -14,7 +14,7 @@ LEAST_TRIES = 20
 PAIRS = 40
 
 
-def below(source: Random, bound: int) -> int:
+def random_below(source: Random, bound: int) -> int:
     """A random number from 0 to bound - 1, the same on every machine.
 
     >>> 0 <= below(Random(7), 10) < 10
@@ -31,7 +31,7 @@ def shuffled(source: Random, things: Iterable[int]) -> list[int]:
     """
     order = list(things)
     for at in range(len(order) - 1, 0, -1):
-        other = below(source, at + 1)
+        other = random_below(source, at + 1)
         order[at], order[other] = order[other], order[at]
     return order
 
@@ -94,11 +94,11 @@ def grown(
 
     order = shuffled(source, range(1, nodes + 1)) if connected else []
     if all(
-        any(join(order[at], order[below(source, at)]) for _ in range(PAIRS))
+        any(join(order[at], order[random_below(source, at)]) for _ in range(PAIRS))
         for at in range(1, len(order))
     ):
         for _ in range(PAIRS * edges):
             if len(found) >= edges:
                 break
-            join(1 + below(source, nodes), 1 + below(source, nodes))
+            join(1 + random_below(source, nodes), 1 + random_below(source, nodes))
     return found, max(degree), max(higher)

@@ -49,7 +49,7 @@ def outcome(work: Callable[[], object]) -> Outcome:
         return Outcome("fault", wrong=f"a fault of the studio itself: {said}")
 
 
-def begin() -> None:
+def limit_process() -> None:
     """Gives this process its limits, and a group of its own, with which all ends that it starts."""
     os.setpgid(0, 0)
     signal.signal(signal.SIGINT, signal.SIG_IGN)
@@ -79,7 +79,7 @@ def apart(work: Callable[[], str]) -> Outcome:
         said = all_of(reader, time.monotonic() + SECONDS)
     finally:
         os.close(reader)
-        end(child)
+        end_group(child)
     return said
 
 
@@ -87,7 +87,7 @@ def work_and_end(work: Callable[[], str], writer: int) -> None:
     """In the process of its own: nothing of it gets back to what has called it."""
     try:
         ctypes.CDLL(None).prctl(PR_SET_PDEATHSIG, signal.SIGKILL)
-        begin()
+        limit_process()
         for number in STOPS:
             signal.signal(number, signal.SIG_DFL if number != signal.SIGINT else signal.SIG_IGN)
         signal.pthread_sigmask(signal.SIG_UNBLOCK, STOPS)
@@ -113,7 +113,7 @@ def all_of(reader: int, until: float) -> Outcome:
         return Outcome("limit", wrong="it took too much time or memory, so it was ended")
 
 
-def end(child: int) -> None:
+def end_group(child: int) -> None:
     """Ends the process, with all that it has started, if it hasn't ended yet."""
     for kill in (os.killpg, os.kill):
         with contextlib.suppress(ProcessLookupError, PermissionError):

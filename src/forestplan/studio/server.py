@@ -261,7 +261,7 @@ class Handler(http.server.BaseHTTPRequestHandler):
             return self.refuse(400, f"{why}.")
         self.headed(200, "application/x-ndjson")
         answer = Answer(self)
-        with limited(self, lambda why: answer.line(wrong=why)):
+        with limited_call(self, lambda why: answer.line(wrong=why)):
             found = limits.outcome(
                 lambda: CALLS[name].answer(asked, self.server.session, answer.tell)
             )
@@ -271,9 +271,9 @@ class Handler(http.server.BaseHTTPRequestHandler):
 
 
 @contextlib.contextmanager
-def limited(handler: Handler, say: Callable[[str], None]) -> Iterator[None]:
+def limited_call(handler: Handler, say: Callable[[str], None]) -> Iterator[None]:
     """This process gets its limits, and ends if the browser hangs up, the server ends or time is up."""
-    limits.begin()
+    limits.limit_process()
     done = threading.Event()
     threading.Thread(target=watch, args=(handler, done, say), daemon=True).start()
     try:

@@ -12,7 +12,7 @@ from forestplan.workshop.findings import NoAnswer
 from forestplan.workshop.leftovers import (
     PARENT_DEATH_SIGNAL,
     Running,
-    below,
+    processes_below,
     children,
     control,
     processes,
@@ -139,16 +139,16 @@ class Guard:
         """Ends each program that takes too much, with all that it has started."""
         begun = time.monotonic()
         tree = children()
-        away = list(below(os.getpid(), tree, self.programs))
+        away = list(processes_below(os.getpid(), tree, self.programs))
         for program in self.programs - self.faults.keys():
             own = [process for process in tree.get(os.getpid(), ()) if process.number == program]
-            family = [*own, *below(program, tree)]
+            family = [*own, *processes_below(program, tree)]
             running = [process for process in [*family, *away] if not process.is_over]
             try:
                 self.check(running, memory)
             except NoAnswer as fault:
                 self.faults[program] = fault
-                end(family)
+                end_family(family)
         seconds = time.monotonic() - begun
         self.next_look = begun + seconds + max(LOOK, min(MOST_LOOK, LOOK_SHARE * seconds))
 
@@ -170,7 +170,7 @@ class Guard:
         )
 
 
-def end(family: list[Running]) -> None:
+def end_family(family: list[Running]) -> None:
     for process in family:
         with contextlib.suppress(ProcessLookupError, PermissionError):
             os.kill(process.number, signal.SIGKILL)

@@ -67,7 +67,7 @@ def processes() -> Iterator[Running]:
 
 def below_this(kept: Collection[int | None] = ()) -> Iterator[Running]:
     """All processes below this one, but those that are kept with what is below them."""
-    return below(os.getpid(), children(), kept)
+    return processes_below(os.getpid(), children(), kept)
 
 
 def children() -> dict[int, list[Running]]:
@@ -78,7 +78,7 @@ def children() -> dict[int, list[Running]]:
     return found
 
 
-def below(
+def processes_below(
     top: int, tree: dict[int, list[Running]], kept: Collection[int | None] = ()
 ) -> Iterator[Running]:
     """All processes below one, but those that are kept with what is below them."""
