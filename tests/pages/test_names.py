@@ -19,7 +19,6 @@ SEVERAL = {
     "Player": 2,
     "Pulse": 2,
     "Sites": 2,
-    "box_of": 2,
     "called": 2,
     "checked": 2,
     "circle": 2,

@@ -9,7 +9,7 @@ from forestplan.definitions.program import Program
 from forestplan.fault_codes import Code
 from forestplan.faults import Fault, at_most
 from forestplan.network import Network
-from forestplan.pictures.map_picture import box_of, draw_map
+from forestplan.pictures.map_picture import map_box, draw_map
 from forestplan.pictures.marks import Map, colour_square
 from forestplan.pictures.palette import INK, PAPER, SOFT, WRONG
 from forestplan.pictures.panel import PANEL, Panel
@@ -246,7 +246,7 @@ class OfEnd:
     ) -> None:
         self.net, self.faults = both[0].net, [rounds.faults for rounds in both]
         self.found = found
-        self.box = box_of(
+        self.box = map_box(
             self.net, [one for found in self.found for one in found.values()], LEAST_WIDTH / 2, 0
         )
         self.width, self.height, self.step = 2 * self.box[0], self.box[1] + OVER, (self.box[0], 0)

@@ -115,7 +115,7 @@ def upright(network: Network, places: dict[int, complex]) -> dict[int, complex]:
     turn = sum((edge / abs(edge)) ** 4 for edge in edges if edge)
     back = (turn / abs(turn)) ** -0.25 if abs(turn) > 1e-6 else 1
     turned = {v: place * back for v, place in places.items()}
-    _, wide, high = box_of(turned)
+    _, wide, high = box_around(turned)
     if high > wide:
         turned = {v: place * 1j for v, place in turned.items()}
     first, centre = turned[min(turned)], sum(turned.values()) / len(turned)
@@ -125,7 +125,7 @@ def upright(network: Network, places: dict[int, complex]) -> dict[int, complex]:
 
 def in_rows(parts: list[dict[int, complex]]) -> dict[int, complex]:
     """Parts side by side from left to right, in rows about as wide as all of them are high."""
-    boxes = [box_of(places) for places in parts]
+    boxes = [box_around(places) for places in parts]
     row = max(
         1.5 * sqrt(sum((wide + SPACE) * (high + SPACE) for _, wide, high in boxes)),
         max(wide for _, wide, _ in boxes),
@@ -140,7 +140,7 @@ def in_rows(parts: list[dict[int, complex]]) -> dict[int, complex]:
     return found
 
 
-def box_of(places: dict[int, complex]) -> tuple[complex, float, float]:
+def box_around(places: dict[int, complex]) -> tuple[complex, float, float]:
     """The upper left corner of places, their width and their height."""
     xs, ys = [place.real for place in places.values()], [place.imag for place in places.values()]
     return complex(min(xs), min(ys)), max(xs) - min(xs), max(ys) - min(ys)

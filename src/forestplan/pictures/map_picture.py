@@ -94,12 +94,12 @@ def begun(
     """A picture with its heading, as wide as that and the map need; and the map's box."""
     svg, top = Svg(0, 0, title), 26 + 16 * len(heading)
     svg.heading(*heading)
-    svg.width, height, *_ = box = box_of(network, vertices.values(), svg.width, top)
+    svg.width, height, *_ = box = map_box(network, vertices.values(), svg.width, top)
     svg.height = top + height + 10
     return svg, box
 
 
-def box_of(network: Network, vertices: Iterable[Vertex], least: float, top: float) -> Box:
+def map_box(network: Network, vertices: Iterable[Vertex], least: float, top: float) -> Box:
     """The box of a map, at least so wide: width, height, how much of the width is for what is beside the circles on
     each side, and its upper edge."""
     beside, width = max(one.room() for one in vertices), width_of_map(network)
