@@ -189,7 +189,7 @@ READS = {
     ("src/forestplan/process_exit.py", "status_of: os.read"): "one byte",
     # What programs of this folder, or of the system, say.
     ("src/forestplan/proved_programs.py", "called: subprocess.run"): OF_PROGRAM,
-    ("src/forestplan/interface/programs.py", "called: subprocess.run"): OF_PROGRAM,
+    ("src/forestplan/interface/programs.py", "status_and_outputs: subprocess.run"): OF_PROGRAM,
     (
         "src/forestplan/workshop/workshop.py",
         "draw_wrong_run: subprocess.run",

@@ -6,7 +6,7 @@ from forestplan import limits
 from forestplan import processors
 from forestplan.interface.answers import Entry, Message, Plan, Pulse, Refused, Rounds, Transcript
 from forestplan.interface.graphs import Bars, Channels, Graph, Licence, Node, text_of, whole_value
-from forestplan.interface.programs import called, program_at
+from forestplan.interface.programs import status_and_outputs, program_path
 from forestplan.networks import codes
 
 
@@ -138,7 +138,7 @@ def _asked(
 
 def _called(command: list[str], text: str, order: list[Node]) -> str:
     """What a program writes of a text in which nodes have numbers of this order."""
-    status, out, said = called([program_at(command[0]), *command[1:]], text)
+    status, out, said = status_and_outputs([program_path(command[0]), *command[1:]], text)
     if not status:
         return out
     fault = said.partition(": ")[2]

@@ -19,7 +19,7 @@ def home() -> str:
     return TOP
 
 
-def program_at(name: str) -> str:
+def program_path(name: str) -> str:
     """The file of a program. Raises FileNotFoundError if it isn't built."""
     found = built(name)
     if found is None:
@@ -27,7 +27,7 @@ def program_at(name: str) -> str:
     return found
 
 
-def called(command: Sequence[str], text: str) -> tuple[int, str, str]:
+def status_and_outputs(command: Sequence[str], text: str) -> tuple[int, str, str]:
     """The status and both outputs of a process that reads a text."""
     done = subprocess.run(command, input=text.encode("utf-8", "replace"), capture_output=True)
     return (done.returncode, done.stdout.decode(), done.stderr.decode("utf-8", "replace").strip())
@@ -35,7 +35,7 @@ def called(command: Sequence[str], text: str) -> tuple[int, str, str]:
 
 def lab_called(arguments: Sequence[str], text: str) -> tuple[int, str, str]:
     """The same of a command of forestlab."""
-    return called([sys.executable, "-S", PACKAGE, *arguments], text)
+    return status_and_outputs([sys.executable, "-S", PACKAGE, *arguments], text)
 
 
 def command() -> NoReturn:
