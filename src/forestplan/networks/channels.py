@@ -9,7 +9,7 @@ from forestplan.faults import Fault, InText
 from forestplan.files import bytes_at, text_at, write
 from forestplan.limits import MAX_CHANNEL
 from forestplan.networks.fields import shown_field
-from forestplan.networks.forms import Unsaid, decoded
+from forestplan.networks.forms import Unsaid, decoded_text
 from forestplan.networks.options import add_stated, commands_for, stated_by
 from forestplan.networks.plan_text import PlanRow, rows_of
 from forestplan.networks.tables import MOST_DIGITS, licence_of
@@ -61,7 +61,7 @@ def channels_asked(given: Namespace, arguments: list[str], command: str) -> list
     path = file_in(arguments)
     if path is not None:
         name = one_line(path)
-        text = decoded(bytes_at(path), name, given.stated.encoding)
+        text = decoded_text(bytes_at(path), name, given.stated.encoding)
         numbers, notes = licence_of(text, name, given.stated)
         for note in notes:
             print(f"{command}: {name}: {note}", file=sys.stderr)

@@ -17,7 +17,7 @@ from forestplan.fault_codes import Code
 from forestplan.faults import Fault, InText
 from forestplan.networks.cross_check import Declared, in_json, in_xml
 from forestplan.networks.fields import shown_field
-from forestplan.networks.forms import Stated, decoded
+from forestplan.networks.forms import Stated, decoded_text
 from forestplan.networks.gml import in_gml, with_multigraph
 from forestplan.networks.letters import from_graph6, in_graph6, in_sparse6
 from forestplan.networks.listing import Listed, Where, name_of, not_read
@@ -98,7 +98,7 @@ def read(data: bytes, name: str, form: str, stated: Stated) -> Listed:
     reader, declares = READERS[form]
     # XML says its encoding itself, if nothing else is stated.
     if declares != in_xml or stated.encoding:
-        text = decoded(data, name, stated.encoding)
+        text = decoded_text(data, name, stated.encoding)
         data = re.sub(r"\A\s*<\?xml[^>]*\?>", "", text).encode()
     declared = declares(data, name)
     try:

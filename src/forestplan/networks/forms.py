@@ -156,7 +156,7 @@ def letters_of(data: bytes, name: str, stated: str | None) -> str:
     raise what if stated else Unsaid(what, WINDOWS)
 
 
-def decoded(data: bytes, name: str, stated: str | None) -> str:
+def decoded_text(data: bytes, name: str, stated: str | None) -> str:
     """The text of a file, whose lines end with line feeds.
 
     >>> decoded(b"a\\r\\nb\\rc", "text", None)

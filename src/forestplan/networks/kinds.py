@@ -11,7 +11,7 @@ from forestplan.fault_codes import Code
 from forestplan.faults import Fault
 from forestplan.limits import MAX_EDGES, MAX_NODES
 from forestplan.network import Edge, Network, Places
-from forestplan.networks.network_text import checked
+from forestplan.networks.network_text import checked_network
 from forestplan.networks.places import near
 from forestplan.networks.random_networks import alike_edges, random_below
 
@@ -22,7 +22,7 @@ WAYS_OF_A_QUEEN = ((1, 0), (0, 1), (1, 1), (-1, 1))
 
 def made(nodes: int, edges: Iterable[Edge], places: Places | None = None) -> Network:
     """The network of these edges, of which no more are looked at than one too many."""
-    return checked(
+    return checked_network(
         Network(nodes, list(islice(edges, MAX_EDGES + 1)), places=places or {}), "that network"
     )
 

@@ -14,7 +14,7 @@ from forestplan.networks.channels import channels_asked
 from forestplan.networks.codes import code_of, tell_code
 from forestplan.networks.command_line import command_line
 from forestplan.networks.description import facts, warnings
-from forestplan.networks.forms import Unsaid, decoded
+from forestplan.networks.forms import Unsaid, decoded_text
 from forestplan.networks.kinds import KINDS
 from forestplan.networks.listing import Listed
 from forestplan.networks.network_text import reading_of
@@ -112,7 +112,7 @@ def check_read_options(given: Namespace) -> None:
 def text_asked(given: Namespace, path: str) -> tuple[str, str]:
     """The text of a table, and what it is called."""
     name = one_line(path)
-    return decoded(network_bytes(path), name, given.stated.encoding), name
+    return decoded_text(network_bytes(path), name, given.stated.encoding), name
 
 
 def file_listed(given: Namespace, name: str) -> Listed:

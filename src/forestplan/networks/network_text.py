@@ -148,7 +148,7 @@ class Reading:
 
     def network(self) -> Network:
         """What all lines are, or its first fault."""
-        return checked(
+        return checked_network(
             Network(
                 self.count(),
                 self.edges,
@@ -177,7 +177,7 @@ def reading_of(text: str, path: str) -> Reading:
     return read
 
 
-def checked(network: Network, path: str) -> Network:
+def checked_network(network: Network, path: str) -> Network:
     """The same network, if it is within the limits and its identifiers differ. `path` is what a fault calls it.
 
     >>> checked(Network(2, [(1, 2)]), "two").nodes

@@ -6,7 +6,7 @@ from dataclasses import replace
 from typing import TypeVar
 
 from forestplan.network import Network
-from forestplan.networks.network_text import checked
+from forestplan.networks.network_text import checked_network
 from forestplan.networks.random_networks import shuffled
 from forestplan.networks.search_order import LARGE, near_order
 
@@ -46,7 +46,7 @@ def renumbered(network: Network, seed: str | int) -> Network:
     Raises `Fault` if an identifier that a line gives is the new number of another vertex.
     """
     order = shuffled(random.Random(seed), network.vertices)
-    return checked(
+    return checked_network(
         in_order(network, order, network.given_identifiers), f"{network.name}, numbered again"
     )
 

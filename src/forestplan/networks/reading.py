@@ -4,9 +4,9 @@ from forestplan.faults import Fault, InText
 from forestplan.network import Edge, Network
 from forestplan.networks import foreign, lines, tables
 from forestplan.networks.fields import field_number
-from forestplan.networks.forms import Stated, decoded, form_of, letters_of
+from forestplan.networks.forms import Stated, decoded_text, form_of, letters_of
 from forestplan.networks.listing import Listed
-from forestplan.networks.network_text import checked, network_of, read_network, stem
+from forestplan.networks.network_text import checked_network, network_of, read_network, stem
 from forestplan.networks.sources import path_of
 from forestplan.wording import counted, one_line
 
@@ -26,7 +26,7 @@ def listed_of(data: bytes, name: str, form: str, stated: Stated) -> Listed:
         encoding = stated.encoding
         text = letters_of(data, name, encoding) if encoding else data.decode("utf-8", "replace")
         return listed_in(read_network(text, name), name)
-    text = decoded(data, name, stated.encoding)
+    text = decoded_text(data, name, stated.encoding)
     if form == "pairs":
         return tables.pairs(text, name, stated)
     return {"edges": lines.edges, "adjacency": lines.adjacency}[form](text, name)
@@ -70,7 +70,7 @@ def made_of(found: Listed, name: str) -> tuple[Network, list[str]]:
         {number[node]: place for node, place in found.places.items()},
         stem(name),
     )
-    checked(network, name)
+    checked_network(network, name)
     return network, [summary(network, len(edges), found.form, by), *found.notes, *notes]
 
 

@@ -19,7 +19,7 @@ from forestplan.schedules.rules import OF_LINKS, OF_PROGRAMS, OF_SCHEDULES
 from forestplan.studio.answers import TABS, Order, PictureKind, Values, Written
 from forestplan.studio.call_values import MOST_STEPS
 from forestplan.studio.dares import DARES
-from forestplan.studio.drawn_network import decoded
+from forestplan.studio.drawn_network import percent_decoded
 from forestplan.studio.lessons import LECTURE, LESSONS, step_place, steps_in
 from forestplan.studio.own_dares import OWN_DARES
 from forestplan.studio.session import Form
@@ -242,7 +242,7 @@ def read_values(pairs: dict[str, str], unread: dict[str, Fault], here: Here) -> 
     for name in filter(pairs.__contains__, NAMES):
         said = pairs[name]
         try:
-            values[name] = NAMES[name].takes(said if name == "net" else decoded(said), here)
+            values[name] = NAMES[name].takes(said if name == "net" else percent_decoded(said), here)
         except Fault as why:
             unread[shown_field(f"{name}={said}")] = why
         if name == "program":

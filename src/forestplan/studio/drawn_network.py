@@ -52,7 +52,7 @@ class Drawn:
         return "\n".join(lines) + "\n"
 
 
-def decoded(said: str) -> str:
+def percent_decoded(said: str) -> str:
     """What `%` and two digits of 16 stand for."""
     try:
         if re.search("%(?![0-9A-Fa-f]{2})", said):
@@ -132,7 +132,7 @@ def add_bar(node: Node, v: int, said: str) -> None:
 def add_name(node: Node, v: int, said: str) -> None:
     if node.name:
         raise Fault(Code.TWO_NAMES, node=v)
-    node.name = decoded(said)
+    node.name = percent_decoded(said)
 
 
 ADDS: dict[str, Callable[[Node, int, str], None]] = {

@@ -163,7 +163,7 @@ def texts_of(given: Namespace) -> tuple[Network, bytes, bytes, AnyProgram]:
     return net, data, transcript, any_program_asked("transcript", given, net)
 
 
-def checked(given: Namespace) -> str:
+def right_verdict(given: Namespace) -> str:
     """The verdict on a transcript that is right."""
     net, _, text, program = texts_of(given)
     _, said = whole_run(net, text, program)
@@ -200,7 +200,9 @@ def main(arguments: list[str]) -> int:
     try:
         write(
             given,
-            {"check": checked, "replay": replayed, "convert": converted}[given.command](given),
+            {"check": right_verdict, "replay": replayed, "convert": converted}[given.command](
+                given
+            ),
         )
     except WrongEntry as wrong:
         if getattr(given, "json", False):
