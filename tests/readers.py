@@ -11,7 +11,7 @@ import unittest.mock
 from collections.abc import Callable, Iterator
 from dataclasses import dataclass
 
-from forestplan.definitions.own_program import code_of
+from forestplan.definitions.own_program import compiled_file
 from forestplan.faults import Fault
 from forestplan.networks import channels, network
 from forestplan.pictures import picture
@@ -139,7 +139,7 @@ def parsers_kept() -> Iterator[None]:
 
 def program(arguments: list[str]) -> int:
     """A program of one's own, up to its first line."""
-    code_of(arguments[0])
+    compiled_file(arguments[0])
     return 0
 
 

@@ -94,12 +94,12 @@ def main() -> int:
     calls_a_file = name != "studio" and any(word.endswith(".py") for word in arguments)
     run = process_exit.run_apart if calls_a_file else process_exit.run_command
     status: int = run(
-        name if name in COMMANDS else "forestlab", lambda: command_of(name, arguments)
+        name if name in COMMANDS else "forestlab", lambda: command_named(name, arguments)
     )
     return status
 
 
-def command_of(name: str, arguments: "list[str]") -> "Callable[[], int]":
+def command_named(name: str, arguments: "list[str]") -> "Callable[[], int]":
     """The command of this name with its arguments: a function that returns the status."""
     if name == "--version" or name in COMMANDS and arguments == ["--version"]:
         version: "Callable[[], int]" = importlib.import_module("forestplan.version").main

@@ -20,8 +20,6 @@ SEVERAL = {
     "Pulse": 2,
     "Sites": 2,
     "circle": 2,
-    "code_of": 2,
-    "command_of": 2,
     "edges_of": 2,
     "head_of": 2,
     "in_order": 2,

@@ -1,6 +1,6 @@
 """Tests of the files of programs of one's own that Python itself can't read, or not in a time that anyone has: each is
 refused in one line. tests/programs/test_own_algorithms.py has what such a program may do."""
-from forestplan.definitions.own_program import code_of
+from forestplan.definitions.own_program import compiled_file
 from forestplan.faults import Fault
 from tests.cases import Case
 
@@ -21,11 +21,11 @@ class ProgramFiles(Case):
         for text, said in REFUSED:
             path = self.file("own.py", text)
             with self.subTest(text[:20]), self.assertRaises(Fault) as found:
-                code_of(path)
+                compiled_file(path)
             self.note(f"{text[:20]!r} says why", said in str(found.exception), found.exception)
 
     def test_read(self) -> None:
         """The mark of UTF-8, line ends of other systems, and some marks over a letter are read."""
         for text in ("\ufeffx = 1\n", "x = 1\r\ny = 2\r\n", f"x = 'u{MARK * 30}'\n"):
             with self.subTest(text):
-                self.assertEqual(code_of(self.file("own.py", text)).co_names[0], "x")
+                self.assertEqual(compiled_file(self.file("own.py", text)).co_names[0], "x")

@@ -71,7 +71,7 @@ MOST_MARKS = 30
 
 def file_at(path: str, lots: str = "1") -> ProgramFile:
     """The file of a program of one's own; `lots` is the seed of `me.random`."""
-    code = code_of(path)
+    code = compiled_file(path)
     values = loaded(path, code)
     functions = {name: value for name, value in values.items() if callable(value)}
     return ProgramFile(path, functions, code, lots, frozenset(values) - frozenset(functions))
@@ -106,7 +106,7 @@ def program_name(file: ProgramFile) -> str:
     return os.path.splitext(os.path.basename(file.path))[0]
 
 
-def code_of(path: str) -> CodeType:
+def compiled_file(path: str) -> CodeType:
     """What a file says, not run yet."""
     try:
         text = bytes_at(path, MOST_BYTES).decode("utf-8-sig")

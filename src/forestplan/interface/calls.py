@@ -142,7 +142,7 @@ def _called(command: list[str], text: str, order: list[Node]) -> str:
     if not status:
         return out
     fault = said.partition(": ")[2]
-    told = codes.code_of(fault)
+    told = codes.told_of_text(fault)
     if told is None:
         raise RuntimeError(f"{command[0]} has ended with status {status}: {said}")
     what, *numbers = fault.split()[1:] or [""]

@@ -173,7 +173,7 @@ class Told(NamedTuple):
     more: str
 
 
-def code_of(text: str) -> Told | None:
+def told_of_text(text: str) -> Told | None:
     """What is told of a fault, as `C8`, `C8 vertex 1` or `forestplay: NotReady line 9: safe 0 of 2`; None if the words
     are no fault.
 

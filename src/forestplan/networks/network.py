@@ -11,7 +11,7 @@ from forestplan.files import text_at, write
 from forestplan.network import Network
 from forestplan.networks import tables
 from forestplan.networks.channels import channels_asked
-from forestplan.networks.codes import code_of, tell_code
+from forestplan.networks.codes import told_of_text, tell_code
 from forestplan.networks.command_line import command_line
 from forestplan.networks.description import facts, warnings
 from forestplan.networks.forms import Unsaid, decoded_text
@@ -131,7 +131,7 @@ def file_listed(given: Namespace, name: str) -> Listed:
 def was_told(given: Namespace) -> str:
     """What is said of a network, or of a code if there is no file of that name."""
     text = " ".join(given.file)
-    if path_of(text) is None and (found := code_of(text)):
+    if path_of(text) is None and (found := told_of_text(text)):
         return as_text(tell_code(found))
     if len(given.file) > 1:
         given.refuse("one FILE, or a code and where it is, as `C8 vertex 1`")

@@ -124,7 +124,7 @@ def part_of(student: str, folder: str, assignment: str) -> Part:
     try:
         if os.path.islink(folder):
             raise Fault(Code.FOLDER_IS_A_LINK)
-        command = command_of(folder, assignment)
+        command = program_command(folder, assignment)
         if not command:
             raise Fault(Code.NO_PROGRAM_OF_ASSIGNMENT)
         check_folder(folder)
@@ -133,7 +133,7 @@ def part_of(student: str, folder: str, assignment: str) -> Part:
         return Part(student, folder, assignment, found={"why": str(why)})
 
 
-def command_of(folder: str, assignment: str) -> list[str]:
+def program_command(folder: str, assignment: str) -> list[str]:
     """How the program of an assignment is run in its folder; empty if there is none."""
     if os.path.isfile(os.path.join(folder, "commands")):
         return said_command(folder, assignment)
