@@ -31,7 +31,7 @@ def rounds_text(net: Network) -> bytes:
     return joined_lines(ColouringRounds(net).lines())
 
 
-def head_of(net: Network) -> str:
+def first_line_of(net: Network) -> str:
     """The first line. Edition 1, and edition 2 if a channel is barred."""
     sizes = [1, net.nodes, net.greatest_degree, net.forest_count, last_pulse(net)]
     if net.greatest_bars:
@@ -184,7 +184,7 @@ class ColouringRounds:
 
     def lines(self) -> Iterator[str]:
         """The text of rounds, line by line."""
-        yield head_of(self.network)
+        yield first_line_of(self.network)
         for pulse in self.pulses:
             own = [(v, f"colour {f} {colour}") for (v, f), colour in pulse.colours.items()]
             own += [(v, f"chose {colour}") for v, colour in pulse.chosen.items()]

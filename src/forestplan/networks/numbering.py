@@ -13,7 +13,9 @@ from forestplan.networks.search_order import LARGE, near_order
 Value = TypeVar("Value")
 
 
-def in_order(network: Network, order: Sequence[int], identifiers: Mapping[int, int]) -> Network:
+def network_in_order(
+    network: Network, order: Sequence[int], identifiers: Mapping[int, int]
+) -> Network:
     """The network of the vertices of `order` alone, in this order. `identifiers` has theirs.
 
     >>> in_order(Network(3, [(1, 2), (2, 3)]), [3, 2], {}).names
@@ -47,7 +49,8 @@ def renumbered(network: Network, seed: str | int) -> Network:
     """
     order = shuffled(random.Random(seed), network.vertices)
     return checked_network(
-        in_order(network, order, network.given_identifiers), f"{network.name}, numbered again"
+        network_in_order(network, order, network.given_identifiers),
+        f"{network.name}, numbered again",
     )
 
 
@@ -61,4 +64,4 @@ def near_each_other(network: Network) -> Network:
     """
     if network.nodes < LARGE:
         return network
-    return in_order(network, near_order(network.neighbours), network.identifiers)
+    return network_in_order(network, near_order(network.neighbours), network.identifiers)

@@ -60,7 +60,7 @@ def made_of(found: Listed, name: str) -> tuple[Network, list[str]]:
     """
     names, by = numbered(found.names())
     number = {node: v for v, node in enumerate(names, 1)}
-    edges, notes = edges_of(found, number)
+    edges, notes = edges_by_number(found, number)
     network = Network(
         len(names),
         edges,
@@ -74,7 +74,7 @@ def made_of(found: Listed, name: str) -> tuple[Network, list[str]]:
     return network, [summary(network, len(edges), found.form, by), *found.notes, *notes]
 
 
-def edges_of(found: Listed, number: dict[str, int]) -> tuple[set[Edge], list[str]]:
+def edges_by_number(found: Listed, number: dict[str, int]) -> tuple[set[Edge], list[str]]:
     """The edges by numbers, and notes of those that aren't there for themselves."""
     ends = [(number[one], number[other]) for _, one, other in found.edges]
     edges = {(min(pair), max(pair)) for pair in ends if len({*pair}) == 2}

@@ -3,13 +3,13 @@ from collections.abc import Iterator
 from dataclasses import replace
 
 from forestplan.network import Network
-from forestplan.networks.numbering import in_order
+from forestplan.networks.numbering import network_in_order
 
 
 def without_vertex(network: Network, gone: int) -> tuple[Network, list[int]]:
     """The network without a node, and the vertices that its own were."""
     left = [v for v in network.vertices if v != gone]
-    return replace(in_order(network, left, network.identifiers), names={}, places={}), left
+    return replace(network_in_order(network, left, network.identifiers), names={}, places={}), left
 
 
 def smaller(network: Network) -> Iterator[tuple[Network, list[int]]]:

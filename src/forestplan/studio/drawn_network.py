@@ -71,7 +71,7 @@ def drawn_of(code: str) -> Drawn:
     """The network of an address, or what is wrong with it."""
     places, edges, *more = [*code.split("~"), ""][: max(2, code.count("~") + 1)]
     nodes = [node_at(place) for place in list_items(places)]
-    found = Drawn(nodes, sorted(edges_of(edges, len(nodes))))
+    found = Drawn(nodes, sorted(drawn_edges(edges, len(nodes))))
     kinds: set[str] = set()
     for part in more:
         kind = part[:1]
@@ -100,7 +100,7 @@ def of_nodes(said: str, nodes: int) -> Iterator[tuple[int, str]]:
         yield int(found[1]), found[2]
 
 
-def edges_of(said: str, nodes: int) -> set[tuple[int, int]]:
+def drawn_edges(said: str, nodes: int) -> set[tuple[int, int]]:
     found: set[tuple[int, int]] = set()
     for v, other in of_nodes(said, nodes):
         w = int(other) if NUMBER.fullmatch(other) else 0

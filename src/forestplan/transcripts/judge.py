@@ -166,7 +166,7 @@ def verdict(net: Network, entries: list[Entry], head: Head) -> str:
     return f"{whole}, {payloads} payloads, {len(puts)} wires"
 
 
-def in_order(made: list[int], text: bytes) -> bytes:
+def transcript_in_order(made: list[int], text: bytes) -> bytes:
     """The transcript with the entries of these lines in this order, as bytes."""
     lines = text.split(b"\n")
     head = next(line for line in lines if fields_in_bytes(line))

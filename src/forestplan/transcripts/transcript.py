@@ -17,7 +17,7 @@ from forestplan.networks.network_text import network_of
 from forestplan.networks.sources import network_bytes
 from forestplan.parsers import add_command, add_commands, add_output, parser_of
 from forestplan.transcripts.conversions import FORMS, ROUNDS, as_rounds, entries_of
-from forestplan.transcripts.judge import in_order, not_right, whole_run
+from forestplan.transcripts.judge import transcript_in_order, not_right, whole_run
 from forestplan.transcripts.reading import WrongEntry
 from forestplan.wording import as_text
 
@@ -180,7 +180,9 @@ def replayed(given: Namespace) -> str:
     made, _ = whole_run(net, text, program)
     # The network may not end in a line feed.
     return proved_programs.output_of(
-        "forestplay", ["replay", *program_words(program)], network + b"\n" + in_order(made, text)
+        "forestplay",
+        ["replay", *program_words(program)],
+        network + b"\n" + transcript_in_order(made, text),
     )
 
 
