@@ -20,8 +20,6 @@ SEVERAL = {
     "Pulse": 2,
     "Sites": 2,
     "circle": 2,
-    "is_below": 2,
-    "is_own": 2,
     "loaded": 2,
     "made": 2,
     "make": 2,

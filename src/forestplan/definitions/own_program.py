@@ -394,7 +394,7 @@ class OwnNode:
         pair = drawing(self.me)
         if isinstance(pair, tuple) and len(pair) == 2:
             colour, port = map(plain, pair)
-            if is_below(colour, COLOURS) and is_below(port, self.degree):
+            if is_number_below(colour, COLOURS) and is_number_below(port, self.degree):
                 return colour, port
         raise Fault(
             Code.NOTHING_TO_DRAW_RETURNED,
@@ -477,7 +477,7 @@ def is_number(number: object) -> TypeGuard[int]:
     return isinstance(number, int) and not isinstance(number, bool) and number >= 0
 
 
-def is_below(number: object, bound: int) -> TypeGuard[int | None]:
+def is_number_below(number: object, bound: int) -> TypeGuard[int | None]:
     """Whether something is a number from 0 and below the bound, or None."""
     return number is None or is_number(number) and number < bound
 

@@ -131,7 +131,9 @@ def read(data: bytes, name: str, form: str, stated: Stated) -> Listed:
 def listed_graph(graph: Graph, form: str, declared: Declared) -> Listed:
     """The nodes and edges of a graph by its nodes' label, name or id: the first that each has for itself."""
     rows = dict(graph.nodes(data=True))
-    key = next((key for key in ("label", "name") if is_own(key, list(rows.values()))), None)
+    key = next(
+        (key for key in ("label", "name") if tells_nodes_apart(key, list(rows.values()))), None
+    )
     # networkx keeps the order of the nodes.
     where: dict[object, Where] = dict(zip(rows, declared.nodes.values()))
     own: dict[object, str] = {}
@@ -161,7 +163,7 @@ def keys_of(rows: Iterable[Attributes], read: Collection[str | None]) -> list[st
     return sorted({str(key) for has in rows for key in has if key not in read})
 
 
-def is_own(key: str, rows: list[Attributes]) -> bool:
+def tells_nodes_apart(key: str, rows: list[Attributes]) -> bool:
     """Whether each node has a value of a key that no other has."""
     values = {str(has[key]) for has in rows if type(has.get(key)) in (str, int, float)}
     return len(values) == len(rows) and "" not in values

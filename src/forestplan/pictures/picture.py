@@ -54,7 +54,7 @@ from forestplan.pictures import (
 from forestplan.pictures.places import unused_places
 from forestplan.pictures.program_rounds import (
     ProgramRounds,
-    is_own,
+    is_of_file,
     least_wires,
     program_rounds,
     rounds_of,
@@ -474,7 +474,7 @@ def run_text(kind: str, network: Network, network_text: bytes, program: Program)
         raise Fault(
             Code.RUN_TOO_LONG_TO_DRAW, kind=kind, most=MOST_WIRES, name=network.name, wires=wires
         )
-    if is_own(program):
+    if is_of_file(program):
         return text_of_run(network.nodes, played(network, program=program), program)
     if program == COLOURING:
         return proved_programs.output_of("forestplan", ["transcript"], network_text)

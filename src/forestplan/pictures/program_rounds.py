@@ -82,6 +82,6 @@ def least_wires(network: Network, program: Program) -> int:
     return 2 * len(network.edges) * (program.last_pulse(network) + 1)
 
 
-def is_own(program: Program) -> bool:
+def is_of_file(program: Program) -> bool:
     """Whether no proved program runs a program: it is from a file."""
     return program.file is not None

@@ -7,7 +7,7 @@ from forestplan.fault_codes import Code
 from forestplan.faults import Fault
 from forestplan.network import Edge, Network
 from forestplan.pictures.layout import distances
-from forestplan.pictures.program_rounds import is_own, rounds_of
+from forestplan.pictures.program_rounds import is_of_file, rounds_of
 from forestplan.pictures.watch_page import look_of
 from forestplan.schedules.stepwise import Stepwise
 from forestplan.studio.answers import DareJudged, DareSaid
@@ -43,7 +43,7 @@ OTHER_RESULTS = DareJudged(True, "they halted with other results")
 
 def impossible(program: Program, without: tuple[str, ...], dare: str) -> str:
     """Why a dare can't be won, if it is proved that it can't; or nothing."""
-    if without or is_own(program) or dare not in PROVED:
+    if without or is_of_file(program) or dare not in PROVED:
         return ""
     return f"With all rules nobody wins it: it is proved that {PROVED[dare]}. Leave out a rule"
 

@@ -14,7 +14,7 @@ from forestplan.faults import Fault, InText
 from forestplan.network import Network
 from forestplan.networks.plan_text import clashes
 from forestplan.networks.verdicts import Verdict, parsed_verdict, states_of
-from forestplan.pictures.program_rounds import is_own
+from forestplan.pictures.program_rounds import is_of_file
 from forestplan.proved_programs import called
 from forestplan.sentences import WORDS
 from forestplan.studio.answers import Judged, Replayed
@@ -101,7 +101,7 @@ def transcript_judged(
     """What is said of a whole transcript. The machine counts lines from the network's first one; here they count after
     `before` others."""
     entries = max(0, text.count("\n") - 1)
-    if not session.is_proved or is_own(program):
+    if not session.is_proved or is_of_file(program):
         said, line = by_definitions(network, text, program)
         return Judged(ok=line is None, said=said, by=PYTHON, entries=entries)
     status, output, said = replayed(network_text, text, program)
@@ -122,7 +122,7 @@ def beginning_judged(
 ) -> Replayed:
     """What is said of the first entries of a run, each without its stamp."""
     text = as_text([f"transcript 1 {network.nodes}", *entries])
-    if session.is_proved and not is_own(program):
+    if session.is_proved and not is_of_file(program):
         status, output, said = replayed(network_text, text, program)
         states = states_of(output)
         return Replayed(

@@ -14,7 +14,7 @@ from forestplan.definitions.reacting_program import Reacting
 from forestplan.fault_codes import Code
 from forestplan.faults import Fault
 from forestplan.network import Edge, Network
-from forestplan.pictures.program_rounds import is_own, least_wires, rounds_of
+from forestplan.pictures.program_rounds import is_of_file, least_wires, rounds_of
 from forestplan.pictures.watch_page import (
     MOST_ENTRIES,
     ShownRun,
@@ -144,7 +144,7 @@ def run(call: RunCall, session: Session, tell: Tell) -> WholeRun:
     found = None
     if call.transcript:
         text = call.transcript
-    elif call.how == "threads" and not is_own(program):
+    elif call.how == "threads" and not is_of_file(program):
         text = by_threads(call, program, session)
     else:
         text, found = played(call, network, program, session, tell)

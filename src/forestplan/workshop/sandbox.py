@@ -182,7 +182,7 @@ def words_of_files(shown: list[str], empty: set[str]) -> list[str]:
     """What is seen, and what of that is empty; what is further in comes later, and is on top. A folder is shut once all
     below it is made."""
     arguments = []
-    covers = {path for path in empty if visible_files.is_below(path, shown)}
+    covers = {path for path in empty if visible_files.is_path_below(path, shown)}
     for path in sorted({*shown, *covers}):
         if path in covers:
             arguments += ["--tmpfs", path]

@@ -113,7 +113,7 @@ def meets(path: str, other: str) -> bool:
     return os.path.commonpath([real, os.path.realpath(other)]) in (real, os.path.realpath(other))
 
 
-def is_below(path: str, folders: Iterable[str]) -> bool:
+def is_path_below(path: str, folders: Iterable[str]) -> bool:
     """Whether a path is one of some folders, or in one."""
     return any(path == folder or path.startswith(f"{folder}/") for folder in folders)
 
