@@ -72,7 +72,7 @@ MOST_MARKS = 30
 def file_at(path: str, lots: str = "1") -> ProgramFile:
     """The file of a program of one's own; `lots` is the seed of `me.random`."""
     code = compiled_file(path)
-    values = loaded(path, code)
+    values = defined_in_file(path, code)
     functions = {name: value for name, value in values.items() if callable(value)}
     return ProgramFile(path, functions, code, lots, frozenset(values) - frozenset(functions))
 
@@ -132,7 +132,7 @@ def marks_in_a_row(text: str) -> int:
     return most
 
 
-def loaded(path: str, code: CodeType) -> dict[str, object]:
+def defined_in_file(path: str, code: CodeType) -> dict[str, object]:
     """What a file defines, each time with variables of its own."""
     found: dict[str, object] = {"__name__": "program", "__file__": path}
     call(path, "", exec, code, found)  # pylint: disable=exec-used
@@ -250,7 +250,7 @@ class LoadedFile:
 
     def __init__(self, file: ProgramFile) -> None:
         self.path = file.path
-        self.values = loaded(file.path, file.code)
+        self.values = defined_in_file(file.path, file.code)
         self.variables = self.kept_outside()
         self.finding = self.needed("result")
         self.drawing = self.function("drawn")

@@ -106,7 +106,7 @@ def in_xml(data: bytes, path: str) -> Declared:
     return declared.checked()
 
 
-def loaded(data: bytes, path: str) -> dict[str, object]:
+def json_object(data: bytes, path: str) -> dict[str, object]:
     """The object of a text in JSON; an empty one if it has none."""
 
     def once(pairs: list[tuple[str, object]]) -> dict[str, object]:
@@ -137,7 +137,7 @@ def in_json(data: bytes, path: str) -> Declared:
 
     Raises `Fault` of what is no such JSON, and of an end of an edge that isn't declared.
     """
-    whole = loaded(data, path)
+    whole = json_object(data, path)
     lists = {key: value for key, value in whole.items() if isinstance(value, list)}
     if sorted(lists) not in (["links", "nodes"], ["edges", "nodes"]):
         raise Fault(Code.NO_JSON_OF_NODES, InText(path))

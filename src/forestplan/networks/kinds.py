@@ -20,7 +20,7 @@ SIDE = 1000
 WAYS_OF_A_QUEEN = ((1, 0), (0, 1), (1, 1), (-1, 1))
 
 
-def made(nodes: int, edges: Iterable[Edge], places: Places | None = None) -> Network:
+def network_of_edges(nodes: int, edges: Iterable[Edge], places: Places | None = None) -> Network:
     """The network of these edges, of which no more are looked at than one too many."""
     return checked_network(
         Network(nodes, list(islice(edges, MAX_EDGES + 1)), places=places or {}), "that network"
@@ -34,25 +34,27 @@ def circle(vertices: Sequence[int]) -> Places:
 
 
 def path(nodes: int) -> Network:
-    return made(
+    return network_of_edges(
         nodes, ((v, v + 1) for v in range(1, nodes)), {v: (v - 1, 0) for v in range(1, nodes + 1)}
     )
 
 
 def ring(nodes: int) -> Network:
-    return made(
+    return network_of_edges(
         nodes, ((v, v % nodes + 1) for v in range(1, nodes + 1)), circle(range(1, nodes + 1))
     )
 
 
 def star(nodes: int) -> Network:
-    return made(
+    return network_of_edges(
         nodes, ((v, nodes) for v in range(1, nodes)), circle(range(1, nodes)) | {nodes: (0, 0)}
     )
 
 
 def complete(nodes: int) -> Network:
-    return made(nodes, combinations(range(1, nodes + 1), 2), circle(range(1, nodes + 1)))
+    return network_of_edges(
+        nodes, combinations(range(1, nodes + 1), 2), circle(range(1, nodes + 1))
+    )
 
 
 def board(rows: int, columns: int, ways: Sequence[Edge], far: int) -> Network:
@@ -65,7 +67,7 @@ def board(rows: int, columns: int, ways: Sequence[Edge], far: int) -> Network:
         for across, down in moves
         if (x + across, y + down) in number
     )
-    return made(rows * columns, edges, {v: square for square, v in number.items()})
+    return network_of_edges(rows * columns, edges, {v: square for square, v in number.items()})
 
 
 def grid(rows: int, columns: int) -> Network:
@@ -78,7 +80,9 @@ def queen(rows: int, columns: int) -> Network:
 
 def tree(nodes: int, seed: str | int) -> Network:
     source = random.Random(seed)
-    return made(nodes, ((1 + random_below(source, v - 1), v) for v in range(2, nodes + 1)))
+    return network_of_edges(
+        nodes, ((1 + random_below(source, v - 1), v) for v in range(2, nodes + 1))
+    )
 
 
 def disk(nodes: int, radius: float, seed: str | int) -> Network:
@@ -94,7 +98,7 @@ def disk(nodes: int, radius: float, seed: str | int) -> Network:
             free.add(place)
             places[len(places) + 1] = place
     pairs = near([(x, y, 0) for x, y in places.values()], radius * SIDE, is_globe=False)
-    return made(nodes, ((v + 1, w + 1) for v, w in pairs), places)
+    return network_of_edges(nodes, ((v + 1, w + 1) for v, w in pairs), places)
 
 
 def any_edges(
@@ -114,7 +118,7 @@ def any_edges(
         found = alike_edges(source, nodes, edges, connected, neighbours, forests)
         if found is None:
             raise Fault(Code.NO_NETWORK_WITH_WISHES)
-        return made(nodes, found)
+        return network_of_edges(nodes, found)
     chosen: set[Edge] = set()
     while len(chosen) < min(edges, pairs - edges):
         v, w = 1 + random_below(source, nodes), 1 + random_below(source, nodes)
@@ -122,7 +126,7 @@ def any_edges(
             chosen.add((min(v, w), max(v, w)))
     if edges > pairs - edges:
         chosen = set(combinations(range(1, nodes + 1), 2)) - chosen
-    return made(nodes, chosen)
+    return network_of_edges(nodes, chosen)
 
 
 class NetworkKind(NamedTuple):

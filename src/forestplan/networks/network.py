@@ -40,7 +40,7 @@ def say(what: str) -> None:
     print(f"network: {what}", file=sys.stderr)
 
 
-def made(given: Namespace) -> str:
+def made_text(given: Namespace) -> str:
     """A network of a kind, with the words that make it again."""
     kind = KINDS[given.command]
     chosen = {name: getattr(given, name) for name in kind.chosen}
@@ -165,7 +165,7 @@ def main(arguments: list[str]) -> int:
         given.stated = stated_by(given)
     doers = {"read": was_read, "tell": was_told, "number": was_numbered, "names": was_named}
     try:
-        text = doers[given.command](given) if given.command in doers else made(given)
+        text = doers[given.command](given) if given.command in doers else made_text(given)
     except Unsaid as why:
         raise commands_for(why, ["network", arguments[0]], arguments[1:]) from None
     write(given, text)

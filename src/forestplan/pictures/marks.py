@@ -30,7 +30,7 @@ from forestplan.pictures.places import (
     bends,
     label_spots,
     middle,
-    moved,
+    moved_places,
     spaced,
 )
 from forestplan.pictures.svg import Svg
@@ -164,7 +164,7 @@ class Map:
         top: float = 0,
     ) -> None:
         places, self.radius = spaced(places, width, height, margin, radius, least, apart)
-        self.network, self.places = network, moved(places, left, top)
+        self.network, self.places = network, moved_places(places, left, top)
         self.labels: Places = {}
         self.bend: Bends = {}
         if network.nodes <= LARGE:
@@ -179,7 +179,9 @@ class Map:
     def at(self: Drawing, left: float, top: float) -> Drawing:
         """The same map elsewhere."""
         other = copy(self)
-        other.places, other.labels = moved(self.places, left, top), moved(self.labels, left, top)
+        other.places, other.labels = moved_places(self.places, left, top), moved_places(
+            self.labels, left, top
+        )
         return other
 
     def edge(

@@ -86,7 +86,7 @@ def spaced(
     return places, max(0.1, min(gaps, default=apart * radius) / apart)
 
 
-def moved(places: Places, left: float, top: float) -> Places:
+def moved_places(places: Places, left: float, top: float) -> Places:
     return {v: (x + left, y + top) for v, (x, y) in places.items()}
 
 

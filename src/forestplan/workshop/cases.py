@@ -99,7 +99,7 @@ def identifiers(own: list[int], how: str, chance: Random) -> list[int]:
     count = len(own)
     match how:
         case "moved":
-            return moved(own, chance)
+            return moved_identifiers(own, chance)
         case "mixed":
             return chance.sample(range(1, count + 1), count)
         case "sparse":
@@ -109,7 +109,7 @@ def identifiers(own: list[int], how: str, chance: Random) -> list[int]:
     return own
 
 
-def moved(own: list[int], chance: Random) -> list[int]:
+def moved_identifiers(own: list[int], chance: Random) -> list[int]:
     """Other identifiers whose low digits are as before, so that they take the same bit steps and drops."""
     more = chance.getrandbits(100) << 20
     return [name + more for name in own] if max(own, default=0) >> 120 == 0 else own
