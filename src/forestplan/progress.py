@@ -10,7 +10,7 @@ from itertools import chain, count
 from forestplan.faults import Fault
 from forestplan.files import MOST_BYTES, bytes_in
 from forestplan.networks.description import RunSize, processor_seconds
-from forestplan.networks.network_text import network_of
+from forestplan.networks.network_text import network_in_bytes
 from forestplan.wording import duration
 
 # Seconds after which a line is written, and then every half hour.
@@ -36,7 +36,7 @@ def time_expected(process: int, command: str) -> str:
             data = bytes_in(file, MOST_BYTES)
         if data is None:
             return ""
-        run = RunSize(network_of(data))
+        run = RunSize(network_in_bytes(data))
         return f", of about {duration(processor_seconds(run, command))} for {run.wires:,} wires"
     except (OSError, Fault, MemoryError):
         return ""

@@ -5,7 +5,7 @@ import tempfile
 from collections import Counter
 
 from forestplan.definitions.colours import plan_text
-from forestplan.networks.network_text import network_of
+from forestplan.networks.network_text import network_in_bytes
 from tests.cases import Case, called, text, text_in
 from tests.commands import COMMANDS, EDGE, TRIANGLE
 from tests.programs.made_transcripts import Run
@@ -104,13 +104,13 @@ class RefusedMemory(Case):
     def test_growths(self):
         """With identifiers and bars; with enough bars that the nodes' sets of colours have boxes of their own; with the
         links of a triangle on a worker thread; and of refusals and help."""
-        triangle, run = text(TRIANGLE), Run(network_of(text(TRIANGLE)), 4)
+        triangle, run = text(TRIANGLE), Run(network_in_bytes(text(TRIANGLE)), 4)
         barred = [
             triangle + b"i 1 9\nb 3 1\nb 3 7\nb 1 2\ni 2 0\n",
             triangle + b"".join(b"b 1 %d\n" % channel for channel in range(1, 131)),
         ]
         for arguments, data, wanted in (
-            *((["plain"], data, (0, plan_text(network_of(data)), b"")) for data in barred),
+            *((["plain"], data, (0, plan_text(network_in_bytes(data)), b"")) for data in barred),
             (["check"], triangle, (1, b"", b"forestplan: C6 line 1\n")),
             (["forests"], b"q\n", (1, b"", b"forestplan: F8 line 1\n")),
             (["nothing"], b"", None),

@@ -5,7 +5,7 @@ import time
 from itertools import product
 
 from forestplan.definitions.colours import plan_text
-from forestplan.networks.network_text import network_of
+from forestplan.networks.network_text import network_in_bytes
 from forestplan.transcripts.judge import whole_run
 from forestplan.transcripts.reading import WrongEntry
 from tests.cases import Case, example, text
@@ -34,9 +34,9 @@ def is_right(command, answer, data=TRIANGLE):
     if (status, fault) != (0, b""):
         return False
     if command == "plan":
-        return output == plan_text(network_of(data))
+        return output == plan_text(network_in_bytes(data))
     try:
-        return whole_run(network_of(data), output)[1].startswith("whole run")
+        return whole_run(network_in_bytes(data), output)[1].startswith("whole run")
     except WrongEntry:
         return False
 
@@ -62,7 +62,7 @@ class RefusedThreads(Case):
             (example("queen5_5"), 4),
         ]
         for data, workers in rows:
-            wrong, plan = [], plan_text(network_of(data))
+            wrong, plan = [], plan_text(network_in_bytes(data))
             for thread in range(workers + 1):
                 answer, _, threads = self.run_of(
                     PLAN, ["plan", "--workers", str(workers)], data, thread=thread
@@ -164,7 +164,7 @@ class RefusedThreads(Case):
                     front, [PLAN, "plan", "--workers", str(workers)], data, STOP=stop
                 )
                 counts.append(sum(refused))
-                if answer != (0, plan_text(network_of(data)), b"") or (
+                if answer != (0, plan_text(network_in_bytes(data)), b"") or (
                     workers == 1 and counts[-1] > 0
                 ):
                     wrong.append((data, workers, stop, answer, counts[-1]))

@@ -17,7 +17,7 @@ from forestplan.definitions.colours import colours
 from forestplan.definitions.events import Event, Kind, Message
 from forestplan.definitions.nodes import DROPPED, alpha_start, last_pulse, text_of_wire
 from forestplan.definitions.rounds import ColouringRounds
-from forestplan.networks.network_text import network_of
+from forestplan.networks.network_text import network_in_bytes
 from forestplan.studio.lessons import lessons
 from tests import TOP
 from tests.cases import FilesCase, contents, found_in, text_in
@@ -95,12 +95,12 @@ def tutorial_table(title, rows):
     """What the rows of a table have to be, after the first cell of each; None for a table that isn't worked out."""
     found = re.match(r"Forest (\d+) of `(.*)`, pulse by pulse:", title)
     if found:
-        return forest_table(network_of(contents(found.group(2))), int(found.group(1)))
+        return forest_table(network_in_bytes(contents(found.group(2))), int(found.group(1)))
     found = re.match(r"Events on `(.*)`:", title)
     if found:
-        return played(network_of(contents(found.group(1))), rows)
+        return played(network_in_bytes(contents(found.group(1))), rows)
     if rows[0][0] == "network":
-        nets = [network_of(contents(row[0].strip("`"))) for row in rows[2:]]
+        nets = [network_in_bytes(contents(row[0].strip("`"))) for row in rows[2:]]
         return [rows[0][1:]] + [sizes_of(net) for net in nets]
     if rows[0][0].startswith("identifiers"):
         return [rows[0][1:]] + [list(greatest_colours(int(row[0].split()[0]))) for row in rows[2:]]

@@ -10,7 +10,7 @@ import time
 from collections.abc import Iterator
 
 from forestplan.definitions.colours import colours
-from forestplan.networks.network_text import network_of
+from forestplan.networks.network_text import network_in_bytes
 from forestplan.pictures.palette import (
     CHANNEL_HUES,
     FOREST_COLOURS,
@@ -484,7 +484,9 @@ class Drawn(Page):
         self.sees("the plan is there", "studio.drawn.fresh && studio.drawn.plan.plan.length === 4")
         plan = self.value("studio.drawn.plan.plan")
         text = self.value("document.getElementById('text').value")
-        wanted = [colour + 1 for _, colour in sorted(colours(network_of(text.encode())).items())]
+        wanted = [
+            colour + 1 for _, colour in sorted(colours(network_in_bytes(text.encode())).items())
+        ]
         self.note("it is that of the definitions", plan == wanted, plan)
         at, place = self.at(4), "studio.net.nodes[3].x"
         before = self.value(place)

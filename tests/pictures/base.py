@@ -2,7 +2,7 @@
 definitions."""
 
 from forestplan.definitions.colours import plan_text
-from forestplan.networks.network_text import network_of
+from forestplan.networks.network_text import network_in_bytes
 from forestplan.pictures import picture
 from forestplan.pictures.picture import FORM
 from forestplan.schedules.simulate import played, text_of_run
@@ -29,7 +29,7 @@ def painter(*arguments, data=b""):
 
 def transcript(network, seed):
     """The text of a run, of edition 2."""
-    net = network_of(network)
+    net = network_in_bytes(network)
     return text_of_run(net.nodes, played(net, seed=f"{SEED} {seed}")).encode()
 
 
@@ -38,7 +38,7 @@ class PictureCase(Case):
         """What `picture KIND` makes of a network, if there is one, and a text, given as bytes."""
         arguments = [] if network is None else [self.file("net.col", network)]
         if text is None and FORM.get(kind) == "plan":
-            text = plan_text(network_of(network))
+            text = plan_text(network_in_bytes(network))
         if text is not None:
             arguments += [f"--{FORM[kind]}", self.file("text", text)]
         return painter(kind, *arguments, *options)

@@ -2,7 +2,7 @@
 the rounds of ruled_rounds.py (tests/programs/test_schedules.py compares these with nodes that hear and send), and in
 the ends of other programs by hand. What the smallest networks show is in the stored pictures."""
 from forestplan.definitions.rounds import ColouringRounds
-from forestplan.networks.network_text import network_of
+from forestplan.networks.network_text import network_in_bytes
 from forestplan.schedules import rules
 from forestplan.schedules.ruled_rounds import RuledRounds
 from tests import TOP
@@ -46,7 +46,7 @@ class Broken(PictureCase):
 
     def test_broken(self):
         for name, rule in (("petersen", "pair"), ("disk100", "children"), ("queen5_5", "earlier")):
-            rounds = RuledRounds(network_of(example(name)), [rule]).work_out()
+            rounds = RuledRounds(network_in_bytes(example(name)), [rule]).work_out()
             arguments = [f"examples/{name}.col", "--without", rule]
             self.rule_rows(f"{name} without {rule}", rounds, *arguments)
 

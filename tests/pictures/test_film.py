@@ -4,7 +4,7 @@ import re
 from xml.etree import ElementTree
 
 from forestplan.definitions.colours import colours
-from forestplan.networks.network_text import network_of
+from forestplan.networks.network_text import network_in_bytes
 from tests.cases import example
 from tests.pictures.base import BARRED, PictureCase
 from tests.pictures.marks import SVG
@@ -39,7 +39,7 @@ class Film(PictureCase):
     def test_end(self):
         """At the end, and for who wants no motion, each node has the channel of its plan."""
         for name, network in (("petersen", example("petersen")), ("row", ROW), ("bars", BARRED)):
-            net, (text, root) = network_of(network), self.film(network)
+            net, (text, root) = network_in_bytes(network), self.film(network)
             last = [
                 group
                 for group in root.iter(SVG + "g")

@@ -3,7 +3,7 @@ another one. And where the vertices of a network are drawn, and their names."""
 import re
 from itertools import combinations, product
 
-from forestplan.networks.network_text import network_of
+from forestplan.networks.network_text import network_in_bytes
 from forestplan.networks.sources import network_bytes
 from forestplan.pictures.page_data import PlainNode
 from forestplan.pictures.pages import net_at, net_of, page_label
@@ -107,7 +107,7 @@ class Bends(PictureCase):
         """The data of a page: in its box of 1,000 by 700 the row is 860 wide, so the middle of the long edge is moved
         by 2 * (0.75 * 860 / 16 + 0.045 * 860) = 158.025."""
         row = b"c at 1 0 0\nc at 2 1 0\nc at 3 2 0\np edge 3 3\ne 1 2\ne 1 3\ne 2 3\n"
-        self.same("a row", net_of(network_of(row)).bends, [None, (0, -158), None])
+        self.same("a row", net_of(network_in_bytes(row)).bends, [None, (0, -158), None])
 
 
 class Labels(PictureCase):
@@ -162,7 +162,7 @@ class Labels(PictureCase):
 class Layout(PictureCase):
     def test_layout(self):
         for name, network in NETWORKS.items():
-            nodes = len(network_of(network).neighbours)
+            nodes = len(network_in_bytes(network).neighbours)
             for kind, most in (OF_ROUNDS | OF_RUNS).items():
                 if nodes <= most and not (nodes == 1 and kind == "rounds"):
                     self.layout_rows(kind, name)
@@ -222,7 +222,7 @@ class Layout(PictureCase):
         """A grid without places is drawn as one: edges about equally long, and all other pairs farther apart."""
         for name in ("grid10x10", "grid4x7"):
             network = network_bytes(name)
-            places, edges = self.places(network), network_of(network).edges
+            places, edges = self.places(network), network_in_bytes(network).edges
             far = {(v, w): gap(places[v], places[w]) for v, w in combinations(places, 2)}
             longest, shortest = (of(far[e] for e in edges) for of in (max, min))
             other = min(length for pair, length in far.items() if pair not in edges)

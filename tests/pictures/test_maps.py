@@ -5,7 +5,7 @@ import re
 from forestplan.definitions.colours import colours
 from forestplan.definitions.nodes import last_pulse
 from forestplan.definitions.rounds import FIRST_MERGE, ColouringRounds, merge_step
-from forestplan.networks.network_text import network_of
+from forestplan.networks.network_text import network_in_bytes
 from forestplan.networks.sources import network_bytes
 from tests.cases import example, examples
 from tests.pictures.base import APART, BARRED, PictureCase
@@ -95,7 +95,7 @@ def colours_after(facts, p):
 class Maps(PictureCase):
     def test_plans(self):
         for name, network in NETWORKS.items():
-            net, root = network_of(network), parsed(self.drawn("plan", network))
+            net, root = network_in_bytes(network), parsed(self.drawn("plan", network))
             plan = dict(sorted(colours(net).items()))
             places = {v: centre(mark) for v, mark in zip(plan, marks(root, "channel"))}
             row = self.rows_of(f"plan of {name}")
@@ -127,7 +127,7 @@ class Maps(PictureCase):
             self.rounds_rows("queen5_5", QUEEN, forests, *options)
 
     def rounds_rows(self, name, network, drawn, *options):
-        facts, root = ColouringRounds(network_of(network)), parsed(
+        facts, root = ColouringRounds(network_in_bytes(network)), parsed(
             self.drawn("rounds", network, *options)
         )
         net = facts.network
@@ -150,7 +150,9 @@ class Maps(PictureCase):
             self.player_rows(name, network)
 
     def player_rows(self, name, network):
-        facts, data = ColouringRounds(network_of(network)), data_of(self.drawn("player", network))
+        facts, data = ColouringRounds(network_in_bytes(network)), data_of(
+            self.drawn("player", network)
+        )
         net, film, last = facts.network, data["film"], last_pulse(facts.network)
         row = self.rows_of(f"player of {name}")
         row("its last pulse", film["last"], last)

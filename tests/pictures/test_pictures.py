@@ -4,13 +4,13 @@ import re
 from xml.etree import ElementTree
 
 from forestplan.definitions.colours import plan_text
-from forestplan.networks.network_text import network_of
+from forestplan.networks.network_text import network_in_bytes
 from forestplan.schedules.simulate import played, text_of_run
 from tests.cases import example, examples
 from tests.pictures.base import APART, PictureCase, painter, transcript
 from tests.programs.made_transcripts import transcript_text
 
-PLAN_OF_PETERSEN = plan_text(network_of(example("petersen")))
+PLAN_OF_PETERSEN = plan_text(network_in_bytes(example("petersen")))
 RUN_OF_APART = transcript(APART, "refused")
 RUN_OF_TRIANGLE = transcript(example("triangle"), "refused")
 # What rows name: networks and texts by the names of their files.
@@ -120,7 +120,7 @@ class Pictures(PictureCase):
     def test_stamped(self):
         """A transcript of edition 2 is drawn as the same entries without stamps are, but for what the caption says of
         time."""
-        entries = played(network_of(APART), seed="stamped")
+        entries = played(network_in_bytes(APART), seed="stamped")
         wanted, got = (
             self.drawn("run", APART, text=text).split("\n")
             for text in (transcript_text(5, entries), text_of_run(5, entries).encode())
@@ -148,6 +148,7 @@ class Pictures(PictureCase):
         for name, network in examples().items():
             placed = {int(v) for v in re.findall(rb"c at (\d+) \S+ \S+", network)}
             self.note(
-                f"{name} has a place for each vertex", placed == {*network_of(network).vertices}
+                f"{name} has a place for each vertex",
+                placed == {*network_in_bytes(network).vertices},
             )
             self.note(f"{name} says what it shows", re.match(rb"c [A-Z][^\n]{20,}", network))

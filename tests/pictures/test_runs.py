@@ -3,7 +3,7 @@ src/forestplan/definitions/nodes.py."""
 from itertools import product
 
 from forestplan.definitions.nodes import last_pulse
-from forestplan.networks.network_text import network_of
+from forestplan.networks.network_text import network_in_bytes
 from tests.cases import example
 from tests.pictures.base import PictureCase, transcript
 from tests.pictures.marks import SVG, ends, marks, parsed, title, texts_of
@@ -43,7 +43,7 @@ class Runs(PictureCase):
     def whole_run_rows(self, name, network, text):
         """A run that is drawn whole is read back from left to right into its transcript. Its bars go from where a
         payload is taken to the tick that reads it."""
-        last = last_pulse(network_of(network))
+        last = last_pulse(network_in_bytes(network))
         options = [*pulses((0, last)), "--only", ",".join(WIRES)]
         picture = parsed(self.drawn("run", network, *options, text=text))
         (root,) = marks(picture, "upper")

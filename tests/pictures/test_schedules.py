@@ -6,7 +6,7 @@ from itertools import pairwise
 
 from forestplan.definitions.leader import LEADER
 from forestplan.definitions.nodes import COLOURING
-from forestplan.networks.network_text import network_of
+from forestplan.networks.network_text import network_in_bytes
 from forestplan.schedules.alpha_space import AlphaSpace
 from tests.cases import example
 from tests.pictures.base import PictureCase
@@ -19,7 +19,7 @@ NETWORKS = {name: example(name) for name in ("two", "path", "triangle")}
 
 @functools.cache
 def space_of(name, without=(), program=COLOURING):
-    return AlphaSpace(network_of(NETWORKS[name]), without, program=program).search()
+    return AlphaSpace(network_in_bytes(NETWORKS[name]), without, program=program).search()
 
 
 def columns_of(root, mark):

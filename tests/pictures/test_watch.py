@@ -4,7 +4,7 @@ from unittest import mock
 
 from forestplan.definitions.nodes import last_pulse
 from forestplan.definitions.rounds import ColouringRounds
-from forestplan.networks.network_text import network_of
+from forestplan.networks.network_text import network_in_bytes
 from forestplan.pictures import watch_page
 from forestplan.pictures.watch_page import ShownRun, Steps, steps_of_text
 from forestplan.schedules.policies import Policy
@@ -58,7 +58,7 @@ class Watch(PictureCase):
     def test_channels(self):
         """A node has no channel before its turn in the first merge, and from then on that of the rounds."""
         for name in ("petersen", "triangle"):
-            rounds = ColouringRounds(network_of(example(name)))
+            rounds = ColouringRounds(network_in_bytes(example(name)))
             wanted = {}
             for v in rounds.network.vertices:
                 channel = 0
@@ -73,7 +73,7 @@ class Watch(PictureCase):
 
     def test_run_of_a_player(self):
         """The steps of a player show what its transcript shows."""
-        network = network_of(example("triangle"))
+        network = network_in_bytes(example("triangle"))
         player = AlphaPlayer(network)
         steps = Steps(player.state)
         for entry in player.entries(Policy("random", network.vertices, network.edges, "watch")):
@@ -84,7 +84,7 @@ class Watch(PictureCase):
 
     def test_same_rounds(self):
         """Two runs beside each other: a pulse of both is where a node makes it last."""
-        net = network_of(example("petersen"))
+        net = network_in_bytes(example("petersen"))
         runs = [transcript(example("petersen"), f"two {k}") for k in "ab"]
         table, last = data_of(self.page("petersen", *runs)), last_pulse(net)
         self.assertEqual(table["same"], [True] * (last + 1))

@@ -7,7 +7,7 @@ import random
 from forestplan.definitions.colours import three
 from forestplan.definitions.rounds import ColouringRounds
 from forestplan.network import Network
-from forestplan.networks.network_text import network_of
+from forestplan.networks.network_text import network_in_bytes
 from forestplan.pictures.why_picture import Cone
 from tests.cases import example
 from tests.pictures.base import PictureCase
@@ -61,7 +61,7 @@ class Why(PictureCase):
 
     def test_drops(self):
         """Who drops a colour needs its own before the shift, and its parent's; nobody else does in these pulses."""
-        rounds = ColouringRounds(network_of(example("drops")))
+        rounds = ColouringRounds(network_in_bytes(example("drops")))
         for (v, f), parent in rounds.parents.items():
             for p, dropped in ((8, 5), (10, 4), (12, 3)):
                 has_dropped = rounds.pulses[p - 1].colours[v, f] == dropped
@@ -98,7 +98,7 @@ class Why(PictureCase):
         network, root = example("petersen"), parsed(
             self.drawn("why", example("petersen"), "--vertex", 6)
         )
-        cone = Cone(ColouringRounds(network_of(network)), 6)
+        cone = Cone(ColouringRounds(network_in_bytes(network)), 6)
         kept = sum(fact[0] != "identifier" for fact in cone.facts)
         drawn = 10 * len(cone.forests()) * (11 + 1)
         self.same("how many are faded", len(marks(root, "faded")), drawn - kept)

@@ -7,7 +7,7 @@ import os
 
 from forestplan.definitions.colours import forests_text, plan_text
 from forestplan.definitions.rounds import rounds_text
-from forestplan.networks.network_text import network_of
+from forestplan.networks.network_text import network_in_bytes
 from tests import TOP
 from tests.cases import Case, called, contents, examples, text
 from tests.commands import COMMANDS, EDGE, HELPS, PROGRAMS, TRIANGLE, commands_of
@@ -117,7 +117,7 @@ class BlackBox(Case):
         networks = [(name, text(network), *wanted) for name, network, *wanted in NETWORKS]
         networks += [(f"example {name}", it, None, None) for name, it in examples().items()]
         for name, network, channels, forests in networks:
-            net = network_of(network)
+            net = network_in_bytes(network)
             plan, split = plan_text(net), forests_text(net)
             if channels is not None:
                 wanted = "plan|" + "".join(

@@ -12,7 +12,7 @@ from itertools import islice, product
 
 from forestplan.definitions.colours import plan_text
 from forestplan.definitions.programs import PROGRAMS
-from forestplan.networks.network_text import network_of
+from forestplan.networks.network_text import network_in_bytes
 from forestplan.schedules.simulate import played, text_of_run
 from forestplan.transcripts import fields
 from forestplan.transcripts.judge import whole_run
@@ -164,7 +164,7 @@ class Hostile(Case):
     def test_networks_and_plans(self):
         size, seed = int(setting("texts")) // 2, setting("seed")
         networks = [*networks_by_chance(300, 5, seed)]
-        plans = [network + plan_text(network_of(network)) for network in networks]
+        plans = [network + plan_text(network_in_bytes(network)) for network in networks]
         for command, good in (("forests", networks), ("check", plans)):
             texts = [*islice(spoiled_texts(random.Random(f"{seed} {command}"), good), size)]
             rows = [(data, answer_to(command, data)) for data in texts]
@@ -178,7 +178,7 @@ class Hostile(Case):
         """Of a run of each program, with stamps, spoiled after the first line; each payload as the first one; and other
         first lines."""
         size, seed, found = int(setting("texts")) // 30, setting("seed"), set()
-        net, before = network_of(NETWORK), NETWORK.count(b"\n")
+        net, before = network_in_bytes(NETWORK), NETWORK.count(b"\n")
         for name, program in PROGRAMS.items():
             run = text_of_run(net.nodes, played(net, seed=seed, program=program), program)
             head, rows = run.encode().split(b"\n", 1)

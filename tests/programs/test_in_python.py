@@ -20,7 +20,7 @@ import forestplan
 from forestplan.definitions.colours import colours
 from forestplan.interface import calls, sites as site_graphs
 from forestplan.network import Network
-from forestplan.networks.network_text import network_of
+from forestplan.networks.network_text import network_in_bytes
 from forestplan.pictures.palette import CHANNEL_HUES
 from tests import TOP
 from tests.cases import Case, called, forestlab, working_in
@@ -140,7 +140,7 @@ def asked_of(net, names, seed, source):
 
 def wrong_of(seed, text):
     """What is wrong about the plan of a network, whose identifiers don't count, and about the verdicts on it."""
-    net, source = network_of(text), random.Random(seed)
+    net, source = network_in_bytes(text), random.Random(seed)
     names = {v: NAMES[seed % len(NAMES)](v) for v in net.vertices}
     graph, bars, licence = asked_of(net, names, seed, source)
     workers, passes = source.choice((None, None, 1, 3)), source.choice((0, 1, 2, 3, 8, 9, 64))
@@ -230,7 +230,7 @@ class InPython(Case):
         got = forestplan.plan(graph)
         self.same("its plan", list(got.items()), [(v, wanted[number[v]] + 1) for v in nodes])
         text, order = forestplan.text_of(graph)
-        self.note("its numbers", is_near(network_of(text.encode())) and order != nodes)
+        self.note("its numbers", is_near(network_in_bytes(text.encode())) and order != nodes)
 
     @needs("bin/forestplan", "bin/forestplay")
     def test_passes(self):
@@ -269,9 +269,9 @@ class InPython(Case):
             rows = [(name, *(place or ("", ""))) for name, place in SITES.items()]
             table = f"site,{columns}\n" + "".join("{},{},{}\n".format(*row) for row in rows)
             arguments = ("network", "read", "--sites", "-", "--reach", 1.5)
-            wanted = network_of(forestlab(*arguments, data=table.encode())[1])
+            wanted = network_in_bytes(forestlab(*arguments, data=table.encode())[1])
             got = forestplan.sites(SITES, 1.5, unit)
-            network = network_of(forestplan.text_of(got)[0].encode())
+            network = network_in_bytes(forestplan.text_of(got)[0].encode())
             for fact in ("names", "edges", "places"):
                 self.same(f"{unit}: {fact}", getattr(network, fact), getattr(wanted, fact))
 

@@ -12,7 +12,7 @@ import re
 from forestplan.definitions.nodes import last_pulse
 from forestplan.networks import network
 from forestplan.networks.description import most_payloads
-from forestplan.networks.network_text import network_of
+from forestplan.networks.network_text import network_in_bytes
 from forestplan.wording import duration
 from tests.cases import Case, called, example, forestlab, in_process
 from tests.programs import test_plain_networks
@@ -27,7 +27,7 @@ def call(*arguments, **more):
 
 
 def edges_of(text):
-    return set(network_of(text).edges)
+    return set(network_in_bytes(text).edges)
 
 
 # (words, nodes, edges, least and greatest number of neighbours)
@@ -75,7 +75,7 @@ REFUSED = [
 
 def by_names(text):
     """Of each node by its name what the lines of a network say."""
-    net = network_of(text)
+    net = network_in_bytes(text)
     names = {v: net.names.get(v, str(v)) for v in net.vertices}
     return {
         names[v]: (
@@ -90,7 +90,7 @@ def by_names(text):
 
 def known(text, plan):
     """Of each node by its name its channel and identifier, and the rest of what the lines say."""
-    net, lines, found = network_of(text), by_names(text), {}
+    net, lines, found = network_in_bytes(text), by_names(text), {}
     for v, channel in zip(net.vertices, plan.split()[2::2], strict=True):
         name = net.names.get(v, str(v))
         place, _, *others = lines[name]
@@ -190,7 +190,7 @@ class OwnNetworks(Case):
     def test_kinds(self):
         for arguments, nodes, edges, least, most in KINDS:
             text = self.written(*arguments.split())
-            net = network_of(text)
+            net = network_in_bytes(text)
             degrees = [len(ws) for ws in net.neighbours.values()]
             self.same(f"{arguments}: nodes and edges", (net.nodes, len(net.edges)), (nodes, edges))
             good = least in (None, min(degrees)) and most in (None, max(degrees))
@@ -210,7 +210,7 @@ class OwnNetworks(Case):
     def test_disk(self):
         """The places are what the seed's numbers say, and two are joined just if they are less than the reach apart."""
         for reach in (0.05, 0.26, 1.5):
-            net = network_of(self.written("disk", 60, "--radius", reach, "--seed", 5))
+            net = network_in_bytes(self.written("disk", 60, "--radius", reach, "--seed", 5))
             source = random.Random(5)
             places: dict[tuple[int, int], None] = {}
             while len(places) < 60:
@@ -234,7 +234,7 @@ class OwnNetworks(Case):
         ):
             found = []
             for seed in range(1, 5):
-                net = network_of(self.written("random", *arguments.split(), "--seed", seed))
+                net = network_in_bytes(self.written("random", *arguments.split(), "--seed", seed))
                 nodes, edges = map(int, arguments.split()[:2])
                 there = len(reached(net, 1)) == nodes, net.greatest_degree, net.forest_count
                 good = all(wish in (None, is_so) for wish, is_so in zip(wanted, there))
@@ -304,13 +304,13 @@ class OwnNetworks(Case):
             plans = [called(PLAN, command, data=text)[1].decode() for text in texts]
             near, kept = map(known, texts, plans)
             self.note(f"{arguments} by {seed}: the same nodes and channels", near == kept)
-            are_near = [is_near(network_of(text)) for text in texts]
+            are_near = [is_near(network_in_bytes(text)) for text in texts]
             self.same(
                 f"{arguments} by {seed}: whether neighbours are near", are_near, [True, False]
             )
         small = large_network(random.Random(6), 999)
-        written = network_of(self.written("read", "-", data=small))
-        self.same("999 nodes", written.given_identifiers, network_of(small).given_identifiers)
+        written = network_in_bytes(self.written("read", "-", data=small))
+        self.same("999 nodes", written.given_identifiers, network_in_bytes(small).given_identifiers)
 
     def told_of(self, data, *arguments):
         """{name: what} of the lines of `network tell`."""
@@ -332,7 +332,7 @@ class OwnNetworks(Case):
         networks |= {command: self.written(*command.split()) for command in ("grid 3 4", "path 1")}
         networks |= {"long names": LONG_NAMES, "bars": BARRED}
         for name, data in networks.items():
-            net = network_of(data)
+            net = network_in_bytes(data)
             told, warned = self.told_of(data)
             last, edges, payloads = last_pulse(net), len(net.edges), payloads_of(net)
             wires = 2 * payloads + 2 * edges * (last + 1)
@@ -379,6 +379,6 @@ class OwnNetworks(Case):
         self.note("the time of a large network", told["time"].startswith(said), told)
         times = [duration(59.9), duration(60), duration(185)]
         self.same("times in words", times, ["59 s", "1 min 0 s", "3 min 5 s"])
-        most = most_payloads(network_of(data))
+        most = most_payloads(network_in_bytes(data))
         said = f"at most {most:,}; `forestplay rounds < FILE | grep -c ' put '` counts them"
         self.same("a bound of the payloads", told["payloads"], said)

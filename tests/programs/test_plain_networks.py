@@ -7,7 +7,7 @@ from forestplan.definitions.colours import first_colours, merge, plan_text, thre
 from forestplan.definitions.rounds import LAST_COLOUR, ColouringRounds
 from forestplan.networks import kinds
 from forestplan.networks.kinds import KINDS
-from forestplan.networks.network_text import network_of
+from forestplan.networks.network_text import network_in_bytes
 from forestplan.networks.texts import plain_text
 from tests.cases import Case, called
 from tests.settings import PLAN
@@ -126,7 +126,7 @@ class Definitions(Case):
         """The lists of src/forestplan/definitions/colours.py are what the nodes of the rounds come to, forest by
         forest."""
         for number, text in enumerate(networks_by_chance(60, 24), 1):
-            net = network_of(text)
+            net = network_in_bytes(text)
             rounds, merged = ColouringRounds(net), [first_colours(net)]
             for f in range(net.forest_count):
                 merged.append(merge(net, f, merged[f]))
@@ -142,7 +142,7 @@ class Definitions(Case):
         """On networks with identifiers and bars of their own, `plan` by each pair of workers and capacity."""
         pairs = itertools.product((1, 2, 4, 64), repeat=2)
         for network, (workers, capacity) in zip(networks_by_chance(16, 24, 2026), pairs):
-            wanted = 0, plan_text(network_of(network)), b""
+            wanted = 0, plan_text(network_in_bytes(network)), b""
             for arguments in (("plain",), ("plan", "--workers", workers, "--capacity", capacity)):
                 self.same(
                     f"{arguments} of {network}", called(PLAN, *arguments, data=network), wanted

@@ -4,7 +4,7 @@ import functools
 import itertools
 
 from forestplan.definitions.colours import plan_text, joined_lines
-from forestplan.networks.network_text import network_of
+from forestplan.networks.network_text import network_in_bytes
 from tests.cases import Case, called, text
 from tests.commands import TRIANGLE as THREE
 from tests.programs.made_transcripts import Run
@@ -52,16 +52,16 @@ class Plans(Case):
     def test_turns(self):
         networks = TRIANGLE, b"p edge 2 0\n", b"p edge 2 1\ne 1 2\n", *networks_by_chance(12, 6)
         for data, capacity in itertools.product(networks, (1, 2, 64)):
-            whole = Run(network_of(data), capacity)
+            whole = Run(network_in_bytes(data), capacity)
             for arguments, answer in (
-                (["plan"], plan_text(network_of(data))),
+                (["plan"], plan_text(network_in_bytes(data))),
                 (("transcript", "--edition", 1), whole.text()),
                 (("transcript",), whole.merged()),
             ):
                 call = functools.partial(called, PLAN, *arguments, data=data)
                 name = f"{arguments} for {data[:60]!r} with capacity {capacity}"
                 self.limit_rows(name, whole, answer, STOPPED, call, "--capacity", capacity)
-        needed = Run(network_of(TRIANGLE), 2).looks
+        needed = Run(network_in_bytes(TRIANGLE), 2).looks
         arguments = ["--capacity=0002", "--workers=+1", f"--turns=+0{needed}"]
         done = called(PLAN, "plan", *arguments, data=TRIANGLE)
         self.same("numbers with a sign or zeros before them", done, (0, TRIANGLE_PLAN, b""))
@@ -71,7 +71,7 @@ class Plans(Case):
         for asked, capacity in itertools.product(
             ("leader", "layers --root 2", "matching"), (1, 64)
         ):
-            program, net = program_of(asked), network_of(TRIANGLE)
+            program, net = program_of(asked), network_in_bytes(TRIANGLE)
             whole = Run(net, capacity, program)
             states = joined_lines(
                 f"node {v} pulse {program.last_pulse(net)} {ended(net, v, node.simulated.result())}"

@@ -18,7 +18,7 @@ from forestplan.definitions.machine import NetState
 from forestplan.definitions.programs import any_program_at
 from forestplan.definitions.reacting_program import Reacting, ReactingNode, results_in
 from forestplan.faults import Fault
-from forestplan.networks.network_text import network_of
+from forestplan.networks.network_text import network_in_bytes
 from forestplan.networks.sources import network_at
 from forestplan.schedules import reacting_space, simulate
 from forestplan.schedules.alpha_space import AlphaSpace
@@ -945,7 +945,7 @@ class Bridge(Case):
         """Four runs are accepted, and one with a changed number is refused with its line."""
         of = program(sample("alpha"))
         for name in ("triangle", "petersen", "path", "star"):
-            net = network_of(example(name))
+            net = network_in_bytes(example(name))
             text = self.rounds(text_of_run(net.nodes, played(net, "bursts", program=of), of))[1]
             arguments, data = ["replay", "--program", "leader"], example(name) + b"\n"
             status, out, fault = called(PLAY, *arguments, data=data + text.encode())

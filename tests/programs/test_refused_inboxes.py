@@ -4,12 +4,12 @@ import copy
 
 from forestplan.definitions.nodes import COLOURING, Colouring
 from forestplan.definitions.program import Payload, Slot, synchronous_pulses
-from forestplan.networks.network_text import network_of
+from forestplan.networks.network_text import network_in_bytes
 from forestplan.schedules.ruled_node import inbox_refused
 from tests.cases import Case, text
 
 # Node 2 has node 1 as a child, node 3 as its parent, and nothing else: U is 1, and Δ + B is 2.
-ROW = network_of(text("p edge 3 2|e 1 2|e 2 3|"))
+ROW = network_in_bytes(text("p edge 3 2|e 1 2|e 2 3|"))
 CHILD, PARENT = 0, 1
 LAST = 12 + 3 * 1 * 3
 # A number for each word that nobody refuses for itself.

@@ -11,7 +11,7 @@ from forestplan.definitions.colours import colours
 from forestplan.definitions.events import Event, Kind
 from forestplan.definitions.nodes import alpha_start, last_pulse
 from forestplan.network import Network
-from forestplan.networks.network_text import network_of
+from forestplan.networks.network_text import network_in_bytes
 from forestplan.schedules import ruled_rounds, rules
 from forestplan.schedules.alpha_space import AlphaSpace
 from forestplan.schedules.explore import rounded
@@ -51,7 +51,7 @@ def text_of(name):
 
 
 def net_of(name):
-    return network_of(text_of(name).encode())
+    return network_in_bytes(text_of(name).encode())
 
 
 # Networks, and rules left out.
@@ -286,7 +286,7 @@ class Schedules(Case):
             self.note(f"a whole list of {name}", done[0] == 0 and good, (done, said))
 
     def test_rounds(self):
-        for net in map(network_of, networks_by_chance(20, 9)):
+        for net in map(network_in_bytes, networks_by_chance(20, 9)):
             rounds = ruled_rounds.RuledRounds(net, ()).work_out()
             self.same(
                 f"the plan of {net.edges} with all rules",

@@ -10,7 +10,7 @@ import re
 
 from forestplan.definitions.colours import colours, joined_lines
 from forestplan.definitions.program import synchronous_run
-from forestplan.networks.network_text import network_of
+from forestplan.networks.network_text import network_in_bytes
 from forestplan.pictures.program_rounds import rounds_of
 from tests.cases import Case
 from tests.programs.test_node_programs import play, program_of
@@ -53,7 +53,7 @@ class SequelRuns(Case):
     def test_networks_by_chance(self):
         threads = itertools.cycle(THREADS)
         for k, data in enumerate(networks_by_chance(int(setting("sequels")), NODES, SEED)):
-            net = network_of(data)
+            net = network_in_bytes(data)
             plan = {v: colour + 1 for v, colour in colours(net).items()}
             for asked in PLAYED:
                 program, name = program_of(asked), f"{asked} on network {k}"

@@ -7,7 +7,7 @@ here."""
 import re
 
 from forestplan.definitions.colours import bit, drop, first_colours, merge, shift
-from forestplan.networks.network_text import network_of
+from forestplan.networks.network_text import network_in_bytes
 from tests.cases import Case, found_in, said_by
 from tests.programs.test_plain_networks import payloads_of, reached
 
@@ -72,7 +72,7 @@ def shifted_and_dropped(x: int, parents: dict, before: dict) -> tuple[dict, dict
 
 class Sheets(Case):
     def check(self, name, section):
-        net = network_of(found_in(r"<pre>(.*?)</pre>", section, re.S)[1].encode())
+        net = network_in_bytes(found_in(r"<pre>(.*?)</pre>", section, re.S)[1].encode())
         sizes = (len(reached(net, 1)), len(net.edges), net.greatest_degree, net.forest_count)
         self.same(f"{name}: its network", sizes, (8, 9, 3, 2))
         tables = rows_of(section)

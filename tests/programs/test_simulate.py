@@ -9,7 +9,7 @@ from forestplan.definitions.colours import colours
 from forestplan.definitions.events import Event, Kind
 from forestplan.definitions.machine import make
 from forestplan.definitions.nodes import alpha_start
-from forestplan.networks.network_text import network_of
+from forestplan.networks.network_text import network_in_bytes
 from forestplan.schedules.policies import POLICIES
 from forestplan.schedules.simulate import AlphaPlayer, played
 from forestplan.transcripts.judge import whole_run
@@ -28,7 +28,7 @@ class Waits(Case):
     def test_since_when(self):
         """By hand: node 2 puts its greeting third and its acknowledgement fourth, so node 1 can take since 3, and what
         was put on that link last is of 4."""
-        player = AlphaPlayer(network_of(example("two")))
+        player = AlphaPlayer(network_in_bytes(example("two")))
         for kind, node in ((Kind.PUT, 1), (Kind.TAKE, 2), (Kind.PUT, 2), (Kind.PUT, 2)):
             player.make(Event(kind, node, 0))
         self.assertEqual(
@@ -40,7 +40,7 @@ class Waits(Case):
         pulse 0, so 1 and 4 wait for their safe; 5 makes one pulse by 4's safe, and 6 another by 5's. While node 5 does
         nothing, 4 and 6 wait for its acknowledgement, and 3 for 4's safe; 2 makes one pulse, and 1 two.
         """
-        net = network_of(example("chain6"))
+        net = network_in_bytes(example("chain6"))
         for name, entries, waits, pulses in (
             (
                 "a slow link",
@@ -66,7 +66,7 @@ class Runs(Case):
     def test_whole_runs(self):
         """Each policy gives a whole run with right stamps, and ends with the plan."""
         for name in NETWORKS:
-            net = network_of(example(name))
+            net = network_in_bytes(example(name))
             for policy in POLICIES if name != "petersen" else ("random", "newest", "slow-node"):
                 with self.subTest(name, policy=policy):
                     status, text, fault = simulate(name, "--policy", policy, "--seed", "7")
@@ -99,7 +99,7 @@ class Lists(Case):
         begun = simulate(*arguments, data=data)[1]
         status, whole, fault = simulate(*arguments, "--to-the-end", data=data)
         self.same("how it begins", (status, whole[: len(begun)], fault), (0, begun, b""))
-        whole_run(network_of(example("two")), whole)
+        whole_run(network_in_bytes(example("two")), whole)
         alone = self.file("alone.col", "p edge 1 0\n")
         status, text, fault = simulate(alone, "--events", "-", data=12 * b"pulse 1\n")
         self.same("a whole list", (status, text.count(b"\n"), fault), (0, 13, b""))

@@ -9,7 +9,7 @@ from forestplan.faults import Fault
 from forestplan.limits import MAX_NODES
 from forestplan.networks import tables
 from forestplan.networks.forms import Stated
-from forestplan.networks.network_text import network_of
+from forestplan.networks.network_text import network_in_bytes
 from tests.cases import Case, called, example, said_by
 from tests.programs.test_own_networks import call, edges_of
 from tests.settings import PLAN
@@ -74,7 +74,7 @@ class Sites(Case):
         sites = self.file("sites.csv", SITES)
         arguments = ("--sites", sites, "--reach", 3, "--bars", bars, "--channels", "1 6 11")
         status, text, said = call("read", *arguments)
-        net = network_of(text)
+        net = network_in_bytes(text)
         self.same(
             "a network of sites",
             (status, net.names, net.edges, net.bars),

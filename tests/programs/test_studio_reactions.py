@@ -12,7 +12,7 @@ from forestplan.definitions.machine import NetState
 from forestplan.definitions.programs import any_program_at
 from forestplan.definitions.reacting_program import Reacting, ReactingNode
 from forestplan.faults import Fault
-from forestplan.networks.network_text import network_of
+from forestplan.networks.network_text import network_in_bytes
 from forestplan.pictures.page_data import as_object
 from forestplan.studio.address import Here
 from forestplan.studio.calls import CALLS
@@ -129,7 +129,7 @@ class Machine:
     def __init__(self, text: str, file: str, rules: str) -> None:
         program = any_program_at(file)
         assert isinstance(program, Reacting)
-        self.net, self.program, self.rules = network_of(text.encode()), program, rules
+        self.net, self.program, self.rules = network_in_bytes(text.encode()), program, rules
         self.text = text
 
     def state(self, steps: list[str]) -> NetState[ReactingNode]:

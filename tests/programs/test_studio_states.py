@@ -10,7 +10,7 @@ from collections.abc import Iterator
 from forestplan.definitions.events import Kind, Message
 from forestplan.definitions.programs import PROGRAMS, program_at
 from forestplan.definitions.rounds import ColouringRounds
-from forestplan.networks.network_text import network_of
+from forestplan.networks.network_text import network_in_bytes
 from forestplan.pictures.watch_page import look_of
 from forestplan.schedules.rules import OF_SCHEDULES
 from forestplan.schedules.stepwise import Stepwise
@@ -45,7 +45,7 @@ class Walk:
     """The states of a network, each as the player that has come there."""
 
     def __init__(self, text: str, program: str, rules: tuple[str, ...]) -> None:
-        self.network, self.program, self.rules = network_of(text.encode()), program, rules
+        self.network, self.program, self.rules = network_in_bytes(text.encode()), program, rules
 
     def player(self, steps: list[str]) -> Stepwise:
         found = Stepwise(self.network, program_at(self.program), self.rules)
@@ -163,7 +163,7 @@ class Calls(Case):
         """Of a node without a parent in a forest nothing is said of its parent; of the others who it is."""
         for name in ("triangle", "petersen"):
             text = examples()[name].decode()
-            rounds = ColouringRounds(network_of(text.encode()))
+            rounds = ColouringRounds(network_in_bytes(text.encode()))
             for v, forest, pulse in itertools.product(
                 rounds.network.vertices, range(rounds.forests), (3, 6)
             ):

@@ -12,7 +12,7 @@ import subprocess
 import time
 
 from forestplan.definitions.nodes import COLOURING
-from forestplan.networks.network_text import network_of
+from forestplan.networks.network_text import network_in_bytes
 from forestplan.schedules.simulate import played, text_of_run
 from forestplan.transcripts.judge import find_order, whole_run
 from forestplan.transcripts.reading import WrongEntry, read
@@ -31,7 +31,7 @@ EDGE = "p edge 2 1|e 1 2|"
 # In 18 pulses an edge has 3 payloads of node 1 and 12 of node 2; an acknowledgement of each; 18 safes and a closing
 # mark each: 68 wires, each put and taken; and 18 pulses of each node.
 EDGE_LAST = 18
-EDGE_RUN = transcript_text(2, played(network_of(text(EDGE))))
+EDGE_RUN = transcript_text(2, played(network_in_bytes(text(EDGE))))
 EDGE_WHOLE = "whole run of 2 nodes, 172 entries, 15 payloads, 68 wires"
 HELLO_1, HELLO_2 = "payload 0 hello 1", "payload 0 hello 2"
 GREETED = (
@@ -125,9 +125,9 @@ class Transcripts(Case):
     @needs("forestplan", "forestplay")
     def test_worked(self):
         for network, transcript, said in WORKED:
-            got = said_of(network_of(text(network)), text(transcript))
+            got = said_of(network_in_bytes(text(network)), text(transcript))
             self.note(f"{said} of {transcript[:60]!r}", got[0] == said, got)
-        edge = network_of(text(EDGE))
+        edge = network_in_bytes(text(EDGE))
         self.same("a run of an edge", said_of(edge, EDGE_RUN)[0], EDGE_WHOLE)
         merged = text_of_run(2, find_order(edge, read(EDGE_RUN)[1]).made).encode()
         self.same(
@@ -166,7 +166,7 @@ class Transcripts(Case):
 
     def test_cut(self):
         """Texts that end too early are refused, and the reader is asked whether the text is cut."""
-        edge, lines = network_of(text(EDGE)), EDGE_RUN.split(b"\n")[:-1]
+        edge, lines = network_in_bytes(text(EDGE)), EDGE_RUN.split(b"\n")[:-1]
         pulse = lines.index(b"2 pulse %d" % EDGE_LAST)
         said = [said_of(edge, b"\n".join(lines[:count]) + b"\n") for count in range(2, pulse + 1)]
         unasked = [sentence for _, sentence in said if not sentence.endswith("(is the text cut?)")]
@@ -240,7 +240,7 @@ class Transcripts(Case):
             arguments = ["--edition", edition, "--workers", workers]
             arguments += ["--capacity", source.choice((1, 2, 4, 64))]
             status, data, fault = called(PLAN, "transcript", *arguments, data=network)
-            said = said_of(network_of(network), data)[0]
+            said = said_of(network_in_bytes(network), data)[0]
             good = (status, fault) == (0, b"") and said.startswith("whole run of ")
             got = said_by(network, data) if good and at % 2 else None
             if not good or got:

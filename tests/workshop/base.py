@@ -9,7 +9,7 @@ import unittest
 from random import Random
 from types import SimpleNamespace
 
-from forestplan.workshop.cases import Case, network_of
+from forestplan.workshop.cases import Case, case_network
 from forestplan.workshop.options import parsed
 from forestplan.workshop.player import Player
 from tests import FORESTLAB, TOP
@@ -33,7 +33,7 @@ ROUNDS, ALPHA, GREEDY = (
 
 
 def network(name):
-    return network_of(name, Random("1"))
+    return case_network(name, Random("1"))
 
 
 def options_of(assignment, *arguments, **options):

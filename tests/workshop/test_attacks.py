@@ -5,7 +5,7 @@ import shutil
 import subprocess
 from random import Random
 
-from forestplan.workshop.cases import network_of
+from forestplan.workshop.cases import case_network
 from forestplan.workshop.submissions import part_of
 from tests.cases import text_in, working_in
 from tests.tools import need, needs
@@ -43,8 +43,8 @@ class Attacks(Submitted):
             self.file(os.path.join(self.here, name), "p edge 1 0\n")
         self.enterContext(working_in(self.here))
         for name, nodes in names.items():
-            self.same(name, network_of(name, Random(1)).nodes, nodes)
-            self.same(f"./{name}", network_of(f"./{name}", Random(1)).nodes, 1)
+            self.same(name, case_network(name, Random(1)).nodes, nodes)
+            self.same(f"./{name}", case_network(f"./{name}", Random(1)).nodes, 1)
 
     @needs("bin/forestplan", "bin/forestplay")
     def test_modules_and_programs_of_the_working_folder(self):

@@ -5,7 +5,7 @@ from random import Random
 
 from forestplan.definitions.colours import bit, three
 from forestplan.workshop import cases as runs
-from forestplan.workshop.cases import KEPT, NETWORKS, cases_of, network_of, varied
+from forestplan.workshop.cases import KEPT, NETWORKS, cases_of, case_network, varied
 from forestplan.workshop.clock_run import OpenRun
 from forestplan.workshop.findings import Finding
 from forestplan.workshop.player import Player
@@ -21,7 +21,7 @@ def names_of(net) -> list[int]:
 
 
 def varieties(name: str, program: str = "colouring") -> list:
-    return [varied(network_of(name, Random("1")), Random(seed), program) for seed in SEEDS]
+    return [varied(case_network(name, Random("1")), Random(seed), program) for seed in SEEDS]
 
 
 def way_of(own: list[int], names: list[int]) -> str:
@@ -42,7 +42,7 @@ def share(count: int) -> float:
 class Varied(Case):
     def test_identifiers(self):
         """They differ, are in their bounds, and are chosen in each of five ways in about a fifth of the runs."""
-        own = names_of(network_of("ring5", Random("1")))
+        own = names_of(case_network("ring5", Random("1")))
         ways = Counter(way_of(own, names_of(net)) for net in varieties("ring5"))
         self.assertEqual(set(ways), {"own", "moved", "mixed", "sparse", "long"})
         for way, count in ways.items():
@@ -56,7 +56,7 @@ class Varied(Case):
         """Their identifiers are their own or moved, so that each forest has the same colours after the bit steps and
         the drops."""
         for name in KEPT:
-            own = network_of(name, Random("1"))
+            own = case_network(name, Random("1"))
             wanted = [
                 (bit(own, f, own.identifiers), three(own, f)) for f in range(own.forest_count)
             ]
@@ -77,7 +77,7 @@ class Varied(Case):
 
     def test_long_identifiers_stay_below_their_bound(self):
         net = replace(
-            network_of("ring5", Random("1")),
+            case_network("ring5", Random("1")),
             given_identifiers={v: 2**BITS - v for v in range(1, 6)},
         )
         for seed in SEEDS:
@@ -110,7 +110,7 @@ class Networks(Case):
         for nodes in (1, 2, 3, 6, 9):
             counts = set()
             for seed in SEEDS:
-                net = network_of(f"random{nodes}", Random(seed))
+                net = case_network(f"random{nodes}", Random(seed))
                 counts.add(len(net.edges))
                 self.note("nodes", net.nodes == nodes, net.nodes)
                 self.note(
@@ -124,7 +124,7 @@ class Networks(Case):
         """20 pulses for each node and each pulse of the lessons' algorithm, by the greatest number of neighbours."""
         # The row of three has 12 + 3·2·3 = 30 pulses, and the star of four 12 + 3·3·4 = 48.
         for name, most in (("path3", 20 * (3 + 30)), ("star4", 20 * (4 + 48))):
-            self.same(name, OpenRun(network_of(name, Random("1"))).most_pulses, most)
+            self.same(name, OpenRun(case_network(name, Random("1"))).most_pulses, most)
 
 
 class Cases(Case):
@@ -133,7 +133,7 @@ class Cases(Case):
         cases = cases_of(options_of("alpha", "--runs", "30"))
         for case in cases:
             if case.number < len(names) and not case.network.name.startswith("random"):
-                own = network_of(case.network.name, Random("1"))
+                own = case_network(case.network.name, Random("1"))
                 self.same(f"case {case.number}", case.network.identifiers, own.identifiers)
         self.assertTrue(any(case.number >= len(names) for case in cases))
 
@@ -177,7 +177,7 @@ class Mute(Case):
             ("two", [0]),
         ):
             cases = [
-                runs.Case(number, network_of(name, Random("1")), "", "1")
+                runs.Case(number, case_network(name, Random("1")), "", "1")
                 for number, name in enumerate(names.split())
             ]
             player = Silent()

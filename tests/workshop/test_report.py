@@ -1,7 +1,7 @@
 """The tables that the workshop prints of its runs: their cells, worked out by hand, whatever is between them."""
 from random import Random
 
-from forestplan.workshop.cases import Case, network_of
+from forestplan.workshop.cases import Case, case_network
 from forestplan.workshop.findings import Finding
 from forestplan.workshop.report import league, report, policy_table
 from tests.cases import Case as Rows
@@ -11,7 +11,7 @@ def case_of(
     name: str, policy: str, is_right: bool = True, took: dict[str, int] | None = None
 ) -> Case:
     finding = None if is_right else Finding("silent", 1, 0)
-    return Case(0, network_of(name, Random("1")), policy, "1", finding=finding, league=took)
+    return Case(0, case_network(name, Random("1")), policy, "1", finding=finding, league=took)
 
 
 def cells(lines: list[str]) -> list[list[str]]:

@@ -75,9 +75,9 @@ class Sites(dict[Node, list[Node]]):
 def text_of(G: Graph, bars: Bars = None, licence: Channels = None) -> tuple[str, list[Node]]:
     """The graph as the programs read it, and its nodes in the order of their numbers. Raises TypeError and ValueError,
     as `plan` does."""
-    pairs = pairs_of(G)
+    pairs = edge_pairs(G)
     given = list(dict.fromkeys([*G, *(node for pair in pairs for node in pair)]))
-    order = near_order(given, pairs)
+    order = order_of_nodes(given, pairs)
     number = {node: v for v, node in enumerate(order, 1)}
     barred = barred_in(bars, number, Licence(licence))
     ends = [sorted((number[one], number[other])) for one, other in pairs]
@@ -99,7 +99,7 @@ def lines_of_nodes(G: object, given: list[Node], number: Numbers) -> list[str]:
     return lines + [f"i {number[v]} {k}" for k, v in enumerate(given, 1) if number[v] != k]
 
 
-def near_order(given: list[Node], pairs: list[Pair]) -> list[Node]:
+def order_of_nodes(given: list[Node], pairs: list[Pair]) -> list[Node]:
     """The nodes as they are given; those of a large graph near their neighbours. Their identifiers stay."""
     if len(given) < search_order.LARGE:
         return given
@@ -132,7 +132,7 @@ def barred_in(bars: Bars, number: Numbers, licence: Licence) -> list[tuple[int, 
     return sorted(found)
 
 
-def pairs_of(G: Graph) -> list[Pair]:
+def edge_pairs(G: Graph) -> list[Pair]:
     """The edges of a graph of networkx, or of a dict of lists."""
     if callable(getattr(G, "edges", None)):
         return [(one, other) for one, other, *_ in G.edges()]

@@ -223,7 +223,7 @@ def read_network(text: str, path: str) -> Network:
     return reading_of(text, path).network()
 
 
-def network_of(data: bytes, path: str = "the network") -> Network:
+def network_in_bytes(data: bytes, path: str = "the network") -> Network:
     """The same as `read_network`, of a text in bytes. What is no UTF-8 in it is read as a mark of its own.
 
     >>> network_of(b"p edge 2 1\\ne 1 2\\n").edges

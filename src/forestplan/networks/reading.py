@@ -6,7 +6,7 @@ from forestplan.networks import foreign, lines, tables
 from forestplan.networks.fields import field_number
 from forestplan.networks.forms import Stated, decoded_text, form_of, letters_of
 from forestplan.networks.listing import Listed
-from forestplan.networks.network_text import checked_network, network_of, read_network, stem
+from forestplan.networks.network_text import checked_network, network_in_bytes, read_network, stem
 from forestplan.networks.sources import path_of
 from forestplan.wording import counted, one_line
 
@@ -129,7 +129,7 @@ def read_any(data: bytes, name: str, form: str, stated: Stated) -> tuple[Network
     Raises `Fault` of the text's first fault, and `Unsaid` of what the user has to state.
     """
     if form == "dimacs":
-        return network_of(data, name), []
+        return network_in_bytes(data, name), []
     found = listed_of(data, name, form, stated)
     stated.check_found()
     return made_of(found, name)

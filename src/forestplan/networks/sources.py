@@ -8,7 +8,7 @@ from forestplan.files import bytes_at, text_name
 from forestplan.folders import TOP
 from forestplan.network import Network
 from forestplan.networks.kinds import KINDS
-from forestplan.networks.network_text import network_of
+from forestplan.networks.network_text import network_in_bytes
 from forestplan.networks.texts import dimacs_text
 
 # Why no file of a network is longer than `MOST_BYTES`.
@@ -81,7 +81,7 @@ def network_at(name: str) -> Network:
 
     Raises `Fault` of a name that means none, and of the first fault of its text.
     """
-    network = network_of(network_bytes(name), text_name(name))
+    network = network_in_bytes(network_bytes(name), text_name(name))
     if name == "-":
         network.name = "this network"
     return network

@@ -28,7 +28,7 @@ from forestplan.fault_codes import Code
 from forestplan.faults import Fault, InText, at_most
 from forestplan.files import MOST_OF_TRANSCRIPT, text_at, text_name, write
 from forestplan.network import Network
-from forestplan.networks.network_text import network_of, stem
+from forestplan.networks.network_text import network_in_bytes, stem
 from forestplan.networks.plan_text import read_plan
 from forestplan.networks.sources import network_bytes
 from forestplan.parsers import Parser, add_command, add_commands, add_output, parser_of, some_of
@@ -521,7 +521,7 @@ def drawn(given: Namespace) -> str:
         of.program = program_asked("picture", given)
         return drawing(**vars(given), of=of)
     data = network_bytes(given.network)
-    of.network = network = network_of(data, text_name(given.network))
+    of.network = network = network_in_bytes(data, text_name(given.network))
     network.name = given.title or ("this network" if given.network == "-" else network.name)
     program = any_program_asked("picture", given, network)
     if isinstance(program, Reacting) and given.kind in ("run", "watch"):

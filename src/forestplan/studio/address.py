@@ -205,7 +205,7 @@ class Address:
         return ", ".join([*first, f"and {left:,} more"] if left else first)
 
 
-def pairs_of(place: str) -> tuple[dict[str, str], dict[str, Fault]]:
+def values_by_name(place: str) -> tuple[dict[str, str], dict[str, Fault]]:
     """The values of an address as they are written, by their names; and what is no name, or is there twice. A name
     without a value is as good as none, but for the seed: it is any text."""
     if len(place) > MOST_LETTERS:
@@ -229,10 +229,10 @@ def place_opened(pairs: dict[str, str]) -> dict[str, str]:
         return pairs
     if "lecture" in pairs:
         place = LECTURE[within(pairs["lecture"], 1, len(LECTURE)) - 1].place
-        return pairs_of(place)[0] | {"lecture": pairs["lecture"]}
+        return values_by_name(place)[0] | {"lecture": pairs["lecture"]}
     lesson = within(pairs["lesson"], 1, len(LESSONS))
     step = within(pairs.get("step", "1"), 1, len(steps_in(lesson)))
-    return pairs_of(step_place(lesson, step))[0] | {"lesson": str(lesson), "step": str(step)}
+    return values_by_name(step_place(lesson, step))[0] | {"lesson": str(lesson), "step": str(step)}
 
 
 def read_values(pairs: dict[str, str], unread: dict[str, Fault], here: Here) -> Address:

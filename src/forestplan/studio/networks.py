@@ -23,7 +23,14 @@ from forestplan.pictures.pages import net_at, net_of, plain_nodes
 from forestplan.pictures.places import places_of
 from forestplan.schedules.policies import POLICIES
 from forestplan.schedules.rules import OF_LINKS, OF_PROGRAMS, OF_SCHEDULES, Rule
-from forestplan.studio.address import Address, Here, NAMES, pairs_of, place_opened, read_values
+from forestplan.studio.address import (
+    Address,
+    Here,
+    NAMES,
+    values_by_name,
+    place_opened,
+    read_values,
+)
 from forestplan.studio.answers import (
     Choice,
     DrawingFound,
@@ -124,7 +131,7 @@ class Place:
 
 def opened_by(place: str, session: Session, before: Here = Here()) -> Place:
     """What an address opens, after the `#`; refused if its network can't be read."""
-    pairs, unread = pairs_of(place)
+    pairs, unread = values_by_name(place)
     pairs = place_opened(pairs)
     text = network = None
     if "example" in pairs and "net" in pairs:

@@ -26,7 +26,7 @@ from forestplan.pictures.program_rounds import ProgramRounds, program_rounds
 from forestplan.schedules.reacting_stepwise import refused_by_always
 from forestplan.schedules.rules import OF_LINKS, OF_PROGRAMS, OF_SCHEDULES
 from forestplan.studio import dares
-from forestplan.studio.address import pairs_of, program_named
+from forestplan.studio.address import values_by_name, program_named
 from forestplan.studio.answers import (
     BadPlan,
     Broken,
@@ -144,7 +144,7 @@ def linked_places() -> Iterator[str]:
     for name in sorted(os.listdir(folder)) if os.path.isdir(folder) else ():
         with open(os.path.join(folder, name), encoding="utf-8") as file:
             for place in LINK.findall(file.read()):
-                if not {"lesson", "lecture"} & set(pairs_of(place)[0]):
+                if not {"lesson", "lecture"} & set(values_by_name(place)[0]):
                     yield place
 
 

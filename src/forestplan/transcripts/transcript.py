@@ -13,7 +13,7 @@ from forestplan.fault_codes import Code
 from forestplan.faults import Fault
 from forestplan.files import MOST_OF_TRANSCRIPT, bytes_at, text_name, write
 from forestplan.network import Network
-from forestplan.networks.network_text import network_of
+from forestplan.networks.network_text import network_in_bytes
 from forestplan.networks.sources import network_bytes
 from forestplan.parsers import add_command, add_commands, add_output, parser_of
 from forestplan.transcripts.conversions import FORMS, ROUNDS, as_rounds, entries_of
@@ -158,7 +158,7 @@ def texts_of(given: Namespace) -> tuple[Network, bytes, bytes, AnyProgram]:
     if given.network == given.transcript == "-":
         raise Fault(Code.TWO_STANDARD_INPUTS)
     data = network_bytes(given.network)
-    net = network_of(data, text_name(given.network))
+    net = network_in_bytes(data, text_name(given.network))
     transcript = bytes_at(given.transcript, MOST_OF_TRANSCRIPT)
     return net, data, transcript, any_program_asked("transcript", given, net)
 

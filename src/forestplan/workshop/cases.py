@@ -63,7 +63,7 @@ class Case:
 known = lru_cache(network_at)
 
 
-def network_of(name: str, chance: Random) -> Network:
+def case_network(name: str, chance: Random) -> Network:
     """The network of a name: one by chance, or what all commands mean by it."""
     found = re.fullmatch(r"random([1-9][0-9]{0,2})", name)
     if not found:
@@ -126,7 +126,7 @@ def cases_of(options: Namespace) -> list[Case]:
         own_seed = f"{options.seed} {number}"
         chance = Random(own_seed)
         at = number % len(names)
-        network = network_of(names[at], chance)
+        network = case_network(names[at], chance)
         if number >= len(names):
             network = varied(network, chance, options.program)
         cases.append(
