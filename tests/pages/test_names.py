@@ -22,8 +22,6 @@ SEVERAL = {
     "circle": 2,
     "make": 2,
     "of_nodes": 2,
-    "place_of": 2,
-    "places_of": 2,
     "plan": 2,
     "plan_of": 2,
     "plan_text": 2,

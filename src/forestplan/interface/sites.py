@@ -30,7 +30,7 @@ def sites(places: Mapping[Any, Any], reach: float, unit: str = "degrees") -> Sit
     bounded(reach, "reach", 1e-6, 20000)
     found = Sites(places)
     known = {
-        site: place_of(site, place, unit) for site, place in places.items() if place is not None
+        site: site_place(site, place, unit) for site, place in places.items() if place is not None
     }
     names = list(known)
     is_globe = unit == "degrees"
@@ -47,7 +47,7 @@ def sites(places: Mapping[Any, Any], reach: float, unit: str = "degrees") -> Sit
     return found
 
 
-def place_of(site: object, place: Iterable[object], unit: str) -> tuple[float, float]:
+def site_place(site: object, place: Iterable[object], unit: str) -> tuple[float, float]:
     """A place in degrees or in kilometres."""
     factor, of_x, of_y = UNITS[unit]
     try:

@@ -148,7 +148,7 @@ def listed_graph(graph: Graph, form: str, declared: Declared) -> Listed:
             )
         nodes[own[node]] = line
     found.edges = [(nodes[own[v]], own[v], own[w]) for v, w, _ in graph.edges(data=True)]
-    found.places = places_of({own[node]: has for node, has in rows.items()})
+    found.places = places_in_rows({own[node]: has for node, has in rows.items()})
     if graph.is_directed():
         found.notes.append("directions aren't read")
     read = {key, "id", *(("x", "y") if found.places else ())}
@@ -169,7 +169,7 @@ def tells_nodes_apart(key: str, rows: list[Attributes]) -> bool:
     return len(values) == len(rows) and "" not in values
 
 
-def places_of(rows: dict[str, Attributes]) -> dict[str, tuple[float, float]]:
+def places_in_rows(rows: dict[str, Attributes]) -> dict[str, tuple[float, float]]:
     """The places of the nodes, if each has one in numbers `x` and `y`."""
     try:
         places = {name: (float(has["x"]), float(has["y"])) for name, has in rows.items()}

@@ -15,7 +15,7 @@ from forestplan.pictures.palette import INK, PAPER, SOFT, WRONG
 from forestplan.pictures.panel import PANEL, Panel
 from forestplan.pictures.program_rounds import program_rounds
 from forestplan.pictures.results_picture import ResultVertex, draw_chosen, found_in, result_legend
-from forestplan.pictures.rounds_picture import COLUMN, LEFT, ROW, SQUARE, draw_rows, place_of
+from forestplan.pictures.rounds_picture import COLUMN, LEFT, ROW, SQUARE, draw_rows, square_middle
 from forestplan.pictures.schedules_space import left_out_words
 from forestplan.pictures.svg import Svg, text_width, wrapped
 from forestplan.schedules.ruled_rounds import (
@@ -164,7 +164,7 @@ class OfForest:
         draw_rows(svg, left, top, self.parents, self.pulse, square)
         if number == 0:
             # Around the two squares with one colour.
-            x, y = place_of(left, top, len(self.parents) - 2, self.pulse)
+            x, y = square_middle(left, top, len(self.parents) - 2, self.pulse)
             svg.rect(
                 x - SQUARE - 3,
                 y - SQUARE - 3,

@@ -134,7 +134,7 @@ def draw_heads(svg: Svg, left: float, y: float, column: int, last: int) -> None:
         svg.note(left + (pulse - 1.5) * column, y + 18, pulse, 9, "middle")
 
 
-def place_of(left: float, top: float, row: int, pulse: int) -> Point:
+def square_middle(left: float, top: float, row: int, pulse: int) -> Point:
     """The middle of a square."""
     return left + LEFT + (pulse - 1.5) * COLUMN, top + 23 + (row + 0.5) * ROW
 
@@ -152,11 +152,11 @@ def draw_rows(
     draw_heads(svg, left + LEFT, top, COLUMN, last)
     svg.note(left + LEFT - 4, top + 18, "pulse", 9, "end")
     for row, (v, parent) in enumerate(parents.items()):
-        y = place_of(left, top, row, 2)[1] + 4.5
+        y = square_middle(left, top, row, 2)[1] + 4.5
         svg.text(left + 46, y, v, 12, INK, "end", bold=True, mark="node")
         svg.note(left + 54, y, f"→ {parent}" if parent else "root", 10)
         for pulse in range(2, last + 1):
-            square(v, pulse, *place_of(left, top, row, pulse))
+            square(v, pulse, *square_middle(left, top, row, pulse))
 
 
 class Strip:
