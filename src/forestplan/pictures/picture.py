@@ -457,7 +457,7 @@ def note(what: str) -> None:
     print(f"picture: {what}", file=sys.stderr)
 
 
-def plan_text(network: Network, network_text: bytes) -> str:
+def plan_to_draw(network: Network, network_text: bytes) -> str:
     """The plan of the proved program; where that isn't built, of the definitions, which is said."""
     if folders.built("forestplan"):
         return proved_programs.output_of("forestplan", ["plain"], network_text)
@@ -529,7 +529,7 @@ def drawn(given: Namespace) -> str:
     of.program = by_rounds(program)
     of.texts = [Text(text_name(path), text_at(path, MOST_OF_TRANSCRIPT)) for path in stored]
     of.written = lambda form: (
-        plan_text(network, data)
+        plan_to_draw(network, data)
         if form == "plan"
         else run_text(given.kind, network, data, of.program)
     )

@@ -25,7 +25,13 @@ from forestplan.schedules.own_rounds import verdict_of, verdict_on_many
 from forestplan.schedules.reacting_runs import Runs
 from forestplan.schedules.reacting_space import MOST_KEPT, ReactingSpace
 from forestplan.schedules.ruled_rounds import looked_at
-from forestplan.schedules.rules import ALL, OF_SCHEDULES, program_of, rules_table, unknown_to
+from forestplan.schedules.rules import (
+    ALL,
+    OF_SCHEDULES,
+    program_with_rules,
+    rules_table,
+    unknown_to,
+)
 from forestplan.schedules.space import AnySearched, Space
 from forestplan.wording import as_text, counted
 
@@ -96,12 +102,12 @@ standard error says why), 2 the command line is refused.
 """
 
 
-def rules_of(text: str) -> list[str]:
+def rules_in_option(text: str) -> list[str]:
     names = text.split(",")
     for word in names:
         if word not in ALL:
             raise argparse.ArgumentTypeError(f"`{word}` is no rule: use some of {','.join(ALL)}")
-    if not set(names) <= set(OF_SCHEDULES) and not program_of(names):
+    if not set(names) <= set(OF_SCHEDULES) and not program_with_rules(names):
         raise argparse.ArgumentTypeError(
             "rules of the synchroniser, and of the rounds of a program, can't be left out "
             "together with others"
@@ -119,7 +125,7 @@ def command_line() -> ArgumentParser:
     )
     parser.add_argument(
         "--without",
-        type=rules_of,
+        type=rules_in_option,
         default=[],
         metavar="RULES",
         help="the rules to leave out, with commas between",
@@ -179,7 +185,7 @@ def main(arguments: list[str]) -> int:
 
 def asks_for_rounds(given: Namespace) -> bool:
     """Whether rules of the rounds are left out, and not of the synchroniser."""
-    return bool(given.without and program_of(given.without))
+    return bool(given.without and program_with_rules(given.without))
 
 
 def refused_together(given: Namespace) -> str:

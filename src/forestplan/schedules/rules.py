@@ -143,7 +143,7 @@ OF_ANY_ROUNDS = {word: rule for of in OF_PROGRAMS.values() for word, rule in of.
 ALL = OF_SCHEDULES | OF_ANY_ROUNDS
 
 
-def program_of(names: Collection[str]) -> str | None:
+def program_with_rules(names: Collection[str]) -> str | None:
     """The program whose rounds have all these rules, or None.
 
     >>> program_of(["shift"]), program_of(["shift", "no such rule"])
@@ -154,7 +154,7 @@ def program_of(names: Collection[str]) -> str | None:
 
 def unknown_to(program: str, names: Collection[str]) -> str | None:
     """Why the rounds of a program can't be played without these rules, or None if they can."""
-    of = program_of(names)
+    of = program_with_rules(names)
     if of is None:
         return "rules of two programs can't be left out together"
     return (

@@ -95,14 +95,14 @@ def steps_of(said: str, _here: Here) -> list[str]:
     return found
 
 
-def plan_of(said: str, here: Here) -> list[int]:
+def plan_in_address(said: str, here: Here) -> list[int]:
     found = [within(one, 0, MOST_CHANNEL) for one in filled_items(said)]
     if len(found) > here.nodes:
         raise Fault(Code.TOO_MANY_CHANNELS, channels=len(found), nodes=here.nodes)
     return found
 
 
-def rules_of(said: str, rules: Collection[str]) -> str:
+def rules_in_address(said: str, rules: Collection[str]) -> str:
     names = said.split(",")
     unknown = [name for name in names if name not in rules]
     if unknown or len(set(names)) < len(names):
@@ -128,7 +128,7 @@ def word_among(names: Collection[str]) -> Callable[[str, Here], str]:
     return parse
 
 
-def program_of(said: str, here: Here) -> str:
+def program_in_address(said: str, here: Here) -> str:
     return word_among([*PROGRAMS, *here.own])(said, here)
 
 
@@ -154,7 +154,7 @@ class Name:
 NAMES: dict[str, Name] = {
     "example": Name("word", lambda said, _: said),
     "net": Name("network", lambda said, _: said),
-    "program": Name("word", program_of),
+    "program": Name("word", program_in_address),
     "tab": Name("word", word_among(TABS)),
     "passes": Name("number", lambda said, _: within(said, 1, MAX_PASSES)),
     "root": Name("number", lambda said, here: here.node(said)),
@@ -163,7 +163,9 @@ NAMES: dict[str, Name] = {
     "node": Name("number", lambda said, here: here.node(said)),
     "at": Name("number", time_of),
     "forest": Name("number", lambda said, here: within(said, 0, max(0, here.nodes - 2))),
-    "broken": Name("rules", lambda said, here: rules_of(said, OF_PROGRAMS.get(here.program, {}))),
+    "broken": Name(
+        "rules", lambda said, here: rules_in_address(said, OF_PROGRAMS.get(here.program, {}))
+    ),
     "predict": Name("flag", flag_of),
     "play": Name("flag", flag_of),
     "how": Name("word", word_among(("seed", "threads"))),
@@ -173,12 +175,13 @@ NAMES: dict[str, Name] = {
     "beside": Name("flag", flag_of),
     "steps": Name("list", steps_of),
     "without": Name(
-        "rules", lambda said, here: rules_of(said, OF_LINKS if here.reacts else OF_SCHEDULES)
+        "rules",
+        lambda said, here: rules_in_address(said, OF_LINKS if here.reacts else OF_SCHEDULES),
     ),
     "dare": Name(
         "word", lambda said, here: word_among(OWN_DARES if here.reacts else DARES)(said, here)
     ),
-    "plan": Name("list", plan_of),
+    "plan": Name("list", plan_in_address),
     "kind": Name("word", word_among(get_args(PictureKind))),
     "lesson": Name("number", lambda said, _: within(said, 1, len(LESSONS))),
     "step": Name("number", lesson_step_of),

@@ -52,7 +52,7 @@ def form_of_program(program: AnyProgram) -> Form:
     return "reactions" if isinstance(program, Reacting) else "rounds"
 
 
-def program_asked(asked: OfProgram, network: Network, session: Session) -> Program:
+def program_of_call(asked: OfProgram, network: Network, session: Session) -> Program:
     """A program by rounds, by its name, which its option may follow: `recolouring passes 2`, `layers root 3`."""
     program = either_program_asked(asked, network, session)
     if isinstance(program, Reacting):

@@ -19,7 +19,7 @@ from forestplan.studio.call_progress import Tell
 from forestplan.studio.call_values import (
     either_program_asked,
     network_asked,
-    program_asked,
+    program_of_call,
     rules_asked,
 )
 from forestplan.studio.lessons import LESSONS, SaidExercise, SeenExercise
@@ -171,7 +171,7 @@ def first_pulse_after(is_made: bool, steps: str) -> ExerciseJudged:
 def steps_played(call: ExerciseCall, session: Session) -> Stepwise:
     network = network_asked(call)
     player = Stepwise(
-        network, program_asked(call, network, session), rules_asked(call, OF_SCHEDULES)
+        network, program_of_call(call, network, session), rules_asked(call, OF_SCHEDULES)
     )
     player.follow(filter(None, call.steps.split("_")))
     return player
@@ -186,7 +186,7 @@ class Dared:
 
     def __call__(self, call: ExerciseCall, session: Session, _tell: Tell) -> ExerciseJudged:
         network = network_asked(call)
-        program = program_asked(call, network, session)
+        program = program_of_call(call, network, session)
         steps = list(filter(None, call.steps.split("_")))
         rules = rules_asked(call, OF_SCHEDULES)
         is_ = dares.dare_judged(network, program, rules, steps, self.dare)

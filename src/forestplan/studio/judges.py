@@ -44,7 +44,7 @@ def text_from(name: str, arguments: list[str], network_text: str) -> str:
     return output
 
 
-def plan_of(network: Network, text: str, session: Session) -> str:
+def proved_plan(network: Network, text: str, session: Session) -> str:
     """The plan of a network, as a text."""
     if session.is_proved:
         return text_from("forestplan", ["plain"], text)

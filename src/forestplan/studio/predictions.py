@@ -23,7 +23,7 @@ from forestplan.studio.call_values import (
     MOST_RUN,
     either_program_asked,
     network_asked,
-    program_asked,
+    program_of_call,
     rules_asked,
     vertex_asked,
 )
@@ -41,7 +41,7 @@ OF_ROOT = "It has no parent in this forest, so its new colour is its own digit i
 def predict(call: PredictCall, session: Session, _tell: Tell) -> Predicted:
     """Whether it is right what is said of a node after a pulse; of the colouring in a forest, or in its merge."""
     network = network_asked(call, MOST_ROUNDS)
-    program = program_asked(call, network, session)
+    program = program_of_call(call, network, session)
     v, pulse, last = vertex_asked(call, network), call.pulse, program.last_pulse(network)
     if not 1 <= pulse <= last:
         raise Fault(Code.NO_PULSE, pulse=pulse, last=last)
@@ -113,7 +113,7 @@ def waits(call: WaitsCall, session: Session, _tell: Tell) -> Predicted:
     """The same of what a node waits for after some steps, as `ack 2, safe 3`: the word, and of whom."""
     network = network_asked(call, MOST_RUN)
     v = vertex_asked(call, network)
-    program = program_asked(call, network, session)
+    program = program_of_call(call, network, session)
     player = Stepwise(network, program, rules_asked(call, OF_SCHEDULES))
     player.follow(call.steps.split("_"))
     found, why = waited(player.state, v, player.without, player.is_over)

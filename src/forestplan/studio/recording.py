@@ -36,7 +36,7 @@ from forestplan.studio.answers import (
     Reacted,
     Values,
 )
-from forestplan.studio.call_values import either_program_asked, network_asked, program_asked
+from forestplan.studio.call_values import either_program_asked, network_asked, program_of_call
 from forestplan.studio.calls import CALLS
 from forestplan.studio.exercises import (
     GOALS,
@@ -308,7 +308,7 @@ class Recording:
             self.broken(on, values.broken)
         network = on.network()
         if on.program != COLOURING.name:
-            program = program_asked(
+            program = program_of_call(
                 OfProgram(network=on.text, program=on.program), network, self.session
             )
             return self.questions(on, program_rounds(network, program), 1)
@@ -374,7 +374,7 @@ class Recording:
         is_small = network.nodes <= MOST_IN_RUNS and network.greatest_degree <= MOST_NEIGHBOURS
         if not is_small or not self.is_new(key):
             return
-        program = program_asked(
+        program = program_of_call(
             OfProgram(network=on.text, program=on.program), network, self.session
         )
         rules = tuple(filter(None, without.split(",")))

@@ -26,11 +26,11 @@ from forestplan.studio.call_values import (
     MOST_RUN,
     either_program_asked,
     network_asked,
-    program_asked,
+    program_of_call,
     rules_asked,
     vertex_asked,
 )
-from forestplan.studio.judges import plan_of, proved_rounds, verdict_on
+from forestplan.studio.judges import proved_plan, proved_rounds, verdict_on
 from forestplan.studio.messages import (
     BrokenCall,
     CheckCall,
@@ -47,7 +47,7 @@ from forestplan.studio.session import Session
 def plan(call: PlanCall, session: Session, _tell: Tell) -> PlanFound:
     """The plan, and what the network comes to."""
     network = network_asked(call)
-    channels = read_plan(plan_of(network, call.network, session), "the plan", network)
+    channels = read_plan(proved_plan(network, call.network, session), "the plan", network)
     return PlanFound(
         plan=[channels[v] for v in network.vertices],
         allowed=network.channels,
@@ -91,7 +91,7 @@ def of_nodes(text: str) -> str:
 
 def rounds_asked(call: OfProgram, session: Session) -> ProgramRounds | ColouringRounds:
     network = network_asked(call, MOST_ROUNDS)
-    program = program_asked(call, network, session)
+    program = program_of_call(call, network, session)
     if program != COLOURING:
         return program_rounds(network, program)
     return proved_rounds(network, call.network, session)
@@ -122,7 +122,7 @@ def broken(call: BrokenCall, session: Session, _tell: Tell) -> Broken:
     """What the rounds of this network do without a rule, in words; and a picture of it, or of a smallest network on
     which they go wrong, if there is one."""
     network = network_asked(call, MOST_ROUNDS)
-    program = program_asked(call, network, session)
+    program = program_of_call(call, network, session)
     without = rules_asked(call, OF_PROGRAMS.get(program.name, {}))
     if not without:
         raise Fault(Code.NO_RULE_LEFT_OUT)
@@ -152,7 +152,7 @@ def picture(call: PictureCall, session: Session, _tell: Tell) -> str:
         # What a command line is told to use instead isn't on the page.
         raise Fault(Code.PICTURE_TOO_LARGE, kind=call.kind, most=most[0], nodes=network.nodes)
     if call.kind == "plan":
-        texts = [Text("the plan", plan_of(network, call.network, session))]
+        texts = [Text("the plan", proved_plan(network, call.network, session))]
     if call.kind == "run":
         if call.transcript is None:
             raise Fault(Code.NO_TRANSCRIPT_OF_FIELD)
@@ -163,7 +163,7 @@ def picture(call: PictureCall, session: Session, _tell: Tell) -> str:
         raise Fault(Code.NO_TWO_PULSES)
     return drawing(
         call.kind,
-        Source(network, program_asked(call, network, session), texts, title=network.name),
+        Source(network, program_of_call(call, network, session), texts, title=network.name),
         forest=call.forest,
         vertex=call.vertex,
         pulses=call.pulses or None,

@@ -44,7 +44,7 @@ from forestplan.studio.call_values import (
     MOST_STEPS,
     either_program_asked,
     network_asked,
-    program_asked,
+    program_of_call,
     rules_asked,
 )
 from forestplan.studio.dares import impossible, dare_judged as dare_judged, results_of
@@ -140,7 +140,7 @@ def run(call: RunCall, session: Session, tell: Tell) -> WholeRun:
     """A run: its transcript, the rows that the page follows, the judge's verdict, and whether its payloads are those of
     the rounds."""
     network = network_asked(call, MOST_RUN)
-    program = program_asked(call, network, session)
+    program = program_of_call(call, network, session)
     found = None
     if call.transcript:
         text = call.transcript
@@ -172,7 +172,7 @@ def run(call: RunCall, session: Session, tell: Tell) -> WholeRun:
 def run_page(call: RunPageCall, session: Session, _tell: Tell) -> str:
     """The same of a run, as the command `picture watch` draws it."""
     network = network_asked(call, MOST_RUN)
-    program = program_asked(call, network, session)
+    program = program_of_call(call, network, session)
     return watch_html([run_of_text("the run", call.transcript, network, program=program)])
 
 
@@ -206,14 +206,14 @@ def replay(call: ReplayCall, session: Session, _tell: Tell) -> Replayed:
     network = network_asked(call, MOST_RUN)
     entries = [line.partition(" ")[2] for line in call.transcript.splitlines()[1:]]
     return beginning_judged(
-        network, call.network, entries, program_asked(call, network, session), session
+        network, call.network, entries, program_of_call(call, network, session), session
     )
 
 
 def judge(call: JudgeCall, session: Session, _tell: Tell) -> JudgedText:
     """What is said of a transcript, whoever wrote it: in words by the definitions, and by the proved machine."""
     network, text = network_asked(call, MOST_DRAWN), call.transcript
-    program = program_asked(call, network, session)
+    program = program_of_call(call, network, session)
     before = call.network.count("\n") + 1
     proved = (
         transcript_judged(network, call.network, text, program, session, before)
