@@ -16,7 +16,6 @@ SEVERAL = {
     "check": 2,
     "Message": 2,
     "Node": 2,
-    "Player": 2,
     "Pulse": 2,
     "Sites": 2,
     "circle": 2,

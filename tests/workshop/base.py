@@ -11,7 +11,7 @@ from types import SimpleNamespace
 
 from forestplan.workshop.cases import Case, case_network
 from forestplan.workshop.options import parsed
-from forestplan.workshop.player import Player
+from forestplan.workshop.player import CasePlayer
 from tests import FORESTLAB, TOP
 from tests.cases import Case as Rows
 from tests.tools import lack_of
@@ -47,7 +47,7 @@ def played(assignment, name, *commands, policy="random", seed="1", **options):
     """One run, in this process, with these options of the command line."""
     case = Case(0, network(name) if isinstance(name, str) else name, policy, seed)
     arguments = [word for command in commands for word in ("--", *command)]
-    Player(options_of(assignment, *arguments, **options)).play(case)
+    CasePlayer(options_of(assignment, *arguments, **options)).play(case)
     return case
 
 

@@ -8,7 +8,7 @@ from forestplan.workshop import cases as runs
 from forestplan.workshop.cases import KEPT, NETWORKS, cases_of, case_network, varied
 from forestplan.workshop.clock_run import OpenRun
 from forestplan.workshop.findings import Finding
-from forestplan.workshop.player import Player
+from forestplan.workshop.player import CasePlayer
 from tests.cases import Case
 from tests.workshop.base import options_of
 
@@ -154,7 +154,7 @@ class Cases(Case):
             self.same(f"case {number}", found, wanted)
 
 
-class Silent(Player):
+class Silent(CasePlayer):
     """Plays programs that never answer, and keeps the numbers of the runs that were played."""
 
     def __init__(self) -> None:

@@ -5,7 +5,7 @@ import io
 from unittest import mock
 
 from forestplan.network import Network
-from forestplan.workshop.player import PROGRESS_SECONDS, Player
+from forestplan.workshop.player import PROGRESS_SECONDS, CasePlayer
 from forestplan.workshop.processes import last_errors
 from forestplan.workshop.right_rounds import RightRounds
 from forestplan.workshop.why import Why
@@ -179,7 +179,7 @@ class StandardError(Case):
         errors = io.StringIO()
         times = [0, 1, PROGRESS_SECONDS + 1, PROGRESS_SECONDS + 1, PROGRESS_SECONDS + 2]
         with mock.patch("time.monotonic", side_effect=times), contextlib.redirect_stderr(errors):
-            player = Player(options_of("rounds"), is_shown=True)
+            player = CasePlayer(options_of("rounds"), is_shown=True)
             for number in (1, 2, 3):
                 player.say(f"run {number} of 9")
         self.assertEqual(errors.getvalue(), "workshop: run 2 of 9\n")

@@ -21,7 +21,7 @@ from forestplan.workshop.compiling import compiled
 from forestplan.workshop.guard import Guard, Unguarded
 from forestplan.workshop.leftovers import PARENT_DEATH_SIGNAL, control, end_all, shut
 from forestplan.workshop.options import parsed
-from forestplan.workshop.player import Player
+from forestplan.workshop.player import CasePlayer
 from forestplan.workshop.report import report_json, report
 from forestplan.workshop.sandbox import Sandbox
 from forestplan.workshop.submissions import RUNS, Graded, Part, clean
@@ -58,7 +58,9 @@ def play(part: Part, given: argparse.Namespace, room: str) -> dict[str, object]:
     runs = ["--runs", str(given.runs or RUNS[part.assignment]), "--seed", given.seed]
     options = parsed([part.assignment, *runs, *limits, "--", *command])
     try:
-        found = Player(options, guard, time.monotonic() + given.seconds).played(cases_of(options))
+        found = CasePlayer(options, guard, time.monotonic() + given.seconds).played(
+            cases_of(options)
+        )
     except Fault as why:
         return {"why": str(why)}
     _, shown, _ = found

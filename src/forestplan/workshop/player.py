@@ -24,7 +24,7 @@ APART = "with --one-process each message begins with a line `to K`; does the pro
 UNPLAYED = "no other run is played, since nothing answered its first message in two; all others count as silent, too"
 
 
-class Player:
+class CasePlayer:
     """Plays what the options of the command line ask for, until the time is over; if it is shown, it says on standard
     error how far it is."""
 

@@ -15,7 +15,7 @@ from forestplan.workshop import class_files, grade
 from forestplan.workshop.cases import Case, cases_of
 from forestplan.workshop.leftovers import shut
 from forestplan.workshop.options import parsed
-from forestplan.workshop.player import Player
+from forestplan.workshop.player import CasePlayer
 from forestplan.workshop.report import report_json, described, report
 from forestplan.workshop.right_rounds import words_of
 
@@ -50,7 +50,7 @@ def main(arguments: list[str]) -> int:
 
 def run_cases(options: Namespace, cases: list[Case]) -> int:
     shut()
-    cases, shown, seconds = Player(options, is_shown=True).played(cases)
+    cases, shown, seconds = CasePlayer(options, is_shown=True).played(cases)
     case = shown or cases[-1]
     if options.keep:
         keep(case, options.keep, options.program)
