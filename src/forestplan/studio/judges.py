@@ -104,14 +104,14 @@ def transcript_judged(
     if not session.is_proved or is_of_file(program):
         said, line = by_definitions(network, text, program)
         return Judged(ok=line is None, said=said, by=PYTHON, entries=entries)
-    status, output, said = replayed(network_text, text, program)
+    status, output, said = machine_answer(network_text, text, program)
     verdict = parsed_verdict(said)
     if verdict is not None and before:
         said = verdict.after(before).line
     return Judged(ok=status == 0, said=said or output, by=MACHINE, entries=entries)
 
 
-def replayed(network_text: str, text: str, program: Program) -> tuple[int, str, str]:
+def machine_answer(network_text: str, text: str, program: Program) -> tuple[int, str, str]:
     """(status, output, what is said) of the proved program."""
     arguments = ["replay", *program_words(program)]
     return said_by("forestplay", arguments, network_text, "\n", text)
@@ -123,7 +123,7 @@ def beginning_judged(
     """What is said of the first entries of a run, each without its stamp."""
     text = as_text([f"transcript 1 {network.nodes}", *entries])
     if session.is_proved and not is_of_file(program):
-        status, output, said = replayed(network_text, text, program)
+        status, output, said = machine_answer(network_text, text, program)
         states = states_of(output)
         return Replayed(
             ok=status == 0,

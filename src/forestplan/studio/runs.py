@@ -77,7 +77,7 @@ def held_of(held: Held, net: Network) -> tuple[set[tuple[int, int]], set[int]]:
     return slow, lazy
 
 
-def played(
+def run_by_seed(
     call: RunCall, network: Network, program: Program, session: Session, tell: Tell
 ) -> tuple[str, ShownRun]:
     """(transcript, run) by a seed, which no thread made; steps of somebody's may come first."""
@@ -147,7 +147,7 @@ def run(call: RunCall, session: Session, tell: Tell) -> WholeRun:
     elif call.how == "threads" and not is_of_file(program):
         text = by_threads(call, program, session)
     else:
-        text, found = played(call, network, program, session, tell)
+        text, found = run_by_seed(call, network, program, session, tell)
     if found is None:
         lines = text.splitlines(keepends=True)
         if text.startswith("transcript 2 "):

@@ -172,7 +172,7 @@ def right_verdict(given: Namespace) -> str:
     return (json.dumps({"right": True, "words": said}) if given.json else said) + "\n"
 
 
-def replayed(given: Namespace) -> str:
+def replay_output(given: Namespace) -> str:
     """What the proved machine prints of a transcript in the order found."""
     net, network, text, program = texts_of(given)
     if isinstance(program, Reacting) or program.file is not None:
@@ -202,7 +202,7 @@ def main(arguments: list[str]) -> int:
     try:
         write(
             given,
-            {"check": right_verdict, "replay": replayed, "convert": converted}[given.command](
+            {"check": right_verdict, "replay": replay_output, "convert": converted}[given.command](
                 given
             ),
         )
