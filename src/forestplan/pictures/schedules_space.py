@@ -30,10 +30,10 @@ def space_of(
 
 def fault_words(space: AlphaSpace, key: Place | None = None) -> str:
     """What goes wrong, by default that to which the fewest events lead."""
-    return quoted(space.faults[key or space.first_fault()])
+    return curly_quoted(space.faults[key or space.first_fault()])
 
 
-def quoted(text: str) -> str:
+def curly_quoted(text: str) -> str:
     """Words with a picture's quotes in place of a terminal's."""
     return re.sub("`([^`]*)`", "‘\\1’", text)
 

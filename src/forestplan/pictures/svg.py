@@ -45,7 +45,7 @@ def escaped(text: str | float) -> str:
     )
 
 
-def quoted(text: str) -> str:
+def attribute_text(text: str) -> str:
     """A text between the quotes of an attribute.
 
     >>> print(quoted('5" <'))
@@ -82,7 +82,7 @@ class Svg:
         for key, value in attributes.items():
             if value is not None:
                 key = "class" if key == "mark" else key.replace("_", "-")
-                parts.append(f'{key}="{quoted(written(value))}"')
+                parts.append(f'{key}="{attribute_text(written(value))}"')
         head = " ".join(parts)
         self.parts.append(f"<{head}/>" if text is None else f"<{head}>{escaped(text)}</{name}>")
 
@@ -92,7 +92,7 @@ class Svg:
     ) -> Iterator[None]:
         """Elements that are one mark; a browser shows the title under the mouse."""
         more = "".join(
-            f' {key.replace("_", "-")}="{quoted(written(value))}"'
+            f' {key.replace("_", "-")}="{attribute_text(written(value))}"'
             for key, value in attributes.items()
         )
         self.parts.append(
