@@ -22,7 +22,6 @@ SEVERAL = {
     "make": 2,
     "of_nodes": 2,
     "plan": 2,
-    "read": 2,
     "results_of": 2,
     "rounds": 2,
     "rounds_text": 2,

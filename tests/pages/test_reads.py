@@ -63,9 +63,9 @@ OWN = {
     ): "the method of `Reading` for a line",
     (
         "src/forestplan/networks/reading.py",
-        "listed_of: foreign.read",
+        "listed_of: foreign.graph_read",
     ): "the function of foreign.py for bytes",
-    ("src/forestplan/networks/foreign.py", "read: for in warned"): "a list of warnings",
+    ("src/forestplan/networks/foreign.py", "graph_read: for in warned"): "a list of warnings",
     (
         "src/forestplan/networks/network.py",
         "was_read: tables.Sites(table, given.stated).read",

@@ -16,7 +16,7 @@ from forestplan.networks.network_text import network_in_bytes
 from forestplan.schedules.simulate import played, text_of_run
 from forestplan.transcripts import fields
 from forestplan.transcripts.judge import whole_run
-from forestplan.transcripts.reading import WrongEntry, read
+from forestplan.transcripts.reading import WrongEntry, transcript_read
 from tests.cases import Case
 from tests.faults.test_refused_memory import build_front
 from tests.programs.slow_reader import answer_to
@@ -138,7 +138,7 @@ def refusal_of(net, data, program):
     if data.startswith(b"transcript 4 "):
         return "X1", 1
     try:
-        read(data, program.name)
+        transcript_read(data, program.name)
         whole_run(net, data, program)
     except WrongEntry as wrong:
         return wrong.word, wrong.line

@@ -2,7 +2,7 @@
 words), each with a number below a power of two, as wide as the crates' own payloads have it (`Hello(u128)`,
 `Hops(u32)` and so on). tests/programs/test_hostile.py has the same beside a built program."""
 from forestplan.faults import Fault
-from forestplan.transcripts.reading import read
+from forestplan.transcripts.reading import transcript_read
 from tests.cases import Case
 
 # By word, how many binary digits a number may have; and the words of each program.
@@ -23,7 +23,7 @@ WORDS = {
 def is_read(program: str, line: str) -> bool:
     """Whether a line is an entry of a transcript of a program."""
     try:
-        _, entries = read(f"transcript 1 2\n{line}\n".encode(), program)
+        _, entries = transcript_read(f"transcript 1 2\n{line}\n".encode(), program)
     except Fault:
         return False
     return len(entries) == 1

@@ -15,7 +15,7 @@ from forestplan.definitions.nodes import COLOURING
 from forestplan.networks.network_text import network_in_bytes
 from forestplan.schedules.simulate import played, text_of_run
 from forestplan.transcripts.judge import find_order, whole_run
-from forestplan.transcripts.reading import WrongEntry, read
+from forestplan.transcripts.reading import WrongEntry, transcript_read
 from tests import FORESTLAB, TOP
 from tests.cases import Case, called, forestlab, text, text_in, wait_until
 from tests.programs.made_transcripts import transcript_text
@@ -129,7 +129,7 @@ class Transcripts(Case):
             self.note(f"{said} of {transcript[:60]!r}", got[0] == said, got)
         edge = network_in_bytes(text(EDGE))
         self.same("a run of an edge", said_of(edge, EDGE_RUN)[0], EDGE_WHOLE)
-        merged = text_of_run(2, find_order(edge, read(EDGE_RUN)[1]).made).encode()
+        merged = text_of_run(2, find_order(edge, transcript_read(EDGE_RUN)[1]).made).encode()
         self.same(
             "with stamps",
             (said_of(edge, merged)[0], said_by(text(EDGE), merged)),

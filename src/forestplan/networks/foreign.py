@@ -90,7 +90,7 @@ READERS: dict[str, tuple[Reader, Judge]] = {
 }
 
 
-def read(data: bytes, name: str, form: str, stated: Stated) -> Listed:
+def graph_read(data: bytes, name: str, form: str, stated: Stated) -> Listed:
     """What networkx reads, if it has all nodes and edges that the text declares."""
     nx = networkx()
     if nx is None:

@@ -20,7 +20,7 @@ def listed_of(data: bytes, name: str, form: str, stated: Stated) -> Listed:
     Raises `Fault` of the text's first fault, and `Unsaid` of what the user has to state.
     """
     if form in foreign.READERS:
-        return foreign.read(data, name, form, stated)
+        return foreign.graph_read(data, name, form, stated)
     if form == "dimacs":
         # Nothing is mended, not even line ends.
         encoding = stated.encoding

@@ -20,7 +20,7 @@ from forestplan.sentences import WORDS
 from forestplan.studio.answers import Judged, Replayed
 from forestplan.studio.session import Session
 from forestplan.transcripts.judge import whole_run
-from forestplan.transcripts.reading import WrongEntry, read
+from forestplan.transcripts.reading import WrongEntry, transcript_read
 from forestplan.wording import as_text
 
 MOST_TEXT = 64 << 20
@@ -135,7 +135,7 @@ def beginning_judged(
         )
     state, said = alpha_start(network, program), ""
     try:
-        for entry in read(text.encode(), program.name)[1]:
+        for entry in transcript_read(text.encode(), program.name)[1]:
             try:
                 make(state, entry)
             except NotPossible as refused:

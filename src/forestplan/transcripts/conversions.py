@@ -8,7 +8,7 @@ from forestplan.definitions.events import ACT, PULSE, PUT, TAKE, Entry, Message
 from forestplan.fault_codes import Code
 from forestplan.faults import Fault
 from forestplan.transcripts.fields import NoEntry, first_line, wire_of
-from forestplan.transcripts.reading import Head, WrongEntry, line_of, read
+from forestplan.transcripts.reading import Head, WrongEntry, line_of, transcript_read
 
 Made = list[tuple[Entry, Entry | None]]
 # A vector clock has an entry for each node that it has heard of, so all of them grow with the square of a long run.
@@ -17,7 +17,7 @@ MOST_CLOCKS = 5_000_000
 
 def entries_of(text: bytes) -> tuple[Head, Made]:
     """The first line; and (entry, the entry of its put if it is a take), in the order of the text."""
-    head, entries = read(text, None)
+    head, entries = transcript_read(text, None)
     if not head.is_stamped:
         raise WrongEntry(head.line, Code.NO_ORDER_OF_ENTRIES)
     links: dict[tuple[int | None, int | None], deque[Entry]] = {}

@@ -78,7 +78,7 @@ def entry_of(line: int, fields: list[bytes], program: str, head: Head) -> Entry:
     raise NoEntry(code, words=field_words(b" ".join(own)), step=step_words, what=what)
 
 
-def read(text: bytes, program: str | None = COLOURING) -> tuple[Head, list[Entry]]:
+def transcript_read(text: bytes, program: str | None = COLOURING) -> tuple[Head, list[Entry]]:
     """The first line, and the entries in the order of the text, with the payloads of the program of this name; without
     one, of the program that the text names, or of the colouring.
 
