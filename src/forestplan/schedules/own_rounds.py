@@ -18,7 +18,7 @@ from forestplan.wording import as_text, counted, in_words
 MOST_NODES, MOST_TRIED = 12, 2000
 
 
-def rounds_text(net: Network, program: Program) -> str:
+def own_rounds_text(net: Network, program: Program) -> str:
     """The rounds pulse by pulse: a line for each node that hears or sends something, or finds something else."""
     lines: list[str] = []
     found: dict[int, str] = {}
@@ -126,7 +126,10 @@ def verdict_of(net: Network, program: Program) -> tuple[bool, str]:
     """Whether the rounds of a network end right, and in words how they end, or all of them if they end wrong."""
     pulses = counted(program.last_pulse(net), "pulse")
     if why := wrong_end(net, program):
-        return False, f"not right after {pulses} of {net.name}: {why}\n{rounds_text(net, program)}"
+        return (
+            False,
+            f"not right after {pulses} of {net.name}: {why}\n{own_rounds_text(net, program)}",
+        )
     found = ", ".join(f"{v} {result}" for v, result in results_of(net, program).items())
     return True, f"right after {pulses} of {net.name}: {found}\n"
 
@@ -141,5 +144,5 @@ def verdict_on_many(
     why = wrong_end(net, program)
     return False, (
         f"not right on {wrong} of {counted(count, 'network')}; a smallest one: {why}\n"
-        f"{plain_text(net)}{rounds_text(net, program)}"
+        f"{plain_text(net)}{own_rounds_text(net, program)}"
     )

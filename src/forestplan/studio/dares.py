@@ -91,7 +91,7 @@ def goal(network: Network, dare: str) -> tuple[Collection[Edge], int]:
     return [(v, w)], ways[v][w]
 
 
-def results_of(network: Network, program: Program) -> list[str | int]:
+def channels_or_results(network: Network, program: Program) -> list[str | int]:
     """What the nodes find in the rounds: their channels, or the words of another program."""
     rounds = rounds_of(network, program)
     if isinstance(rounds, ColouringRounds):
@@ -103,5 +103,5 @@ def results_judged(player: Stepwise, network: Network, program: Program) -> Dare
     looks = [look_of(player.state, v) for v in network.vertices]
     if player.is_over or not all(look.done for look in looks):
         return NOT_HALTED
-    is_same = [look.found for look in looks] == results_of(network, program)
+    is_same = [look.found for look in looks] == channels_or_results(network, program)
     return SAME_RESULTS if is_same else OTHER_RESULTS

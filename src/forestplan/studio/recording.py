@@ -383,7 +383,7 @@ class Recording:
         except TooMany:
             return
         goals = {dare: goal_of(network, rules, dare, found) for dare in dares.DARES}
-        self.now.runs[key] = all_runs_of(found, goals, dares.results_of(network, program))
+        self.now.runs[key] = all_runs_of(found, goals, dares.channels_or_results(network, program))
 
     def all_reactions(self, on: OnPage, rules: tuple[str, ...]) -> None:
         """The runs of nodes that react to messages, if they are few and no function of their file fails."""

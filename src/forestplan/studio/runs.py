@@ -47,7 +47,7 @@ from forestplan.studio.call_values import (
     program_of_call,
     rules_asked,
 )
-from forestplan.studio.dares import impossible, dare_judged as dare_judged, results_of
+from forestplan.studio.dares import impossible, dare_judged as dare_judged, channels_or_results
 from forestplan.studio.judges import (
     PYTHON,
     beginning_judged,
@@ -190,7 +190,7 @@ def compared(
     found: ShownRun, network: Network, program: Program
 ) -> tuple[tuple[int, int, int], list[str | int]]:
     """(pulses whose payloads are those of the rounds, pulses compared, payloads), and what the rounds find."""
-    there, results = rounds_of(network, program), results_of(network, program)
+    there, results = rounds_of(network, program), channels_or_results(network, program)
     pulses = range(found.pulses[0], found.pulses[1] + 1)
     sent = {
         p: sorted((v, w, f"{word} {what}") for v, w, word, what in there.pulses[p].puts)
