@@ -11,7 +11,7 @@ from forestplan.limits import MAX_CHANNEL
 from forestplan.networks.fields import shown_field
 from forestplan.networks.forms import Unsaid, decoded_text
 from forestplan.networks.options import add_stated, commands_for, stated_by
-from forestplan.networks.plan_text import PlanRow, rows_of
+from forestplan.networks.plan_text import PlanRow, plan_rows
 from forestplan.networks.tables import MOST_DIGITS, licence_of
 from forestplan.parsers import add_output, parser_of
 from forestplan.wording import one_line
@@ -187,7 +187,7 @@ def main(arguments: list[str]) -> int:
     if given.run:
         rows = rows_of_run(text, "the run")
     else:
-        rows = rows_of(text, "the plan", 0, 10**MOST_DIGITS)
+        rows = plan_rows(text, "the plan", 0, 10**MOST_DIGITS)
     of = numbers_for(rows, table, given)
     write(given, "plan\n" + "".join(f"{vertex} {of[channel]}\n" for _, vertex, channel in rows))
     return 0

@@ -20,7 +20,7 @@ from forestplan.networks.listing import Listed
 from forestplan.networks.network_text import reading_of
 from forestplan.networks.numbering import near_each_other, renumbered
 from forestplan.networks.options import commands_for, stated_by
-from forestplan.networks.plan_text import rows_of
+from forestplan.networks.plan_text import plan_rows
 from forestplan.networks.reading import form_read, listed_of, made_of
 from forestplan.networks.sources import network_at, network_bytes, path_of
 from forestplan.networks.tables import MOST_DIGITS
@@ -153,7 +153,7 @@ def was_named(given: Namespace) -> str:
         raise Fault(Code.NETWORK_FROM_STANDARD_INPUT)
     network = network_at(given.file)
     name = "the plan"
-    rows = rows_of(text_at("-"), name, 0, 10**MOST_DIGITS)
+    rows = plan_rows(text_at("-"), name, 0, 10**MOST_DIGITS)
     if [v for _, v, _ in rows] != list(network.vertices):
         raise Fault(Code.PLAN_OF_OTHER_NETWORK, name=name)
     return as_text(f"{network.names.get(v, v)} {channel}" for _, v, channel in rows)

@@ -11,7 +11,7 @@ from forestplan.networks.fields import fields_of, shown_field, field_number
 PlanRow = tuple[int, int, int]
 
 
-def rows_of(text: str, name: str, least: int = 1, below: int = 2**32) -> list[PlanRow]:
+def plan_rows(text: str, name: str, least: int = 1, below: int = 2**32) -> list[PlanRow]:
     """(line, vertex, channel) of the lines of a plan, with channels from `least` on and numbers below `below`.
 
     >>> rows_of("plan\\n1 3\\n", "the plan")
@@ -53,7 +53,7 @@ def read_plan(text: str, name: str, network: Network) -> dict[int, int]:
     Raises `Fault` of the first fault that the programs would report, but for neighbours that share a channel.
     """
     plan = {}
-    for line, vertex, channel in rows_of(text, name):
+    for line, vertex, channel in plan_rows(text, name):
         if vertex not in network.vertices:
             raise Fault(
                 Code.PLAN_OF_OTHER_VERTEX, InText(name, line), vertex=vertex, nodes=network.nodes

@@ -37,7 +37,7 @@ Row = tuple[int, list[str]]
 Begin = tuple[int, list[str], str]
 
 
-def rows_of(text: str, name: str, mark: str) -> Iterator[Row]:
+def table_rows(text: str, name: str, mark: str) -> Iterator[Row]:
     """(line, fields) of each row in which something is; blanks around a field don't belong to it."""
     reader = csv.reader(io.StringIO(text), delimiter=mark, strict=True, skipinitialspace=True)
     line = 1
@@ -97,7 +97,7 @@ class Table:
             title = self.titles[at]
             if self.stated.columns.get(column, title).casefold() == title.casefold():
                 self.stated.found.add(column)
-        below = islice(rows_of(text, self.name, mark), self.has_heading, None)
+        below = islice(table_rows(text, self.name, mark), self.has_heading, None)
         self.rows = [self.row_of(line, fields) for line, fields in below]
         self.decimals = "." if mark == "," else ".,"
         if not self.rows:
@@ -126,7 +126,7 @@ class Table:
         fault = Fault(Code.NO_ROW, InText(self.name))
         for mark in [mark for mark in MARKS if mark in first_line] or [","]:
             try:
-                for line, first in islice(rows_of(text, self.name, mark), 1):
+                for line, first in islice(table_rows(text, self.name, mark), 1):
                     found.append((line, self.titles_of(line, first), mark))
             except Fault as why:
                 fault = why

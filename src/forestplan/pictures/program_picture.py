@@ -46,8 +46,10 @@ def program_svg(rounds: ProgramRounds, pulses: tuple[int, int] | None = None) ->
         svg.text(x + 5, TOP - 26, f"pulse {pulse.number}", 11.5, PULSE, bold=True, mark="pulse")
         svg.line(x, TOP - 20, x, TOP + height - 6, BORDER, 1)
     for v in network.vertices:
-        svg.line(LEFT - 8, row(v), LEFT + len(shown) * column, row(v), "#B0B0B0", 1)
-        svg.text(LEFT - 16, row(v) + 5, v, 13, INK, "end", bold=True)
+        svg.line(
+            LEFT - 8, height_of_row(v), LEFT + len(shown) * column, height_of_row(v), "#B0B0B0", 1
+        )
+        svg.text(LEFT - 16, height_of_row(v) + 5, v, 13, INK, "end", bold=True)
     for k, pulse in enumerate(shown):
         draw_pulse(svg, rounds, pulse, LEFT + k * column, column)
     return svg.document()
@@ -57,15 +59,15 @@ def draw_pulse(svg: Svg, rounds: ProgramRounds, pulse: Pulse, x: float, column: 
     """The messages of a pulse, and what nodes have found after it."""
     with svg.group("messages", f"pulse {pulse.number}"):
         for v, w, word, number in pulse.puts:
-            x1, y1 = x + column * 0.62, row(v)
+            x1, y1 = x + column * 0.62, height_of_row(v)
             with svg.group("message", f"{v} to {w}: {word} {number}"):
-                svg.arrow(x1, y1, x + column - 3, row(w), WIRES["payload"], 1.4, 7)
+                svg.arrow(x1, y1, x + column - 3, height_of_row(w), WIRES["payload"], 1.4, 7)
                 svg.circle(x1, y1, 2, SOFT)
     for v in rounds.network.vertices:
         if is_new(rounds, pulse, v):
             svg.rect(
                 x + 4,
-                row(v) - 9,
+                height_of_row(v) - 9,
                 text_width(pulse.results[v], SIZE) + 8,
                 18,
                 "#FFFFFF",
@@ -73,10 +75,10 @@ def draw_pulse(svg: Svg, rounds: ProgramRounds, pulse: Pulse, x: float, column: 
                 1,
                 3,
             )
-            svg.text(x + 8, row(v) + 4, pulse.results[v], SIZE, INK, mark="found")
+            svg.text(x + 8, height_of_row(v) + 4, pulse.results[v], SIZE, INK, mark="found")
 
 
-def row(v: int) -> int:
+def height_of_row(v: int) -> int:
     return TOP + (v - 1) * ROW + 6
 
 
