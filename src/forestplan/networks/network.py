@@ -36,7 +36,7 @@ MOST_REACH = 20_000
 NEAR = "numbered again by breadth first search; nodes keep their identifiers, and so their channels"
 
 
-def say(what: str) -> None:
+def say_of_network(what: str) -> None:
     print(f"network: {what}", file=sys.stderr)
 
 
@@ -80,7 +80,7 @@ def was_read(given: Namespace) -> str:
     given.stated.check_found()
     network, notes = made_of(found, name)
     for note in notes:
-        say(f"{name}: {note}")
+        say_of_network(f"{name}: {note}")
     head = [f"Channel {channel} is {real}" for channel, real in enumerate(licence or (), 1)]
     return numbered_text(given, network, head)
 
@@ -90,7 +90,7 @@ def numbered_text(given: Namespace, network: Network, head: Iterable[str] = ()) 
     near = network if given.keep_order else near_each_other(network)
     if near is network:
         return dimacs_text(network, head)
-    say(f"{NEAR} (--keep-order leaves the numbers)")
+    say_of_network(f"{NEAR} (--keep-order leaves the numbers)")
     return dimacs_text(near, [*head, NEAR.capitalize()])
 
 
@@ -140,7 +140,7 @@ def was_told(given: Namespace) -> str:
     reading = reading_of(data.decode("utf-8", "replace"), path)
     network = reading.network()
     for what in warnings(reading):
-        say(f"{path}: {what}")
+        say_of_network(f"{path}: {what}")
     return as_text(f"{name}: {what}" for name, what in facts(reading, network))
 
 

@@ -83,13 +83,13 @@ def grade_part(part: Part, given: argparse.Namespace, room: str, to: Connection)
         to.send_bytes(json.dumps(play(part, given, room)).encode())
         status = 0
     except (shutil.Error, OSError, Fault) as why:
-        say(part, clean(str(why)))
+        say_of_part(part, clean(str(why)))
         status = 1
     finally:
         os._exit(status)  # nothing else leaves this process
 
 
-def say(part: Part, text: str) -> None:
+def say_of_part(part: Part, text: str) -> None:
     line = f"grade: {clean(part.student)} {part.assignment}: {text}"
     print(line, file=sys.stderr, flush=True)
 
@@ -114,7 +114,7 @@ def play_all(parts: list[Part], given: argparse.Namespace, jobs: int, room: str)
                     del running[pipe]
                     part.found = finished(process, pipe)
                     end_all([other.pid for _, other, _ in running.values()])
-                    say(part, clean(f"{part.counts()} {part.remark()}".strip()))
+                    say_of_part(part, clean(f"{part.counts()} {part.remark()}".strip()))
     finally:
         with held():
             for _, process, _ in running.values():
