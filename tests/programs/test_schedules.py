@@ -304,7 +304,7 @@ class Schedules(Case):
             if word in rules.OF_ROUNDS:
                 said = found_in(r"br(?:eaks|oken on)\s(.*?)(?:[.:;]|\n *after)", part, re.S)[1]
                 edges = [(int(v), int(w)) for v, w in re.findall(r"(\d)-(\d)", said)]
-                rounds = ruled_rounds.smallest_wrong([word])[0]
+                rounds = ruled_rounds.smallest_wrong_rounds([word])[0]
                 self.same(
                     f"the smallest network without {word}", rounds and rounds.net.edges, edges
                 )

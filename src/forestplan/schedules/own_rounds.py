@@ -85,7 +85,7 @@ def is_connected(net: Network) -> bool:
     return len(reached) == net.nodes
 
 
-def smallest_wrong(
+def smallest_wrong_network(
     program: Program, count: int, seed: str, connected: bool
 ) -> tuple[Network | None, int]:
     """Of so many networks the smallest on which the rounds end wrong, made smaller as far as that goes; and on how
@@ -138,7 +138,7 @@ def verdict_on_many(
     program: Program, count: int, seed: str, connected: bool = False
 ) -> tuple[bool, str]:
     """Whether the rounds end right on so many networks by chance; if not, a smallest one with its rounds."""
-    net, wrong = smallest_wrong(program, count, seed, connected)
+    net, wrong = smallest_wrong_network(program, count, seed, connected)
     if net is None:
         return True, f"right on {counted(count, 'network')} of up to {MOST_NODES} nodes\n"
     why = wrong_end(net, program)

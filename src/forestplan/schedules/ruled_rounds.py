@@ -314,7 +314,7 @@ def networks(nodes: int, without: Collection[str]) -> Iterator[list[Edge]]:
             yield from (list(chosen) for chosen in itertools.combinations(pairs, count))
 
 
-def smallest_wrong(
+def smallest_wrong_rounds(
     without: Collection[str], program: Program = COLOURING
 ) -> tuple[RuledRounds | RuledSequel | None, int, str, int]:
     """(rounds, how many networks were tried, what these are called, of how many nodes at most) of a smallest network
@@ -343,7 +343,7 @@ def looked_at(
         if rounds.clash:
             return rounds, f"broken on {network.name}"
         return None, f"not broken: the rounds of {network.name} go right"
-    smallest, tried, what, most = smallest_wrong(without, program)
+    smallest, tried, what, most = smallest_wrong_rounds(without, program)
     if smallest is None:
         return None, f"not broken: {tried:,} {what} of up to {most} nodes go right"
     edges = ", ".join(f"{v}-{w}" for v, w in smallest.net.edges)

@@ -17,7 +17,7 @@ from forestplan.pictures.picture import KINDS as KINDS_OF_PICTURES, Source, Text
 from forestplan.pictures.program_rounds import ProgramRounds, program_rounds
 from forestplan.pictures.transcripts import stamp_of
 from forestplan.schedules.reacting_stepwise import ReactingStepwise
-from forestplan.schedules.ruled_rounds import ruled, smallest_wrong
+from forestplan.schedules.ruled_rounds import ruled, smallest_wrong_rounds
 from forestplan.schedules.rules import OF_PROGRAMS
 from forestplan.studio.answers import BadPlan, Broken, GoodPlan, PlanFound, WhyFound
 from forestplan.studio.call_progress import Tell
@@ -131,7 +131,7 @@ def broken(call: BrokenCall, session: Session, _tell: Tell) -> Broken:
         picture_here = broken_picture.broken_svg(network, without, program)
         return Broken(True, here.sentence().split("\n"), None, picture_here)
     sentence = "the rounds of this network go right without it"
-    least, tried, what, most = smallest_wrong(without, program)
+    least, tried, what, most = smallest_wrong_rounds(without, program)
     if least is None:
         sentence += f", and so do those of all {tried:,} {what} of up to {most} nodes"
         return Broken(False, sentence.split("\n"), None, None)
