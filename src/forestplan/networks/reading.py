@@ -71,7 +71,7 @@ def made_of(found: Listed, name: str) -> tuple[Network, list[str]]:
         stem(name),
     )
     checked_network(network, name)
-    return network, [summary(network, len(edges), found.form, by), *found.notes, *notes]
+    return network, [reading_summary(network, len(edges), found.form, by), *found.notes, *notes]
 
 
 def edges_by_number(found: Listed, number: dict[str, int]) -> tuple[set[Edge], list[str]]:
@@ -88,7 +88,7 @@ def edges_by_number(found: Listed, number: dict[str, int]) -> tuple[set[Edge], l
     return edges, notes
 
 
-def summary(network: Network, many: int, form: str, by: str) -> str:
+def reading_summary(network: Network, many: int, form: str, by: str) -> str:
     """The form and the counts, to be compared with one's data."""
     alone = sum(not beside for beside in network.neighbours.values())
     lone = f", {alone} of them without a neighbour" if alone else ""

@@ -122,7 +122,7 @@ class Cone:
         )
 
 
-def summary(cone: Cone) -> str:
+def cone_summary(cone: Cone) -> str:
     """How many messages decided it, and on whose identifiers it depends."""
     names = cone.identifiers()
     if not names:
@@ -145,7 +145,7 @@ def why_text(cone: Cone) -> str:
     """In words: each choice that mattered, the last one first, and the colours that gave the turns."""
     lines = [
         f"why node {cone.vertex} of {cone.network.name} has channel {channel_of(cone)}",
-        summary(cone),
+        cone_summary(cone),
     ]
     for v, f in cone.choices():
         lines += choice_lines(cone, v, f)
@@ -203,4 +203,4 @@ def why_svg(cone: Cone) -> str:
     at_most("why", len(forests) * network.nodes, "rows", MOST_ROWS, "--text, which has no limit")
     title = f"{network.name}: why node {cone.vertex} has channel {channel_of(cone)}"
     pale = "Pale is what didn’t decide it; the last column, with the channels after a merge, is never pale."
-    return draw_strips(rounds, forests, title, [summary(cone), pale], cone)
+    return draw_strips(rounds, forests, title, [cone_summary(cone), pale], cone)
