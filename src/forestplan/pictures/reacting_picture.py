@@ -9,7 +9,7 @@ from forestplan.pictures.marks import short_name
 from forestplan.pictures.palette import CHANNEL_HUES, INK
 from forestplan.pictures.run_picture import BOLD
 from forestplan.pictures.svg import Svg, text_width
-from forestplan.pictures.transcripts import Wire, stamp_of, wires_of
+from forestplan.pictures.transcripts import Wire, stamp_of, wires_by_stamp
 from forestplan.wording import counted
 
 TOP, ROW, SCALE, LEFT, WIDEST = 112, 78, 40, 64, 1214
@@ -43,7 +43,7 @@ def reacting_svg(name: str, network: Network, program: Reacting, made: list[Entr
     at_most("run", window.stop, "steps of time side by side", MOST_STEPS, "a smaller network")
     bottom = window.y(len(network.vertices))
     svg = Svg(window.width, bottom + 50, f"Space and time of {name}")
-    wires = wires_of(made)
+    wires = wires_by_stamp(made)
     svg.heading(
         f"{name}: {counted(len(wires), 'message')} of {program.name}", TIME_WORDS, MARKS_WORDS
     )

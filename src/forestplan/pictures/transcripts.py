@@ -81,7 +81,7 @@ class Run:
         # With stamps what comes after the fault isn't drawn.
         line = wrong[1].line if wrong and self.is_stamped else None
         self.made = [entry for entry in order.made if line is None or entry.line < line]
-        self.last, self.wires = program.last_pulse(network), wires_of(self.made)
+        self.last, self.wires = program.last_pulse(network), wires_by_stamp(self.made)
         self.ticks, self.reached = {v: {0: 0} for v in network.vertices}, dict.fromkeys(
             network.vertices, 0
         )
@@ -118,7 +118,7 @@ def window_of(
     return first, last
 
 
-def wires_of(made: list[Entry]) -> list[Wire]:
+def wires_by_stamp(made: list[Entry]) -> list[Wire]:
     """The wires of entries by stamp. A link hands them over in the order in which they were put."""
     taken: dict[Edge, deque[int | None]] = {}
     for entry in made:

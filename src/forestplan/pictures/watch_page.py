@@ -149,7 +149,7 @@ class ShownRun:
         first, end = self.window(every, pulses)
         self.moments = every[first:end]
         self.start = steps.start | {entry.node: look for entry, _, look in every[:first]}
-        self.wires = wires_of(every[:end], first)
+        self.wires = flights_of(every[:end], first)
         self.sent: dict[int, list[tuple[int, int, str]]] = {}
         for v, w, wire, *_ in self.wires:
             match wire:
@@ -247,7 +247,7 @@ def run_of_text(
     return ShownRun(name, network, steps_of_text(name, network, text, pulses, program), pulses)
 
 
-def wires_of(every: list[Step], first: int) -> list[Flight]:
+def flights_of(every: list[Step], first: int) -> list[Flight]:
     """The wires that are on their links at or after the first entry shown; an entry before it has a negative number,
     and one after those shown none."""
     flying: dict[Edge, deque[int]] = {}

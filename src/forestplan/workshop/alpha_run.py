@@ -12,7 +12,13 @@ from forestplan.transcripts.proved_judge import verdict_on_run
 from forestplan.wording import as_text
 from forestplan.workshop.findings import NoAnswer
 from forestplan.workshop.nodes import PATIENCE, Nodes
-from forestplan.workshop.protocol import answer_fields, forms_of, own_data, start_of_output, wire_of
+from forestplan.workshop.protocol import (
+    answer_fields,
+    forms_of,
+    own_data,
+    start_of_output,
+    wire_text,
+)
 from forestplan.workshop.right_rounds import RightRounds, words_of
 
 OWN_DATA = "its own data"
@@ -100,7 +106,7 @@ class AlphaRun:
                 self.write(v, f"pulse {pulse}")
             case "put", port, wire:
                 w = neighbours[int(port)]
-                text = wire_of(line, wire, program)
+                text = wire_text(line, wire, program)
                 self.write(v, f"put {w} {text}")
                 self.count += 1
                 link = self.links.setdefault((v, w), Link(v, w))

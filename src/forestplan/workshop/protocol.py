@@ -111,7 +111,7 @@ def answer_fields(line: str, forms: list[str], degree: int) -> tuple[str, ...]:
     return found.groups()
 
 
-def wire_of(line: str, wire: str, program: str) -> str:
+def wire_text(line: str, wire: str, program: str) -> str:
     """The wire that a line names, without zeros before its numbers; a payload is one of the program."""
     try:
         read_wire(program, *wire.encode().split())
