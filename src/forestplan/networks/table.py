@@ -51,7 +51,7 @@ def table_rows(text: str, name: str, mark: str) -> Iterator[Row]:
         raise Fault(Code.NO_ROW_OF_A_TABLE, InText(name, line), why=why) from None
 
 
-def words_of(columns: dict[str, str]) -> list[str]:
+def columns_option(columns: dict[str, str]) -> list[str]:
     """The words of a command line that state what columns are called."""
     text = io.StringIO()
     csv.writer(text, lineterminator="").writerow(f"{one}={title}" for one, title in columns.items())
@@ -215,4 +215,4 @@ def choice_of(columns: tuple[str, ...], titles: list[str]) -> tuple[list[str], s
     """The words that state the columns to be those of these titles, and what they mean."""
     meant = dict(zip(columns, titles))
     said = in_words(f"{column} is {shown_field(title)}" for column, title in meant.items())
-    return words_of(meant), f"it is a heading, in which {said}"
+    return columns_option(meant), f"it is a heading, in which {said}"

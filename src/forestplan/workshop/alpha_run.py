@@ -19,7 +19,7 @@ from forestplan.workshop.protocol import (
     start_of_output,
     wire_text,
 )
-from forestplan.workshop.right_rounds import RightRounds, words_of
+from forestplan.workshop.right_rounds import RightRounds, program_option
 
 OWN_DATA = "its own data"
 
@@ -141,5 +141,5 @@ class AlphaRun:
 
     def verdict(self) -> Verdict:
         """What the judge says of it."""
-        arguments = words_of(self.rounds.program)
+        arguments = program_option(self.rounds.program)
         return verdict_on_run(plain_text(self.network), self.text(), arguments)

@@ -17,7 +17,7 @@ from forestplan.workshop.findings import (
     last_of,
     numbers_in_words,
 )
-from forestplan.workshop.right_rounds import RightRounds, words_of
+from forestplan.workshop.right_rounds import RightRounds, program_option
 from forestplan.workshop.why import Why
 
 # No run has such a pulse, so an entry that names it is refused, and the judge says what would be possible.
@@ -94,7 +94,7 @@ def at_node(rounds: RightRounds, before: list[StampedText], v: int) -> At:
 
     def refusal_of(sentence: str) -> Verdict:
         entry = f"{v} {sentence} {IMPOSSIBLE}\n"
-        return verdict_on_run(network, text + entry, words_of(rounds.program))
+        return verdict_on_run(network, text + entry, program_option(rounds.program))
 
     def ports_lacked(wire: str) -> list[int]:
         """The ports by which such wires are still to come."""

@@ -8,14 +8,14 @@ from forestplan.proved_programs import called
 from forestplan.workshop.protocol import COLOURING, SEQUELS
 
 
-def words_of(program: str) -> list[str]:
+def program_option(program: str) -> list[str]:
     """The words by which a command learns what the nodes run."""
     return [] if program == COLOURING else ["--program", program]
 
 
 def ask(name: str, command: str, text: str, program: str = COLOURING) -> tuple[int, str, str]:
     """(status, standard output, standard error) of a proved program on a text; `program` is what the nodes run."""
-    done = called(name, [command, *words_of(program)], text.encode())
+    done = called(name, [command, *program_option(program)], text.encode())
     return done.returncode, done.stdout.decode(), done.stderr.decode("utf-8", "replace").strip()
 
 

@@ -17,7 +17,7 @@ from forestplan.workshop.leftovers import shut
 from forestplan.workshop.options import parsed
 from forestplan.workshop.player import CasePlayer
 from forestplan.workshop.report import report_json, described, report
-from forestplan.workshop.right_rounds import words_of
+from forestplan.workshop.right_rounds import program_option
 
 OTHERS = {"grade": grade.main, "class": class_files.main}
 DOOR = os.path.join(TOP, "bin")
@@ -70,7 +70,7 @@ def keep(case: Case, folder: str, program: str) -> None:
     given = {
         "at": shlex.quote(folder),
         "door": shlex.quote(min(os.path.relpath(DOOR), DOOR, key=len)),
-        "words": "".join(f" {word}" for word in words_of(program)),
+        "words": "".join(f" {word}" for word in program_option(program)),
     }
     commands = [
         f"  {command.format(**given)}"
@@ -110,7 +110,7 @@ def draw_wrong_run(case: Case, file: str, program: str) -> str | None:
                 "-o",
                 file,
                 *stopped,
-                *words_of(program),
+                *program_option(program),
             ],
             capture_output=True,
             text=True,
