@@ -10,7 +10,13 @@ from build.completion import COMMANDS, completion, manual
 from build.crate_lists import PROGRAMS, TOP
 from forestplan import version
 from forestplan.parsers import parser_of
-from forestplan.workshop.class_files import is_free, make_folder, write, write_scripts, write_sums
+from forestplan.workshop.class_files import (
+    is_free,
+    make_folder,
+    write_file,
+    write_scripts,
+    write_sums,
+)
 
 # What is copied, each at the path that it has here.
 FOLDERS = ("examples", "docs", "src")
@@ -116,16 +122,16 @@ def make(room: str, section: str = SECTION) -> None:
     write_scripts(room)
     for path in FILES:
         shutil.copy(os.path.join(TOP, path), os.path.join(room, path))
-    write(os.path.join(room, "README.md"), readme(section))
+    write_file(os.path.join(room, "README.md"), readme(section))
     share = os.path.join(room, "share")
     commands = os.path.join(room, "bin")
     for name in COMMANDS:
-        write(os.path.join(share, "man", "man1", f"{name}.1"), manual(commands, name))
+        write_file(os.path.join(share, "man", "man1", f"{name}.1"), manual(commands, name))
     for path in OF_SHELLS:
-        write(os.path.join(share, path), completion(commands))
+        write_file(os.path.join(share, path), completion(commands))
     # The sources name several kits, so the folder says which one is here.
     here = f"built where rt is of {kit.found()}\n" if kit.command() else ""
-    write(os.path.join(room, "VERSION"), version.version_text() + here)
+    write_file(os.path.join(room, "VERSION"), version.version_text() + here)
     write_sums(room)
     subprocess.run(["chmod", "-R", "u=rwX,go=rX", room], check=True)
 

@@ -9,7 +9,7 @@ from build.kit import PARTS
 from forestplan.fault_codes import Code
 from forestplan.faults import Fault, InText
 from forestplan.parsers import parser_of
-from forestplan.workshop.class_files import write
+from forestplan.workshop.class_files import write_file
 
 # What a crate is called as a crate, as a type, and as a name in texts.
 Model = tuple[str, str, str]
@@ -54,9 +54,9 @@ def add_test(name: str, top: str, model: Model) -> None:
     root = os.path.join(source, "lib.rt")
     with open(os.path.join(TOP, test), encoding="utf-8") as text:
         own = renamed(text.read(), model, name).replace(f"use {name}::", "use crate::")
-        write(os.path.join(source, "tests.rt"), own)
+        write_file(os.path.join(source, "tests.rt"), own)
     with open(root, encoding="utf-8") as text:
-        write(root, text.read().replace("mod texts;", "#[cfg(test)]\nmod tests;\nmod texts;"))
+        write_file(root, text.read().replace("mod texts;", "#[cfg(test)]\nmod tests;\nmod texts;"))
 
 
 def copy(name: str, top: str, model: Model = MODEL) -> None:
@@ -71,12 +71,14 @@ def copy(name: str, top: str, model: Model = MODEL) -> None:
         for path in glob.glob(os.path.join(source, part, "**", "*.*"), recursive=True):
             to = renamed(os.path.relpath(path, source), model, name)
             with open(path, encoding="utf-8") as text:
-                write(os.path.join(top, "crates", name, to), renamed(text.read(), model, name))
+                write_file(os.path.join(top, "crates", name, to), renamed(text.read(), model, name))
     add_test(name, top, model)
     path = os.path.join(top, "crates.txt")
     with open(path, encoding="utf-8") as text:
         line = lines_of(top)[model[0]]
-        write(path, text.read().replace(line, f"{line}\n{renamed(line, model, name)} sync_rounds"))
+        write_file(
+            path, text.read().replace(line, f"{line}\n{renamed(line, model, name)} sync_rounds")
+        )
 
 
 def main() -> int:

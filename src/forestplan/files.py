@@ -58,7 +58,7 @@ def text_name(path: str) -> str:
     return "standard input" if path == "-" else one_line(path)
 
 
-def write(given: argparse.Namespace, text: str | bytes) -> None:
+def write_output(given: argparse.Namespace, text: str | bytes) -> None:
     """Writes what a command has made: to the file of -o, which stays as it was until all is written, or to standard
     output."""
     data = text if isinstance(text, bytes) else as_utf8(text).encode()

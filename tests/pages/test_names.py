@@ -23,7 +23,6 @@ SEVERAL = {
     "of_nodes": 2,
     "plan": 2,
     "rounds": 2,
-    "write": 2,
 }
 
 

@@ -253,7 +253,7 @@ READS = {
         "write_wheel: wheel.read",
     ): "a file of this folder, as it was packed",
     # What is written.
-    ("src/forestplan/files.py", "write: open"): WRITTEN,
+    ("src/forestplan/files.py", "write_output: open"): WRITTEN,
     ("src/forestplan/files.py", "write_apart: open"): WRITTEN,
     ("src/forestplan/process_exit.py", "run_command: os.open"): WRITTEN,
     ("src/forestplan/studio/building.py", "Building.look: open"): WRITTEN,
@@ -261,7 +261,7 @@ READS = {
     ("src/forestplan/studio/studio.py", "open_browser: open"): WRITTEN,
     ("src/forestplan/studio/studio.py", "open_browser: os.open"): WRITTEN,
     ("src/forestplan/studio/studio.py", "open_browser: webbrowser.open"): "a browser opens it",
-    ("src/forestplan/workshop/class_files.py", "write: open"): WRITTEN,
+    ("src/forestplan/workshop/class_files.py", "write_file: open"): WRITTEN,
     ("src/forestplan/workshop/compiling.py", "unpack: open"): WRITTEN,
     ("src/forestplan/workshop/grade.py", "write_reports: open"): WRITTEN,
     ("src/forestplan/workshop/workshop.py", "keep: open"): WRITTEN,

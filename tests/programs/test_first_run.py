@@ -108,7 +108,7 @@ CRATES = (
 
 
 def write(path, text, mode=0o644):
-    class_files.write(path, text)
+    class_files.write_file(path, text)
     os.chmod(path, mode)
 
 

@@ -6,7 +6,7 @@ from argparse import ArgumentParser, Namespace
 
 from forestplan.fault_codes import Code
 from forestplan.faults import Fault, InText
-from forestplan.files import bytes_at, text_at, write
+from forestplan.files import bytes_at, text_at, write_output
 from forestplan.limits import MAX_CHANNEL
 from forestplan.networks.fields import shown_field
 from forestplan.networks.forms import Unsaid, decoded_text
@@ -189,5 +189,7 @@ def main(arguments: list[str]) -> int:
     else:
         rows = plan_rows(text, "the plan", 0, 10**MOST_DIGITS)
     of = numbers_for(rows, table, given)
-    write(given, "plan\n" + "".join(f"{vertex} {of[channel]}\n" for _, vertex, channel in rows))
+    write_output(
+        given, "plan\n" + "".join(f"{vertex} {of[channel]}\n" for _, vertex, channel in rows)
+    )
     return 0

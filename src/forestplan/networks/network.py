@@ -7,7 +7,7 @@ import sys
 
 from forestplan.fault_codes import Code
 from forestplan.faults import Fault
-from forestplan.files import text_at, write
+from forestplan.files import text_at, write_output
 from forestplan.network import Network
 from forestplan.networks import tables
 from forestplan.networks.channels import channels_asked
@@ -168,5 +168,5 @@ def main(arguments: list[str]) -> int:
         text = doers[given.command](given) if given.command in doers else made_text(given)
     except Unsaid as why:
         raise commands_for(why, ["network", arguments[0]], arguments[1:]) from None
-    write(given, text)
+    write_output(given, text)
     return 0

@@ -26,7 +26,7 @@ from forestplan.definitions.reacting_program import Reacting
 from forestplan.definitions.rounds import ColouringRounds
 from forestplan.fault_codes import Code
 from forestplan.faults import Fault, InText, at_most
-from forestplan.files import MOST_OF_TRANSCRIPT, text_at, text_name, write
+from forestplan.files import MOST_OF_TRANSCRIPT, text_at, text_name, write_output
 from forestplan.network import Network
 from forestplan.networks.network_text import network_in_bytes, stem
 from forestplan.networks.plan_text import read_plan
@@ -551,5 +551,5 @@ def main(arguments: list[str]) -> int:
     except proved_programs.ProgramRefused as why:
         sys.stderr.write(why.message)
         return why.status
-    write(given, picture)
+    write_output(given, picture)
     return 0

@@ -12,7 +12,7 @@ from forestplan.definitions.colours import at_parent, colours, drop, shift
 from forestplan.definitions.events import Event
 from forestplan.definitions.nodes import alpha_start, last_pulse
 from forestplan.definitions.rounds import LAST_COLOUR, ColouringRounds
-from forestplan.files import write
+from forestplan.files import write_output
 from forestplan.network import Network
 from forestplan.networks.random_networks import alike_edges
 from forestplan.networks.texts import plain_text
@@ -272,5 +272,7 @@ def command_line() -> Parser:
 
 def main(arguments: list[str]) -> int:
     given = command_line().parse_args(arguments)
-    write(given, sheets_html(given.seed, given.sheets, given.answers, given.lesson or LESSONS))
+    write_output(
+        given, sheets_html(given.seed, given.sheets, given.answers, given.lesson or LESSONS)
+    )
     return 0

@@ -15,7 +15,7 @@ from forestplan.definitions.programs import add_program, any_program_asked, prog
 from forestplan.definitions.reacting_program import Reacting, ReactingNode, check_reactions
 from forestplan.fault_codes import Code
 from forestplan.faults import Fault
-from forestplan.files import write
+from forestplan.files import write_output
 from forestplan.network import Network
 from forestplan.networks.sources import network_at
 from forestplan.parsers import add_output, add_seed, count, parser_of
@@ -179,7 +179,7 @@ def main(arguments: list[str]) -> int:
         found = networks_found(given)
     else:
         found = rounds_found(given) if asks_for_rounds(given) else schedules_found(given)
-    write(given, found_as_json(found) if given.json else found.words)
+    write_output(given, found_as_json(found) if given.json else found.words)
     return int(found.broken)
 
 

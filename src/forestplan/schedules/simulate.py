@@ -25,7 +25,7 @@ from forestplan.definitions.reacting_program import (
 )
 from forestplan.fault_codes import Code
 from forestplan.faults import Fault, InText
-from forestplan.files import text_at, text_name, write
+from forestplan.files import text_at, text_name, write_output
 from forestplan.network import Edge, Network
 from forestplan.networks.fields import shown_field
 from forestplan.networks.sources import network_at
@@ -375,7 +375,7 @@ def main(arguments: list[str]) -> int:
     check_names(net, given)
     program = any_program_asked("simulate", given, net)
     player = run_asked(net, given, program)
-    write(given, text_of_run(net.nodes, player.made, program))
+    write_output(given, text_of_run(net.nodes, player.made, program))
     if why := wrong_at_end(net, program, player):
         print(f"simulate: what the nodes find at the end isn't right: {why}", file=sys.stderr)
     return int(bool(why))

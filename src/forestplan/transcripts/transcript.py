@@ -11,7 +11,7 @@ from forestplan.definitions.programs import PROGRAMS, add_program, any_program_a
 from forestplan.definitions.reacting_program import AnyProgram, Reacting
 from forestplan.fault_codes import Code
 from forestplan.faults import Fault
-from forestplan.files import MOST_OF_TRANSCRIPT, bytes_at, text_name, write
+from forestplan.files import MOST_OF_TRANSCRIPT, bytes_at, text_name, write_output
 from forestplan.network import Network
 from forestplan.networks.network_text import network_in_bytes
 from forestplan.networks.sources import network_bytes
@@ -200,7 +200,7 @@ def main(arguments: list[str]) -> int:
     # Nothing that is made here goes round in a circle that would have to be collected before the end.
     gc.disable()
     try:
-        write(
+        write_output(
             given,
             {"check": right_verdict, "replay": replay_output, "convert": converted}[given.command](
                 given
@@ -214,7 +214,7 @@ def main(arguments: list[str]) -> int:
                 "code": wrong.word,
                 "words": wrong.sentence(),
             }
-            write(given, json.dumps(found) + "\n")
+            write_output(given, json.dumps(found) + "\n")
         else:
             print(wrong, file=sys.stderr)
         return 1

@@ -123,11 +123,11 @@ def page_for_a_class(text: str, path: str, paths: Collection[str]) -> str:
 def write_scripts(room: str) -> None:
     """The scripts that run the programs."""
     for name in FIRST:
-        write(os.path.join(room, "bin", name), SCRIPT)
+        write_file(os.path.join(room, "bin", name), SCRIPT)
         os.chmod(os.path.join(room, "bin", name), 0o755)
 
 
-def write(path: str, text: str) -> None:
+def write_file(path: str, text: str) -> None:
     os.makedirs(os.path.dirname(path), exist_ok=True)
     with open(path, "w", encoding="utf-8") as file:
         file.write(text)
@@ -141,7 +141,7 @@ def write_sums(room: str) -> None:
         with open(path, "rb") as file:
             found = hashlib.sha256(file.read()).hexdigest()
         lines += f"{found}  {os.path.relpath(path, room)}\n"
-    write(os.path.join(room, "SHA256SUMS"), lines)
+    write_file(os.path.join(room, "SHA256SUMS"), lines)
 
 
 def is_free(folder: str) -> bool:
@@ -203,8 +203,8 @@ def copy_class(room: str) -> None:
         shutil.copy(source, os.path.join(room, path))
         if path.endswith(".md"):
             with open(source, encoding="utf-8") as file:
-                write(os.path.join(room, path), page_for_a_class(file.read(), path, found))
+                write_file(os.path.join(room, path), page_for_a_class(file.read(), path, found))
     write_scripts(room)
-    write(os.path.join(room, "README.md"), README)
-    write(os.path.join(room, "VERSION"), version.version_text())
+    write_file(os.path.join(room, "README.md"), README)
+    write_file(os.path.join(room, "VERSION"), version.version_text())
     write_sums(room)
