@@ -68,7 +68,7 @@ OWN = {
     ("src/forestplan/networks/foreign.py", "graph_read: for in warned"): "a list of warnings",
     (
         "src/forestplan/networks/network.py",
-        "was_read: tables.Sites(table, given.stated).read",
+        "was_read: tables.SiteTable(table, given.stated).read",
     ): "the method of `Sites` for a text",
     **{
         ("src/forestplan/networks/tables.py", f"{where}.read"): "the method of `Table` for a text"

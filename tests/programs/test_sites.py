@@ -149,8 +149,8 @@ class Sites(Case):
         """As many as a network has nodes are read, and the first one above is refused by its line."""
         sites = [f"s{number}" for number in range(1, MAX_NODES + 2)]
         with self.assertRaisesRegex(Fault, f"t line {MAX_NODES + 2}: more than {MAX_NODES} sites"):
-            tables.Sites("t", Stated()).read("\n".join(["site", *sites]))
-        found = tables.Sites("t", Stated()).read("\n".join(["site", *sites[:-1]]))
+            tables.SiteTable("t", Stated()).read("\n".join(["site", *sites]))
+        found = tables.SiteTable("t", Stated()).read("\n".join(["site", *sites[:-1]]))
         self.assertEqual(list(found.lines), sites[:-1])
 
     def test_known_sites(self):

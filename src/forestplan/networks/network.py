@@ -71,7 +71,7 @@ def was_read(given: Namespace) -> str:
     found = Listed("sites") if given.file is None else file_listed(given, name)
     if given.sites:
         text, table = text_asked(given, given.sites)
-        sites = tables.Sites(table, given.stated).read(text)
+        sites = tables.SiteTable(table, given.stated).read(text)
         tables.with_sites(found, sites, name)
         if given.reach is not None:
             tables.join_near(found, sites, given.reach)

@@ -58,7 +58,7 @@ def real_channel(table: Table, line: int, row: dict[str, str]) -> int:
 # Sites.
 
 
-class Sites:
+class SiteTable:
     """A table of sites, once `read` was called: the line of each, its identifier, and its place in kilometres or in
     degrees, if it has them. `columns` are the two by which places are read.
 
@@ -75,7 +75,7 @@ class Sites:
         self.identifiers: dict[str, int] = {}
         self.owners: dict[int, str] = {}
 
-    def read(self, text: str) -> "Sites":
+    def read(self, text: str) -> "SiteTable":
         """Reads a text, and returns these sites.
 
         Raises `Fault` of its first fault, and `Unsaid` of columns that the user has to state."""
@@ -129,7 +129,7 @@ class Sites:
         return {name: (x, -y) for name, (x, y) in self.places.items()}
 
 
-def with_sites(found: Listed, sites: Sites, path: str) -> None:
+def with_sites(found: Listed, sites: SiteTable, path: str) -> None:
     """Makes the sites of a table the nodes, in its order, with their identifiers and places."""
     table = sites.table.name
     named = found.ends() if found.nodes is None else list(found.nodes.items())
@@ -142,7 +142,7 @@ def with_sites(found: Listed, sites: Sites, path: str) -> None:
     found.notes += [begin + note for note in sites.notes]
 
 
-def join_near(found: Listed, sites: Sites, reach: float) -> None:
+def join_near(found: Listed, sites: SiteTable, reach: float) -> None:
     """Joins the sites that are less than the reach apart."""
     table = sites.table
     if not sites.places:

@@ -21,7 +21,7 @@ NUMBER, IDENTIFIER, CHANNEL = (re.compile(f"[0-9]{{1,{most}}}") for most in (5, 
 
 
 @dataclass
-class Node:
+class AddressNode:
     """A node, while it is read: an identifier is its digits, or empty for the node's own number."""
 
     x: int
@@ -35,7 +35,7 @@ class Node:
 class Drawn:
     """Nodes, and edges (v, w) from 1, the lower node first, ascending."""
 
-    nodes: list[Node]
+    nodes: list[AddressNode]
     edges: list[tuple[int, int]]
 
     def for_page(self) -> Net:
@@ -84,11 +84,11 @@ def drawn_of(code: str) -> Drawn:
     return found
 
 
-def node_at(place: str) -> Node:
+def node_at(place: str) -> AddressNode:
     found = PLACE.fullmatch(place)
     if not found:
         raise Fault(Code.NO_PLACE, spot=shown_field(place))
-    return Node(int(found[1]), int(found[2]))
+    return AddressNode(int(found[1]), int(found[2]))
 
 
 def of_nodes(said: str, nodes: int) -> Iterator[tuple[int, str]]:
@@ -113,7 +113,7 @@ def drawn_edges(said: str, nodes: int) -> set[tuple[int, int]]:
     return found
 
 
-def add_identifier(node: Node, v: int, said: str) -> None:
+def add_identifier(node: AddressNode, v: int, said: str) -> None:
     if not IDENTIFIER.fullmatch(said):
         raise Fault(Code.IDENTIFIER_NO_NUMBER, node=v, said=shown_field(said))
     if node.id:
@@ -121,7 +121,7 @@ def add_identifier(node: Node, v: int, said: str) -> None:
     node.id = said
 
 
-def add_bar(node: Node, v: int, said: str) -> None:
+def add_bar(node: AddressNode, v: int, said: str) -> None:
     if not CHANNEL.fullmatch(said) or not 1 <= int(said) <= MAX_CHANNEL:
         raise Fault(Code.CHANNEL_NOT_TO_BAR, said=shown_field(said), node=v, most=MAX_CHANNEL)
     if int(said) in node.bars:
@@ -129,13 +129,13 @@ def add_bar(node: Node, v: int, said: str) -> None:
     node.bars.append(int(said))
 
 
-def add_name(node: Node, v: int, said: str) -> None:
+def add_name(node: AddressNode, v: int, said: str) -> None:
     if node.name:
         raise Fault(Code.TWO_NAMES, node=v)
     node.name = percent_decoded(said)
 
 
-ADDS: dict[str, Callable[[Node, int, str], None]] = {
+ADDS: dict[str, Callable[[AddressNode, int, str], None]] = {
     "i": add_identifier,
     "b": add_bar,
     "n": add_name,
