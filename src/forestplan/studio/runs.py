@@ -47,7 +47,7 @@ from forestplan.studio.call_values import (
     program_of_call,
     rules_asked,
 )
-from forestplan.studio.dares import impossible, dare_judged as dare_judged, channels_or_results
+from forestplan.studio.dares import channels_or_results, dare_judged, impossible
 from forestplan.studio.judges import (
     PYTHON,
     beginning_judged,
