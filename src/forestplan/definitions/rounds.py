@@ -113,7 +113,7 @@ class ColouringRounds:
     `first`, which is `merged[0]`, are the least colours that aren't barred. `turns[f, v]` is the pulse of the merge of
     forest f at which v chooses.
 
-    >>> rounds = Rounds(Network(2, [(1, 2)]))
+    >>> rounds = ColouringRounds(Network(2, [(1, 2)]))
     >>> rounds.parents, rounds.turns, rounds.merged[-1]
     ({(1, 0): 2}, {(0, 1): 13, (0, 2): 15}, {1: 0, 2: 1})
     """

@@ -33,10 +33,10 @@
 Make a network, say what it is, and write it:
 
 >>> from forestplan.networks.kinds import KINDS
->>> from forestplan.networks.texts import text_of
+>>> from forestplan.networks.texts import dimacs_text
 >>> star = KINDS["star"].make(4)
 >>> star.edges, star.greatest_degree, star.channels
 ([(1, 4), (2, 4), (3, 4)], 3, 4)
->>> text_of(KINDS["path"].make(2)).splitlines()[-1]
+>>> dimacs_text(KINDS["path"].make(2)).splitlines()[-1]
 'e 1 2'
 """

@@ -177,9 +177,9 @@ def told_of_text(text: str) -> Told | None:
     """What is told of a fault, as `C8`, `C8 vertex 1` or `forestplay: NotReady line 9: safe 0 of 2`; None if the words
     are no fault.
 
-    >>> code_of("C3 vertex 5").what
+    >>> told_of_text("C3 vertex 5").what
     'vertex 5 has a second line in the plan'
-    >>> code_of("C99") is None
+    >>> told_of_text("C99") is None
     True
     """
     found = WRITTEN.fullmatch(text)
@@ -208,7 +208,7 @@ def told_of(code: str, at: str = "", more: str = "") -> Told | None:
 def tell_code(told: Told) -> list[str]:
     """What a fault means, and what to do, a line each.
 
-    >>> print(*tell_code(code_of("C3")), sep="\\n")
+    >>> print(*tell_code(told_of_text("C3")), sep="\\n")
     C3, a fault of a plan: a vertex has a second line in the plan
     what to do: leave one of them
     """

@@ -80,7 +80,7 @@ def most_payloads(network: Network) -> int:
 def processor_seconds(run: RunSize, command: str) -> float:
     """About how many seconds of processor time `plan` or `transcript` takes, by its wires alone.
 
-    >>> run = Run(Network(2, [(1, 2)]))
+    >>> run = RunSize(Network(2, [(1, 2)]))
     >>> processor_seconds(run, "transcript") > processor_seconds(run, "plan")
     True
     """

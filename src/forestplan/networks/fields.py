@@ -22,7 +22,7 @@ def field_number(field: str) -> int | None:
     """The number of a field, or None if it has something else than digits. A number that no text of ours may hold is
     one that is greater than all of them.
 
-    >>> whole("007"), whole("-7")
+    >>> field_number("007"), field_number("-7")
     (7, None)
     """
     if not re.fullmatch(r"[0-9]+", field):
@@ -34,7 +34,7 @@ def field_number(field: str) -> int | None:
 def shown_field(field: str) -> str:
     """A field as it may be printed in one line: of a long one the first letters, and no mark that ends a line.
 
-    >>> shown("a" * 50)
+    >>> shown_field("a" * 50)
     'aaaaaaaaaaaaaaaaaaaaaaaaaaaaaaaaaaaaa..'
     """
     return one_line(field if len(field) <= 40 else field[:37] + "..")

@@ -159,7 +159,7 @@ def letters_of(data: bytes, name: str, stated: str | None) -> str:
 def decoded_text(data: bytes, name: str, stated: str | None) -> str:
     """The text of a file, whose lines end with line feeds.
 
-    >>> decoded(b"a\\r\\nb\\rc", "text", None)
+    >>> decoded_text(b"a\\r\\nb\\rc", "text", None)
     'a\\nb\\nc'
 
     Raises `Fault` and `Unsaid` as `letters_of` does, and `Fault` of a letter of value zero.

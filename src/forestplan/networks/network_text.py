@@ -180,7 +180,7 @@ def reading_of(text: str, path: str) -> Reading:
 def checked_network(network: Network, path: str) -> Network:
     """The same network, if it is within the limits and its identifiers differ. `path` is what a fault calls it.
 
-    >>> checked(Network(2, [(1, 2)]), "two").nodes
+    >>> checked_network(Network(2, [(1, 2)]), "two").nodes
     2
 
     Raises `Fault` of too many nodes, edges or neighbours, and of an identifier that two vertices have.
@@ -226,7 +226,7 @@ def read_network(text: str, path: str) -> Network:
 def network_in_bytes(data: bytes, path: str = "the network") -> Network:
     """The same as `read_network`, of a text in bytes. What is no UTF-8 in it is read as a mark of its own.
 
-    >>> network_of(b"p edge 2 1\\ne 1 2\\n").edges
+    >>> network_in_bytes(b"p edge 2 1\\ne 1 2\\n").edges
     [(1, 2)]
     """
     return read_network(data.decode("utf-8", "replace"), path)

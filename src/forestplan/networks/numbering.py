@@ -18,7 +18,7 @@ def network_in_order(
 ) -> Network:
     """The network of the vertices of `order` alone, in this order. `identifiers` has theirs.
 
-    >>> in_order(Network(3, [(1, 2), (2, 3)]), [3, 2], {}).names
+    >>> network_in_order(Network(3, [(1, 2), (2, 3)]), [3, 2], {}).names
     {1: '3', 2: '2'}
     """
     number = {old: new for new, old in enumerate(order, 1)}

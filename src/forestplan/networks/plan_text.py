@@ -14,7 +14,7 @@ PlanRow = tuple[int, int, int]
 def plan_rows(text: str, name: str, least: int = 1, below: int = 2**32) -> list[PlanRow]:
     """(line, vertex, channel) of the lines of a plan, with channels from `least` on and numbers below `below`.
 
-    >>> rows_of("plan\\n1 3\\n", "the plan")
+    >>> plan_rows("plan\\n1 3\\n", "the plan")
     [(2, 1, 3)]
 
     Raises `Fault` of the first line that is no line of a plan.

@@ -17,7 +17,7 @@ PAIRS = 40
 def random_below(source: Random, bound: int) -> int:
     """A random number from 0 to bound - 1, the same on every machine.
 
-    >>> 0 <= below(Random(7), 10) < 10
+    >>> 0 <= random_below(Random(7), 10) < 10
     True
     """
     return int(source.random() * bound)

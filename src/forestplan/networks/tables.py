@@ -62,7 +62,7 @@ class SiteTable:
     """A table of sites, once `read` was called: the line of each, its identifier, and its place in kilometres or in
     degrees, if it has them. `columns` are the two by which places are read.
 
-    >>> Sites("sites.csv", Stated()).read("site,x_km,y_km\\nUlm,1,2\\n").on_picture()
+    >>> SiteTable("sites.csv", Stated()).read("site,x_km,y_km\\nUlm,1,2\\n").on_picture()
     {'Ulm': (1.0, -2.0)}
     """
 

@@ -37,7 +37,7 @@ def plain_text(network: Network) -> str:
 def dimacs_text(network: Network, head: Iterable[str] = ()) -> str:
     """The same after the comment lines: those of `head`, places and names.
 
-    >>> print(text_of(Network(1, [], names={1: "Ulm"}), ["Two sites"]), end="")
+    >>> print(dimacs_text(Network(1, [], names={1: "Ulm"}), ["Two sites"]), end="")
     c Two sites
     c name 1 Ulm
     p edge 1 0

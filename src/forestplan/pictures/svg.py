@@ -48,7 +48,7 @@ def escaped(text: str | float) -> str:
 def attribute_text(text: str) -> str:
     """A text between the quotes of an attribute.
 
-    >>> print(quoted('5" <'))
+    >>> print(attribute_text('5" <'))
     5&quot; &lt;
     """
     return escaped(text).replace('"', "&quot;")

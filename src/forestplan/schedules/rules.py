@@ -146,7 +146,7 @@ ALL = OF_SCHEDULES | OF_ANY_ROUNDS
 def program_with_rules(names: Collection[str]) -> str | None:
     """The program whose rounds have all these rules, or None.
 
-    >>> program_of(["shift"]), program_of(["shift", "no such rule"])
+    >>> program_with_rules(["shift"]), program_with_rules(["shift", "no such rule"])
     ('colouring', None)
     """
     return next((name for name, of in OF_PROGRAMS.items() if set(names) <= set(of)), None)

@@ -30,7 +30,7 @@ class NoEntry(Fault):
 def fields_in_bytes(line: bytes) -> list[bytes]:
     """The fields of a line: blanks and tabs part them, and a carriage return at the end is dropped.
 
-    >>> fields_of(b"1  pulse\\t3\\r")
+    >>> fields_in_bytes(b"1  pulse\\t3\\r")
     [b'1', b'pulse', b'3']
     """
     return [field for field in line.removesuffix(b"\r").replace(b"\t", b" ").split(b" ") if field]
@@ -87,7 +87,7 @@ def bound_of(program: str, word: bytes) -> int:
 def number_in_field(field: bytes, what: str, bound: int = 2**32) -> int:
     """The number of a field, from 0 and below the bound; `what` it is of is said in a refusal.
 
-    >>> number(b"0017", "pulse")
+    >>> number_in_field(b"0017", "pulse")
     17
 
     Raises `NoEntry` of a field that is none.

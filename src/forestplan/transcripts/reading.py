@@ -82,7 +82,7 @@ def transcript_read(text: bytes, program: str | None = COLOURING) -> tuple[Head,
     """The first line, and the entries in the order of the text, with the payloads of the program of this name; without
     one, of the program that the text names, or of the colouring.
 
-    >>> head, entries = read(b"transcript 2 2\\n1 1 put 2 payload 0 hello 1\\n")
+    >>> head, entries = transcript_read(b"transcript 2 2\\n1 1 put 2 payload 0 hello 1\\n")
     >>> head.edition, head.nodes, str(entries[0].what)
     (2, 2, 'payload 0 hello 1')
 
