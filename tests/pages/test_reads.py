@@ -61,22 +61,18 @@ OWN = {
         "src/forestplan/networks/network_text.py",
         "reading_of: read.read",
     ): "the method of `Reading` for a line",
-    (
-        "src/forestplan/networks/reading.py",
-        "listed_of: foreign.graph_read",
-    ): "the function of foreign.py for bytes",
     ("src/forestplan/networks/foreign.py", "graph_read: for in warned"): "a list of warnings",
     (
         "src/forestplan/networks/network.py",
         "was_read: tables.SiteTable(table, given.stated).read",
-    ): "the method of `Sites` for a text",
+    ): "the method of `SiteTable` for a text",
     **{
         ("src/forestplan/networks/tables.py", f"{where}.read"): "the method of `Table` for a text"
         for where in (
             "pairs: Table(name, stated, ('source', 'target'))",
             "licence_of: Table(name, stated, ('channel',))",
             "with_bars: Table(name, stated, ('site', 'channel'))",
-            "Sites.read: self.table",
+            "SiteTable.read: self.table",
         )
     },
     (
