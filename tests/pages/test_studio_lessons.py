@@ -54,6 +54,12 @@ SEEN_AT = """(v => { const b = document.querySelector(`#net [data-node="${v}"] c
   return [b.x + b.width / 2, b.y + b.height / 2]; })"""
 # The keys that the tests press, with their numbers.
 KEYS = {"Enter": 13, " ": 32, "Tab": 9, "End": 35, "PageDown": 34}
+# How much is seen of what has the answer to a question; and a text of the card, outside of code, that has marks of its
+# source.
+TELLS = "Array.from(document.querySelectorAll('.tells')).filter(one => one.getClientRects().length).length"
+MARKS = """Array.from(lesson.querySelectorAll('.instruction :is(p, label, button, summary, li)'),
+  one => { const copy = one.cloneNode(true); copy.querySelectorAll('code').forEach(code => code.remove()); return copy.textContent; })
+  .filter(said => /[`*]|\\]\\(/.test(said)).join(' | ')"""
 TICKED = (
     "lesson.querySelector('.judged') && lesson.querySelector('.judged').textContent.startsWith('☑')"
 )
@@ -139,7 +145,7 @@ def answers_of_rounds() -> dict[tuple[int, str], int]:
         (2, "forests"): low.forest_count,
         (3, "six"): max(nexts),
         (4, "first"): merge[0][1],
-        (4, "identifiers"): 2,
+        (4, "identifiers"): 1,
         (4, "pulse"): ColouringRounds(ring).turns[1, 4],
         (5, "neighbours"): 1,
         (5, "ends"): 5,
@@ -541,7 +547,7 @@ class Cards(Page):
                 self.press(" ", f"#question2 [value='{one}']")
             self.press("Enter", "#question2 form button")
             return
-        answers = {"bit": "2", "root": "0", "again": "3", "shift": "5", "drop": "2", "turn": "3"}
+        answers = {"bit": "4", "root": "1", "again": "0", "shift": "5", "drop": "2", "turn": "3"}
         self.type_in("#question input", answers.get(name, "partner 1"))
 
     def do(self, lesson: int, exercise: SaidExercise | SeenExercise | PredictedExercise) -> None:
@@ -567,8 +573,12 @@ class Cards(Page):
             if step.exercise:
                 self.own_words(step.exercise)
                 self.reads("not done yet", f"Boolean({TICKED})", False)
+                if isinstance(step.exercise, SaidExercise):
+                    self.reads("nothing tells the answer", TELLS, 0)
                 self.do(number, step.exercise)
                 self.ticked(f"{number} {step.exercise.name}")
+                self.looks_done(f"{number} {step.exercise.name}")
+            self.same(f"lesson {number} step {k} has no marks of its source", self.value(MARKS), "")
             self.press("n")
         self.open()
         self.go_to("lesson=1")
@@ -582,6 +592,12 @@ class Cards(Page):
             ".map(one => one.textContent.endsWith('✓'))"
         )
         self.same("in the menu, too", menu, [True] * 8)
+
+    def looks_done(self, name: str) -> None:
+        """What is done is said below the network, too, where it is seen on a phone, and the card has another look."""
+        self.sees(f"{name} is said to be done", "hint.textContent.startsWith('☑ Done.')", 20)
+        self.reads("it looks done", "lesson.classList.contains('done')", True)
+        self.reads("in full colour", "lesson.querySelector('.judged').className", "judged good")
 
     def own_words(self, exercise: SaidExercise | SeenExercise | PredictedExercise) -> None:
         """The hint and the answer are those of this exercise; they are read only when they are opened."""
@@ -748,8 +764,8 @@ class Cards(Page):
         self.go_to("lesson=3&step=2")
         self.step_to(3, 2)
         self.reads("in the card", inside, [True, False])
-        self.type_in("#question input", "2")
-        self.sees("it is answered", "question.textContent.includes('✓ Yes: 2.')")
+        self.type_in("#question input", "4")
+        self.sees("it is answered", "question.textContent.includes('✓ Yes: 4.')")
         # The lesson leads on, and no other question.
         self.reads("no next question", "question.querySelectorAll('.verdict button').length", 0)
         self.click_on("#next")

@@ -84,8 +84,8 @@ CHANNELS = LessonSteps(
             "",
             "Nobody is in charge. A transmitter knows only its own number, its links, and four counts: how many "
             "transmitters there are; the most neighbours that any of them has; the most neighbours with a higher "
-            "number; and the most channels that are barred at one, which it must not use. Click a transmitter: the "
-            "panel says what it knows of its links.",
+            "number; and the most channels that are barred at one, which it must not use. Click a transmitter: "
+            "[below this card](panel:chosen) you read which neighbours it has.",
         ),
         TableStep(
             "example=petersen&tab=check&plan=1_2_1_2",
@@ -106,12 +106,12 @@ CHANNELS = LessonSteps(
             "1 – 2 – 3 – 4 takes two channels.)",
             SeenExercise(
                 name="row",
-                hint="Let the numbers go up and down by turns along the row.",
-                answer="Join 3 with 1, 1 with 4, and 4 with 2. The only other way is 1 – 4 – 2 – 3.",
+                hint="Transmitter 4 lies between the transmitters 1 and 2.",
+                answer="Join 3 with 1, 1 with 4, and 4 with 2. The only other row is 1 – 4 – 2 – 3.",
             ),
         ),
         TableStep(
-            "net=0.0_90.0_180.0_270.0~1-2_2-3_3-4&tab=draw",
+            "net=0.0_90.70_180.0_270.70~1-2_2-3_3-4&tab=draw",
             "Why don't transmitters simply choose in the order of their numbers? Each of them would wait until all "
             "its neighbours with a lower number have chosen. A transmitter without such a neighbour chooses in "
             "round 1.",
@@ -130,16 +130,17 @@ CHANNELS = LessonSteps(
             SeenExercise(
                 name="two",
                 hint="Two of the four have to choose in round 1, so these two need no neighbour with a lower number.",
-                answer="1 – 3 – 2 – 4. The transmitters 1 and 2 choose in round 1, and 3 and 4 in round 2.",
+                answer="For example 1 – 3 – 2 – 4. The transmitters 1 and 2 choose in round 1, and 3 and 4 in round 2.",
             ),
         ),
         TableStep(
             "example=path&tab=draw",
-            "The program needs far fewer rounds in a long row. Below *Make a network* choose *path*, type 400 nodes, "
-            "and press *make*. Then read in the panel how many rounds the plan took.",
+            "The program needs far fewer rounds in a long row. Below *Make a network*, which is "
+            "[below this card](panel:make), choose *path*, type 400 nodes, and press *make*. Then read "
+            "[in its facts](panel:plan) how many rounds the plan took.",
             SeenExercise(
                 name="long",
-                hint="*Make a network* is in the panel, below the plan and the chosen node.",
+                hint="*Make a network* is below this card, between the facts on the plan and the network as text.",
                 answer="A row that is numbered from end to end takes the rounds 0 to 21, whether it has 3 nodes or "
                 "400. In the order of the numbers 400 transmitters would take 400 rounds. (Your row with three "
                 "channels took the rounds 0 to 30, because it has two forests: lesson 2 says what these are.)",
@@ -156,13 +157,13 @@ FORESTS = LessonSteps(
             "From now on a transmitter is called a *node*, and its number its *identifier*. Here are four nodes in a "
             "ring. Each node numbers its neighbours with a higher identifier, the lowest first, from 0. The edge to "
             "neighbour 0 is in forest 0, the edge to neighbour 1 in forest 1. An arrow goes from the lower node, the "
-            "*child*, to the higher one, its *parent*. Choose *forest 0* and *forest 1* in the panel: every edge is in "
-            "exactly one of the two.",
+            "*child*, to the higher one, its *parent*. Choose *forest 0* and *forest 1* "
+            "[below this card](panel:forests): every edge is in exactly one of the two.",
             SaidExercise(
                 name="root",
                 asks="Follow the arrows of forest 0 from node 1. At which node do they end?",
                 right="4",
-                hint="The arrows of forest 0 are the dark ones while *forest 0* is chosen in the panel.",
+                hint="The arrows of forest 0 are the dark ones while *forest 0* is chosen below this card.",
                 answer="At node 4: from 1 to 2, from 2 to 3, from 3 to 4. Node 4 has no parent, so it is a *root*.",
             ),
         ),
@@ -179,10 +180,10 @@ FORESTS = LessonSteps(
                     "no node has more than two neighbours",
                     "a ring has an even number of nodes",
                 ),
-                hint="Walk along the arrows and look at the identifiers of the nodes that you come to.",
-                answer="Each arrow leads to a higher identifier. In one forest at most one arrow leaves each node, so "
-                "on a ring all arrows would lead the same way round. Whoever walks along them comes to higher and "
-                "higher identifiers, and never back.",
+                hint="Suppose that there is a ring. Which arrows of the ring leave its node with the lowest identifier?",
+                answer="Each arrow leads to a higher identifier. Suppose that some arrows of a forest close a ring. "
+                "The node of the ring with the lowest identifier has two neighbours on the ring, both are higher, "
+                "and so two arrows leave it. But in one forest at most one arrow leaves each node.",
             ),
         ),
         TableStep(
@@ -200,13 +201,15 @@ FORESTS = LessonSteps(
         ),
         TableStep(
             "example=star&tab=draw&node=9",
-            "Try it. The centre is chosen, and the panel has its fields. Type 0 into the field *identifier* and press "
-            "Enter. Then read in the panel how many forests the plan took.",
+            "Try it. The centre is chosen, and its fields are [below this card](panel:chosen). Type 0 into the field "
+            "*identifier* and press Enter. The centre is still called node 9 in the picture, and has its new "
+            "identifier in brackets beside it: a node keeps its number, and the algorithm goes by the identifiers. "
+            "Then read [in the facts on the plan](panel:plan) how many forests it took.",
             SeenExercise(
                 name="centre",
-                hint="The field is in the panel, below *Node 9*. If node 9 isn't chosen any more, click it.",
-                answer="With the identifier 0 the centre is the lowest node, and the panel says *by way of 8 "
-                "forests*.",
+                hint="The field is below this card, below *Node 9*. If node 9 isn't chosen any more, click it.",
+                answer="With the identifier 0 the centre is the lowest node, and the facts on the plan say *by way of "
+                "8 forests*.",
             ),
         ),
     ],
@@ -226,32 +229,33 @@ COLOURS = LessonSteps(
             "its next colour is 2·1 + 1 = 3. Press ▶ (one step on) below the network to see it.",
         ),
         TableStep(
-            "example=petersen&tab=rounds&at=2&forest=0&node=8&predict=1",
-            "Now you. Node 8 has the colour 8, and its parent, node 10, has the colour 10. Make the bit step of "
-            "node 8.",
+            "example=petersen&tab=rounds&at=2&forest=1&node=1&predict=1",
+            "Now you, in forest 1. Node 1 has the colour 1, and its parent there, node 5, has the colour 5. Make the "
+            "bit step of node 1.",
             PredictedExercise(
                 name="bit",
-                hint="8 is 1000, and 10 is 1010. In which digit do they differ, counted from the right, from 0?",
-                answer="It is 2. They differ in digit 1, where node 8 has a 0: 2·1 + 0 = 2.",
+                hint="1 is 001, and 5 is 101. In which digit do they differ, counted from the right, from 0?",
+                answer="It is 4. They differ in digit 2, where node 1 has a 0: 2·2 + 0 = 4.",
             ),
         ),
         TableStep(
-            "example=petersen&tab=rounds&at=2&forest=0&node=10&predict=1",
-            "Node 10 has no parent in this forest: it is a root. A root takes *i* = 0, so its next colour is its own "
+            "example=petersen&tab=rounds&at=2&forest=2&node=7&predict=1",
+            "Node 7 has no parent in forest 2: it is a root there. A root takes *i* = 0, so its next colour is its own "
             "digit at the right.",
             PredictedExercise(
                 name="root",
-                hint="10 is 1010. Which is its digit 0, the one at the right?",
-                answer="0, the digit at the right of 1010.",
+                hint="7 is 111. Which is its digit 0, the one at the right?",
+                answer="It is 1, the digit at the right of 111.",
             ),
         ),
         TableStep(
-            "example=petersen&tab=rounds&at=3&forest=0&node=8&predict=1",
-            "One pulse later node 8 has the colour 2, and its parent the colour 0. Which colour comes next at node 8?",
+            "example=petersen&tab=rounds&at=3&forest=1&node=1&predict=1",
+            "Forest 1 again, one pulse later. Node 1 has the colour 4 now. Its parent, node 5, is a root in this "
+            "forest, and has the colour 1. Which colour comes next at node 1?",
             PredictedExercise(
                 name="again",
-                hint="2 is 10, and 0 is 00.",
-                answer="It is 3. They differ in digit 1, where node 8 has a 1: 2·1 + 1 = 3.",
+                hint="4 is 100, and 1 is 001.",
+                answer="It is 0. They differ in digit 0 first, where node 1 has a 0: 2·0 + 0 = 0.",
             ),
         ),
         TableStep(
@@ -301,12 +305,14 @@ MERGE = LessonSteps(
             "forest that is merged, and the number beside it is its *merged colour*, at first 0. The pairs have their "
             "turns one after another: (0, 0), then (0, 1), and so on. When it is a pair's turn, each node that has it "
             "takes the least channel that no neighbour in this forest, or in one merged before, has taken in this "
-            "merge. Press *next change* below the network to go from choice to choice.",
+            "merge. Colours count from 0 and channels from 1: whoever takes channel 2 has the merged colour 1 in "
+            "the next merge. Press *next change* below the network to go from choice to choice.",
             SaidExercise(
                 name="first",
                 asks="Which node chooses first in the merge of forest 1, at pulse 22?",
                 right="3",
-                hint="Press *next change* until the panel says *forest 1*. A node that chooses is ringed in yellow.",
+                hint="Press *next change* until *forest 1* is chosen below this card. A node that chooses is ringed in "
+                "yellow.",
                 answer="Node 3: it has the pair (0, 0).",
             ),
         ),
@@ -322,15 +328,16 @@ MERGE = LessonSteps(
         ),
         TableStep(
             "example=triangle&tab=rounds&at=30&node=2",
-            "Why has node 2 channel 3? The panel says which messages decided it, back to the identifiers. On the "
-            "network a node has a grey ring if its identifier was one of these. Step back with ◀: a dotted message "
-            "decided nothing.",
+            "Why has node 2 channel 3? [Below this card](panel:why) you read which messages decided it, back to the "
+            "identifiers. On the network a node has a grey ring if its identifier was one of these. (Node 2 also has "
+            "the golden ring of the chosen node.) Step back with ◀: a dashed message decided nothing.",
             SaidExercise(
                 name="identifiers",
-                asks="How many of the three identifiers decided it?",
-                right="2",
-                hint="Read the first sentence below *why node 2 has channel 3* in the panel.",
-                answer="Two, those of the nodes 2 and 3.",
+                asks="Which node's identifier played no part in it?",
+                right="1",
+                hint="This node has no grey ring at pulse 30.",
+                answer="That of node 1. In a shift a node takes its parent's colour, so the colours of node 1 go back "
+                "to the identifiers of its parents, the nodes 2 and 3.",
             ),
         ),
         TableStep(
@@ -350,11 +357,11 @@ MERGE = LessonSteps(
         TableStep(
             "example=triangle&tab=draw&node=3",
             "A channel may be barred at a node, for example because a hospital near it has it. Node 3 is chosen, which "
-            "has channel 1. Type 1 into its field *barred channels*, and press Enter. This card then says who has "
-            "another channel than before.",
+            "has channel 1. Type 1 into its field *barred channels* [below this card](panel:chosen), and press Enter. "
+            "This card then says who has another channel than before.",
             SeenExercise(
                 name="bar",
-                hint="The field is in the panel, below *Node 3*. If node 3 isn't chosen any more, click it.",
+                hint="The field is below this card, below *Node 3*. If node 3 isn't chosen any more, click it.",
                 answer="The plan was 2, 3, 1 for the nodes 1, 2, 3. With the bar it is 1, 3, 2: node 3 can't "
                 "have channel 1 any more, and its neighbour node 1 has taken it.",
             ),
@@ -369,13 +376,13 @@ NO_CLOCK = LessonSteps(
             "example=chain6&tab=run&slow=2-3&seed=7&play=1",
             "Nobody strikes the hour any more. Each node goes by itself, and the number in it is its pulse. What goes "
             "over the dotted link waits as long as it can, so the nodes on its left fall behind. Let the run play, or "
-            "move the slider. The panel says how far apart the pulses are, and how far they have been so far.",
+            "move the slider, and compare the numbers of neighbours.",
             SaidExercise(
                 name="neighbours",
                 asks="How many pulses are two neighbours apart at most?",
                 right="1",
-                hint="Move the slider to the end, and read *so far* in the panel.",
-                answer="One. A node makes pulse *p* + 1 only after each neighbour has told it that it is safe in pulse "
+                hint="Stop the run at some places. Which numbers has a node, and which have its two neighbours?",
+                answer="One. Below this card you read now how far apart the pulses are at each place. A node makes pulse *p* + 1 only after each neighbour has told it that it is safe in pulse "
                 "*p*; so each neighbour is at pulse *p* at least.",
             ),
         ),
@@ -405,8 +412,9 @@ NO_CLOCK = LessonSteps(
         ),
         TableStep(
             "example=chain6&tab=adversary&dare=ends&node=1",
-            "Make it happen. Now you are the network, and say what comes next. In the panel press *hold its pulse* of "
-            "node 1. Then press *20 by chance* again and again, until this card says that it is done.",
+            "Make it happen. Now you are the network, and say what comes next. [Below this card](panel:possible) press "
+            "*hold its pulse* of node 1. Then press *20 by chance* again and again, until this card says that it is "
+            "done.",
             SeenExercise(
                 name="far",
                 hint="As long as node 1 makes no pulse, node 2 comes to pulse 1 at most, node 3 to pulse 2, and so on.",
@@ -417,8 +425,8 @@ NO_CLOCK = LessonSteps(
         TableStep(
             "example=chain6&tab=run&slow=2-3&seed=7&other=newest.2",
             "Here are two runs of the same six nodes, one below the other. In the second one other messages come "
-            "first. Let them play. The lines *Beside the rounds* in the panel compare both with a run that has a "
-            "clock.",
+            "first. Let them play. The lines *Beside the rounds* [below this card](panel:same) compare both with a run "
+            "that has a clock.",
             SaidExercise(
                 name="same",
                 asks="What is the same in both runs, and with a clock?",
@@ -428,7 +436,7 @@ NO_CLOCK = LessonSteps(
                     "the order of the events",
                     "which node is ahead",
                 ),
-                hint="Read the lines *Beside the rounds* in the panel.",
+                hint="Read the lines *Beside the rounds* below this card.",
                 answer="The payloads that each pulse reads, and so the channels. It is proved that this holds for "
                 "every network and every order.",
             ),
@@ -442,8 +450,8 @@ SCHEDULES = LessonSteps(
         TableStep(
             "example=path&tab=adversary",
             "You are the network: you choose which message is taken next, and which node makes its pulse. Click a "
-            "message on the network, or a button in the panel, until a node makes pulse 1. A node with a green ring "
-            "can make its pulse now: click it.",
+            "message on the network, or a button [below this card](panel:possible), until a node makes pulse 1. A node "
+            "with a green ring can make its pulse now: click it.",
             SeenExercise(
                 name="pulse",
                 hint="Node 1 has one neighbour, node 2. It needs the ack and the safe of node 2. Node 2 can send its "
@@ -454,14 +462,14 @@ SCHEDULES = LessonSteps(
         ),
         TableStep(
             "example=two&tab=adversary&dare=apart",
-            "A *dare* is a goal: its card is in the panel. Bring two neighbours two pulses apart. All rules are kept. "
-            "Try it for a moment.",
+            "A *dare* is a goal: its card is [below this one](panel:dared). Bring two neighbours two pulses apart. All "
+            "rules are kept. Try it for a moment.",
             SaidExercise(
                 name="possible",
                 asks="Can you win this dare with all rules?",
                 right="no",
                 picks=("yes", "no"),
-                hint="Read the card of the dare.",
+                hint="Node 1 makes pulse 1. What must it have heard from node 2 before it makes pulse 2?",
                 answer="No. A node makes its next pulse only when its neighbours are safe in this one, so neighbours "
                 "are at most one pulse apart. It is proved for every network.",
             ),
@@ -505,8 +513,8 @@ SCHEDULES = LessonSteps(
         TableStep(
             "example=two&tab=adversary&without=acks",
             "Without the rule `acks` a node says safe at once, and still nothing goes wrong: the safe comes after the "
-            "payload on the same link. It goes wrong if a second rule is left out, too. Open *leave out* in the panel "
-            "to read the rules.",
+            "payload on the same link. It goes wrong if a second rule is left out, too. Open *leave out* "
+            "[below this card](panel:withoutsaid) to read the rules.",
             SaidExercise(
                 name="second",
                 asks="Which rule, left out alone, gives no pulse a wrong inbox, but does so if `acks` is left out, "

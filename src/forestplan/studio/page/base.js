@@ -156,15 +156,25 @@ function inside(box, kind) { return box.getElementsByTagName(kind)[0]; }
 export function progress(done, of) { Object.assign(inside(by("busy"), "progress"), {max: of, value: done}); }
 /** @param {unknown} fault */
 export function messageOf(fault) { return fault instanceof Error ? fault.message : String(fault); }
+// How much is under way. What lies below texts that are still on their way is out of sight until a tab has all of them:
+// nobody aims at a button that moves.
+let working = 0;
+export function settle() { if (!working) document.body.classList.remove("waiting"); }
 // Does it, and says what is wrong; what takes longer than a moment is said to be under way.
 /** @param {string} key @param {string} said @param {() => unknown} does */
 export async function tried(key, said, does) {
   const later = setTimeout(() => busy(said, key), 250);
+  working++;
   try { await does(); wrong("", key); } catch (fault) {
     if (!(fault instanceof Wrong)) console.error(fault);
     wrong((fault instanceof Wrong ? "" : "a fault of this page: ") + messageOf(fault), key);
     return false;
-  } finally { clearTimeout(later); busy(null, key); }
+  } finally {
+    clearTimeout(later);
+    busy(null, key);
+    working--;
+    settle();
+  }
   return true;
 }
 // Asks for something, and does what its answer is for, unless a later call of the key has ended it.

@@ -109,12 +109,15 @@ export function inspect() {
   field("barred channels", node.bars.join(", "), value => { node.bars = value; }, {placeholder: "for example 1, 4-6"},
     barsOf, "Barred channels are numbers from 1 to 2,048, as 1, 4-6.");
   const channel = drawn.plan && drawn.plan.plan[v - 1];
-  place.replaceChildren(html("h2", `Node ${v}` + (channel ? `, channel ${channel}` : "")), box,
+  const identifier = node.id ? `, identifier ${node.id}` : "";
+  place.replaceChildren(html("h2", `Node ${v}${identifier}` + (channel ? `, channel ${channel}` : "")), box,
     html("p", `neighbours: ${neighbours(v).join(", ") || "none"}`));
   if (on >= 0) fieldsOf(box)[on].focus();
+  // It leads to another tab, and out of a lesson's step.
   const why = html("button", "why this channel?");
   why.onclick = () => { seen.node = v; go("rounds", {at: 1e9}); };
-  if (channel) place.append(why);
+  why.disabled = !channel;
+  if (seen.lesson === null) place.append(why);
 }
 // The channels of a list, as `1, 4-6`; null if it is none.
 /** @param {string} said */

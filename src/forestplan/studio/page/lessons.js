@@ -1,6 +1,6 @@
 // The card of a lesson's step, or of a place of the lecture: one instruction, its exercise, and the way on and back.
 import {Wrong, call} from "./api.js";
-import {all, by, capital, hello, hooks, messageOf, option, programNamed, seen, time} from "./base.js";
+import {all, by, capital, hello, hooks, messageOf, option, programNamed, seen, show, time} from "./base.js";
 import {check} from "./check.js";
 import {isKept} from "./kept.js";
 import {coded, html} from "./marks.js";
@@ -13,6 +13,8 @@ import {countOf, isDone, tick} from "./ticks.js";
 let shown = "";
 // The call that judges what is seen: what it has asked, and when it asks.
 let asked = "", asking = 0;
+// Whether the exercise of the step has been done since the step was opened.
+let isFresh = false;
 
 // The lesson that is open, and its step.
 function lessonSeen() { return hello().lessons.find(one => one.number === seen.lesson); }
@@ -28,14 +30,17 @@ export function showCard() {
   if (key === shown) return look();
   shown = key;
   asked = "";
+  isFresh = false;
   const box = by("lesson"), parts = lecture ? partsOfPlace(lecture) : lesson ? partsOfStep() : [];
   box.hidden = !parts.length;
   box.setAttribute("aria-label", lecture ? "lecture" : "lesson");
   box.classList.toggle("away", isAway);
+  keepQuiet();
   Object.values(HOMES).forEach(bring => bring());
   box.replaceChildren(...parts);
   const slot = box.querySelector(".asked");
   if (slot && !isAway) slot.append(by(seen.tab === "adversary" ? "question2" : "question"));
+  box.classList.remove("done");
   if (parts.length) showTop();
   look();
 }
@@ -79,7 +84,7 @@ function partsOfStep() {
   if (!lesson || !step) return [];
   const body = html("div", null, {class: "instruction"}), back = html("button", "back to this step", {class: "away"});
   back.onclick = () => { go(lesson.number, seen.step || 1, true); };
-  if (seen.step === 1) body.append(html("p", lesson.ask, {class: "ask"}));
+  if (seen.step === 1) body.append(written("p", lesson.ask, {class: "ask"}));
   body.append(...textOf(step.do));
   if (step.exercise) body.append(exerciseBox(lesson.number, step.exercise));
   return [head(`${lesson.number}. ${lesson.title}`, "the lesson"), body, back, arrowsOfStep(lesson), footer(lesson),
@@ -136,6 +141,13 @@ function footer({number}) {
   });
   return box;
 }
+// A line of the table as the steps are written, with words in italics and code.
+/** @type {<K extends "p" | "label" | "button">(name: K, said: string, attributes?: Attributes) => HTMLElementTagNameMap[K]} */
+function written(name, said, attributes = {}) {
+  const place = html(name, null, attributes);
+  place.append(...partsOf(said));
+  return place;
+}
 /** @param {number} lesson @param {Exercise} is */
 function exerciseBox(lesson, is) {
   const box = html("div", null, {class: "exercise"}), said = html("p", null, {role: "status", class: "judged"});
@@ -148,7 +160,7 @@ function exerciseBox(lesson, is) {
 // The question of an exercise, with a field or with answers to pick.
 /** @param {number} lesson @param {Exercise} is */
 function form(lesson, is) {
-  const place = html("form"), label = html("label", is.asks), row = html("div", null, {class: "row"});
+  const place = html("form"), label = written("label", is.asks), row = html("div", null, {class: "row"});
   const field = html("input", null, {type: "text", size: 8, maxlength: 60, autocomplete: "off"});
   /** @param {string} said */
   const judge = async said => {
@@ -158,8 +170,9 @@ function form(lesson, is) {
   };
   place.onsubmit = event => { event.preventDefault(); judge(field.value.trim()); };
   if (is.picks.length) {
-    place.append(html("p", is.asks), row);
-    place.setAttribute("aria-label", is.asks);
+    const question = written("p", is.asks);
+    place.append(question, row);
+    place.setAttribute("aria-label", question.textContent || "");
   } else {
     label.append(field);
     place.append(label);
@@ -167,7 +180,7 @@ function form(lesson, is) {
     place.append(row);
   }
   is.picks.forEach(pick => {
-    const button = html("button", pick, {type: "button"});
+    const button = written("button", pick, {type: "button"});
     button.onclick = () => judge(pick);
     row.append(button);
   });
@@ -201,12 +214,27 @@ function finish(lesson, is, text) {
   tick(lesson, is);
   if (isNew) showTicks();
   say(lesson, is, text);
+  isFresh = true;
+  keepQuiet();
+  show();
+}
+// As long as a question is asked, what has its answer isn't said: all that is of the class `tells`.
+function keepQuiet() {
+  const step = stepSeen(), is = step && !isElsewhere() ? step.exercise : null;
+  document.body.classList.toggle("asking", Boolean(is && is.kind === "said" && !isDone(seen.lesson || 0, is)));
+}
+// What is said below the network once the exercise of the step is done: on a phone the card may be out of sight.
+export function doneWords() {
+  const lesson = lessonSeen(), step = seen.step || 1;
+  if (!isFresh || !lesson) return "";
+  return `☑ Done. ${step < lesson.steps.length ? `Go on to step ${step + 1} with “next ▸”.` : `Lesson ${lesson.number} ends here.`}`;
 }
 // What is said of an exercise, behind a box that is ticked if it is done.
 /** @param {number} lesson @param {Exercise} is @param {string} text */
 function say(lesson, is, text) {
   // The answer to a question is written as the steps are, with words in italics.
   const isIt = isDone(lesson, is), parted = isIt && is.kind === "said" ? partsOf : coded, notKept = isIt && !isKept ? " This browser keeps no ticks, so they go with this page." : "";
+  by("lesson").classList.toggle("done", isIt);
   all("#lesson .judged").forEach(place => {
     place.className = `judged ${isIt ? "good" : ""}`;
     place.replaceChildren(html("span", isIt ? "☑ " : "☐ ", {class: "box"}), ...parted(capital(text || "Not done yet.") + notKept));

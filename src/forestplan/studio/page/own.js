@@ -78,10 +78,13 @@ export function markRan(functions, node) {
 function show() {
   const isMoving = seen.tab === "adversary" || seen.tab === "rounds" && !reacts();
   // Its box is there before the file is, so that the network keeps its width.
-  const isSeen = isMoving && isOwn(), isRead = file.name === seen.program;
+  const isSeen = isMoving && isOwn();
   by("code").hidden = !isSeen;
   document.body.classList.toggle("coded", isSeen);
-  if (!isSeen) return;
+  if (isSeen) showFile(file.name === seen.program);
+}
+/** @param {boolean} isRead */
+function showFile(isRead) {
   const name = isRead && last.functions.find(one => Object.hasOwn(file.lines, one)) || "";
   const key = JSON.stringify([seen.program, file.name, file.text, file.fault, lost, said, name, last.node]);
   if (key === drawn) return;

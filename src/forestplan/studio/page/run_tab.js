@@ -13,7 +13,7 @@ export const run = {film: null, found: null, of: null, key: null, steps: [], tra
   found2: null, key2: null, judgedAt: null, at: 0};
 const second = new Stage(by("second"), net), small = new Stage(by("small"), net);
 /** @type {(keyof Elements)[]} */
-const SAID = ["judge", "judgehere", "same", "costs", "now", "table"];
+const SAID = ["judge", "judgehere", "same", "costs", "now", "apart", "table"];
 let judgeTimer = 0;
 
 function how() {
@@ -136,14 +136,17 @@ function showAt() {
     say("now", `first run, stamp ${Math.floor(here.stamp)}: ${here.said}; second, stamp `
       + `${Math.floor(there.stamp)}: ${there.said}`);
     say("when", `pulse ${Math.floor(time.at)}`);
+    say("apart", "");
   } else {
     at = film.draw(stage, time.at, options);
-    say("now", `${capital(film.said(at))}. ${apart(film, at)}`);
+    say("now", `${capital(film.said(at))}.`);
+    say("apart", apart(film, at));
     say("when", "stamp " + Math.floor(time.at));
   }
   run.at = at;
   const ofNode = seen.node ? ` Node ${seen.node}: ${lookWords(film.look(seen.node, at), film.found.last)}.` : "";
-  announce(by("now").textContent + ofNode);
+  const far = by("apart").getClientRects().length ? ` ${by("apart").textContent}` : "";
+  announce(by("now").textContent + far + ofNode);
   // What the judge has said of another place isn't left beside this one.
   if (run.judgedAt !== at) say("judgehere", "");
   const results = run.found ? run.found.results : [], last = film.last(at);

@@ -27,31 +27,51 @@ function questionHere() {
 }
 const question = new Question("question2", questionHere, () => {
   const is = questionHere();
-  if (is && is.call === "sends") return from(steps.made.concat(is.asked.step));
+  if (is && is.call === "sends") return make(is.asked.step);
   // One step more, and another node.
   seen.node = (seen.node || 0) % net.nodes.length + 1;
-  goOn({by: 1, seed: seed()});
+  goOn(() => ask({by: 1, seed: seed()}));
 });
 const KEYED = 9;
 
-// How many calls are under way.
+// How many calls are under way, and what was clicked in the meantime: that is done after them.
 let asking = 0;
+/** @type {(() => unknown)[]} */
+let later = [];
+const MOST_LATER = 20;
 /** @param {Partial<StepsCall>} more */
 async function ask(more = {}) {
   const {slow, lazy} = seen, {without, made, dare} = steps, program = programNamed();
   begun(1);
   const isFound = await asks("steps", {network: text(), program, slow, lazy, without, dare, steps: made.join("_"), ...more},
-    "playing these steps", found => { Object.assign(steps, {found, made: found.made}); show(); });
+    "playing these steps", found => { Object.assign(steps, {found: found.nodes ? found : begunLast(found), made: found.made}); show(); });
   begun(-1);
+  const next = asking ? undefined : later.shift();
+  if (next) next();
   return isFound;
+}
+// The node whose program refuses a pulse has begun this pulse: so the picture has it, as the words do.
+/** @param {StepsFound} is @returns {StepsFound} */
+function begunLast(is) {
+  const v = refusedAt(is);
+  return v ? {...is, looks: is.looks.map((look, k) => k + 1 === v ? {...look, pulse: look.pulse + 1, safe: false, waits: []} : look)} : is;
+}
+// The node whose program has refused its pulse, by which the run has ended; or 0.
+/** @param {StepsFound} is */
+function refusedAt({over, made}) {
+  const last = made[made.length - 1] || "";
+  return over && !last.includes("-") ? +last : 0;
 }
 /** @param {number} more */
 function begun(more) { asking += more; }
-// A step is made after the one before: a click that comes too early is none.
-/** @param {Partial<StepsCall>} more */
-function goOn(more) { if (!asking) ask(more); }
-/** @param {string[]} made */
-function from(made) { goOn({steps: made.join("_")}); }
+// A step is made after the one before, and so is what is clicked while that is being worked out.
+/** @param {() => unknown} does */
+function goOn(does) {
+  if (!asking) does();
+  else if (later.length < MOST_LATER) later.push(does);
+}
+/** @param {() => string[]} made */
+function from(made) { goOn(() => ask({steps: made().join("_")})); }
 // Whether a step is held: a pulse by its node, and a message by its link.
 /** @param {string} step */
 function isHeld(step) {
@@ -62,7 +82,7 @@ function isHeld(step) {
 /** @param {string} step */
 function isFree(step) { return steps.found !== null && steps.found.steps.includes(step) && !isHeld(step); }
 /** @param {string} step */
-function make(step) { if (isFree(step)) from(steps.made.concat(step)); }
+function make(step) { goOn(() => { if (isFree(step)) ask({steps: steps.made.concat(step).join("_")}); }); }
 /** @param {[number, number, string[]]} link */
 function queue([v, w, wires]) {
   return queueMarks(stage, v, w, wires, place => {
@@ -92,14 +112,14 @@ function showAt() {
   if (!is || (is.nodes || is.looks).length !== net.nodes.length) return false;
   const slow = new Set(seen.slow.map(e => e.join("-")));
   question.show();
-  const hidden = hiddenNode();
+  const hidden = hiddenNode(), stopped = is.nodes ? 0 : refusedAt(is);
   stage.draw({...nodesDrawn(is), bars: false, apart: 4.6,
-    ring: v => v !== hidden && isFree(String(v)) ? "var(--good)" : v === seen.node ? "var(--edge)" : null,
+    ring: v => v === stopped ? "var(--wrong)" : v !== hidden && isFree(String(v)) ? "var(--good)" : v === seen.node ? "var(--edge)" : null,
     label: v => nameOf(net, v) + (seen.lazy.includes(v) ? " (held)" : ""),
     edge: (v, w) => heldEdge(v, w, slow.has(v + "-" + w)), above: () => is.wires.flatMap(queue)});
   if (is.ran) markRan([is.ran.function], is.ran.node);
   sayWhere(is);
-  showDare(is);
+  showDare(is.dare);
   listSteps(is);
   by("list").value = is.list.join("\n") + "\n";
   by("list").scrollTop = by("list").scrollHeight;
@@ -130,9 +150,9 @@ function bestOf({won}) {
 }
 // The card of a dare: its goal, the rules that are left out, and how far it is; of one that nobody can win, that this
 // is proved. Who has won hands in the link, and who sets it as a task copies it without the steps.
-/** @param {AnySteps} is */
-function showDare(is) {
-  const card = by("dared"), {dare} = is;
+/** @param {DareJudged | null | undefined} dare */
+function showDare(dare) {
+  const card = by("dared");
   card.hidden = !dare;
   if (!dare) return;
   const goal = `I dare you to ${daresHere()[steps.dare].goal}.`;
@@ -145,7 +165,7 @@ function showDare(is) {
   const foot = html("p", `${rules} Best so far: ${ever}. `, {class: "soft"});
   foot.append(copy);
   card.className = dare.won ? "card won" : "card";
-  card.replaceChildren(...head, sentence([far, dare.impossible && `${dare.impossible}.`].filter(Boolean).join(" ")), foot);
+  card.replaceChildren(...head, sentence(far), dare.impossible ? sentence(`${dare.impossible}.`, {class: "tells"}) : "", foot);
   showDares();
 }
 // The menu of the dares, in which those that this browser has won with a rule left out or with all of them are ticked.
@@ -297,9 +317,12 @@ tabs.adversary = {
     by("handover").disabled = Boolean(steps.without);
     by("handoversaid").textContent = steps.without ? "The tab No clock keeps all rules, so it can’t go on from here." : "";
     steps.found = null;
-    [by("undostep"), by("chance"), by("chance20"), by("instep")].forEach(one => { one.disabled = true; });
+    later = [];
+    [by("anew"), by("undostep"), by("chance"), by("chance20"), by("instep")].forEach(one => { one.disabled = true; });
     [by("stepsaid"), by("possible")].forEach(one => one.replaceChildren());
-    [by("dared"), by("question2")].forEach(one => { one.hidden = true; });
+    by("question2").hidden = true;
+    // The card of the dare has its place before it is known how far the dare is.
+    showDare(steps.dare ? {won: false, said: "…", impossible: ""} : null);
     markRan([], 0);
     if (more.fresh) steps.made = [];
     ask();
@@ -339,11 +362,11 @@ function leaveOut(left) {
   hooks.link();
 }
 function seed() { return String(Math.floor(Math.random() * 1e9)); }
-by("undostep").onclick = () => from(steps.made.slice(0, -1));
-by("chance").onclick = () => goOn({by: 1, seed: seed()});
-by("chance20").onclick = () => goOn({by: 20, seed: seed()});
-by("instep").onclick = () => goOn({in_step: true});
-by("anew").onclick = () => from([]);
+by("undostep").onclick = () => from(() => steps.made.slice(0, -1));
+by("chance").onclick = () => goOn(() => ask({by: 1, seed: seed()}));
+by("chance20").onclick = () => goOn(() => ask({by: 20, seed: seed()}));
+by("instep").onclick = () => goOn(() => ask({in_step: true}));
+by("anew").onclick = () => from(() => []);
 by("handover").onclick = () => { by("made").value = "seed"; go("run", {steps: steps.made, at: 0}); };
 by("drawnrun").onclick = () => go("pictures", {kind: "run"});
 by("playlist").onclick = () => ask({list: by("list").value});

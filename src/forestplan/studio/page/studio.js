@@ -1,11 +1,11 @@
 // The studio: its tabs, the mouse on the stage, keys, and the address, which says all that is seen.
 import {call, cancel, hello as greeted, token} from "./api.js";
 import {codeOf, written} from "./address.js";
-import {all, asks, by, endsOf, hello, hooks, inputs, option, say, seen, show, stage, tabs, time, tried, watchOptions,
+import {all, asks, by, endsOf, hello, hooks, inputs, option, say, seen, settle, show, stage, tabs, time, tried, watchOptions,
   wrong, zoomPicture} from "./base.js";
 import {askPlan, drawn, inspect, makeForm, openFile, save} from "./draw.js";
 import {check} from "./check.js";
-import {fillMenu, showCard, turns} from "./lessons.js";
+import {doneWords, fillMenu, showCard, turns} from "./lessons.js";
 import {enterFile, reacts, watchFile} from "./own.js";
 import {rounds} from "./rounds_tab.js";
 import {run} from "./run_tab.js";
@@ -23,7 +23,8 @@ const TABS = ["draw", "rounds", "run", "adversary", "check", "pictures"];
 const TIMED = ["rounds", "run"];
 // What some marks mean in a tab.
 /** @type {{[Name in TabName]?: Record<string, string>}} */
-const LEGENDS = {rounds: ROUNDS_WORDS, run: RUN_WORDS, adversary: {channel: "the channel that it has chosen"}};
+const LEGENDS = {rounds: ROUNDS_WORDS, run: RUN_WORDS, adversary: {channel: "the channel that it has chosen",
+  ring_wrong: "its pulse has another inbox than in its round"}};
 // Where each of them was left.
 /** @type {{[Name in TabName]?: number}} */
 const left = {};
@@ -39,7 +40,7 @@ hooks.show = () => {
   if (!isThere) { stage.draw({node: (v, x, y, r) => blank(x, y, r)}); say("when", ""); }
   [by("back"), by("play"), by("next"), by("change"), by("slider")].forEach(one => { one.disabled = !isThere; });
   by("empty").hidden = net.nodes.length > 0;
-  say("hint", isReplaced ? "Undo (Ctrl-Z, or in Draw) brings your drawing back." : tab.hint());
+  sayHint(isReplaced ? "Undo (Ctrl-Z, or in Draw) brings your drawing back." : tab.hint());
   say("name", [net.name, seen.program].filter(one => one && one !== "colouring").map(one => "· " + one).join(" "));
   document.title = titleSeen();
   by("slider").setAttribute("aria-valuetext", by("when").textContent || "");
@@ -51,6 +52,13 @@ hooks.show = () => {
 };
 // What is seen is written into the address first: a change to the place that it still says would be none.
 hooks.open = place => { link(); location.hash = place; };
+// What can be done on the network; or that the exercise of a lesson's step is done.
+/** @param {string} said */
+function sayHint(said) {
+  const done = doneWords();
+  say("hint", done || said);
+  by("hint").classList.toggle("good", Boolean(done));
+}
 // The title of the page, by which the browser's list of places tells them apart.
 function titleSeen() {
   if (!by("welcome").hidden) return "forestplan studio";
@@ -103,8 +111,10 @@ function enter(more = {}) {
     if (other !== name && leave) leave();
   });
   stage.fit();
+  document.body.classList.add("waiting");
   tabs[name].enter(more);
   hooks.show();
+  settle();
 }
 // A node that goes or comes back gives those after it other numbers: what is held, and the typed plan, go along.
 /** @param {Renumbering} numbers */

@@ -3,13 +3,29 @@
 import {html} from "./marks.js";
 
 const INLINE = /`([^`]+)`|\*\*([^*]+)\*\*|\*([^*\s][^*]*)\*|!\[([^\]]*)\]\(([^)]+)\)|\[([^\]]+)\]\(([^)]+)\)/g;
-const ITEM = /^(- |\d+\. )/, STUDIO = "http://127.0.0.1:8321/";
+const ITEM = /^(- |\d+\. )/, STUDIO = "http://127.0.0.1:8321/", PANEL = "panel:";
 
-// A link to a place of the studio leads there; one to another page has its words alone.
+// A link to a place of the studio leads there, and one to a part of the panel shows it; one to another page has its
+// words alone.
 /** @param {string} text @param {string} to */
 function link(text, to) {
+  if (to.startsWith(PANEL)) return pointer(text, to.slice(PANEL.length));
   const place = /^#\w+=/.test(to) ? to : to.startsWith(STUDIO + "#") ? to.slice(STUDIO.length) : null;
   return place ? html("a", text, {href: place}) : text;
+}
+// Words that name a part of the panel: who clicks on them has it in sight, marked for a moment.
+const MARKED = 2500;
+/** @param {string} text @param {string} name */
+function pointer(text, name) {
+  const button = html("button", text, {type: "button", class: "pointer"});
+  button.onclick = () => {
+    const part = document.getElementById(name);
+    if (!part) return;
+    part.scrollIntoView({block: "nearest"});
+    part.classList.add("pointed");
+    setTimeout(() => part.classList.remove("pointed"), MARKED);
+  };
+  return button;
 }
 /** @param {RegExpMatchArray} found */
 function shown([whole, code, bold, italic, said, picture, text, to]) {

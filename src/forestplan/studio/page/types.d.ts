@@ -222,6 +222,7 @@ interface Elements {
   policy2: HTMLSelectElement;
   seed2: HTMLInputElement;
   judge: HTMLElement;
+  apart: HTMLElement;
   judgehere: HTMLElement;
   same: HTMLElement;
   costs: HTMLElement;

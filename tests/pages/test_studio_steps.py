@@ -1,0 +1,183 @@
+"""The steps of the studio's lessons as they are seen, on a phone and on a desk: nothing moves while somebody aims at it,
+what a text names is found, and nothing has the answer before the question is asked."""
+import json
+import re
+import time
+
+from forestplan.studio.lessons import LESSONS
+from tests.cases import Case
+from tests.pages.test_studio_lessons import steps
+from tests.pages.test_studio_page import Page
+
+# Width and height of the window, and whether a finger points.
+WINDOWS = ((1280, 800, False), (360, 740, True))
+# Notes each control of the side that can be used, and is somewhere else some frames later, though nobody did anything;
+# `begin` forgets what was.
+WATCH = """(() => {
+  window.moved = [];
+  const tops = new Map();
+  window.begin = () => { tops.clear(); moved.length = 0; };
+  const nameOf = one => (one.closest('#lesson') ? 'card: ' : '') + (one.id || one.dataset.key || one.getAttribute('aria-label')
+    || one.textContent).trim().slice(0, 30);
+  const look = () => {
+    document.querySelectorAll('#side :is(button, input, select, summary):not(:disabled)').forEach(one => {
+      const box = one.getBoundingClientRect(), was = tops.get(one), now = Math.round(box.top + scrollY);
+      if (!box.width || getComputedStyle(one).visibility === 'hidden') return tops.delete(one);
+      if (was !== undefined && Math.abs(was - now) > 2) moved.push(`${nameOf(one)} ${was} to ${now}`);
+      tops.set(one, now);
+    });
+    requestAnimationFrame(look);
+  };
+  look();
+})()"""
+# Of a part of the panel whether it is seen, and not below the network, which stays where it is on a phone.
+IN_SIGHT = """(name => { const one = document.getElementById(name), box = one.getBoundingClientRect();
+  const high = getComputedStyle(left).position === 'sticky' ? left.getBoundingClientRect().bottom : 0;
+  return box.width > 0 && box.height > 0 && box.top < innerHeight && box.bottom > high; })"""
+# How a lesson begins whose exercises nobody has done.
+FORGET = "localStorage.removeItem('studio-ticks')"
+WRONG = "1-2_2-1_2-1_2_2"
+
+
+class Texts(Case):
+    def test_the_panel(self) -> None:
+        """No text speaks of a panel, which isn't one on a phone."""
+        for number, k, step in steps():
+            texts = [step.do]
+            if step.exercise:
+                texts += [step.exercise.hint, step.exercise.answer]
+            said = " ".join(re.sub(r"\(panel:\w+\)", "", one) for one in texts)
+            self.note(f"lesson {number} step {k}", "panel" not in said, said)
+
+
+class Steps(Page):
+    def open(self, wide: int, high: int, is_phone: bool) -> None:
+        self.page.size(wide, high, is_phone)
+        self.addCleanup(self.page.size, 1280, 800)
+        self.value(FORGET)
+        self.page.go("about:blank")
+        self.page.go(self.address)
+        self.page.until("window.studio && studio.seen.hello && !studio.isFollowing()", 40)
+
+    def step(self, lesson: int, k: int) -> None:
+        self.go_to(f"lesson={lesson}&step={k}")
+        self.sees(
+            f"lesson {lesson} step {k}",
+            f"studio.seen.lesson === {lesson} && studio.seen.step === {k} && !studio.isFollowing()",
+        )
+
+    def test_nothing_moves(self) -> None:
+        """From the moment in which a step is there no control that can be used moves by itself."""
+        for wide, high, is_phone in WINDOWS:
+            self.open(wide, high, is_phone)
+            self.value(WATCH)
+            for number, k, _ in steps():
+                self.step(number, k)
+                self.value("begin()")
+                self.page.until("busy.hidden", 20)
+                time.sleep(0.7)
+                self.same(f"{wide}: lesson {number} step {k}", self.value("moved.slice(0, 4)"), [])
+
+    def test_what_is_named(self) -> None:
+        """A click on words of a step that name a part of the panel has this part in sight."""
+        count = 0
+        for wide, high, is_phone in WINDOWS:
+            self.open(wide, high, is_phone)
+            for number, k, step in steps():
+                names = re.findall(r"\(panel:(\w+)\)", step.do)
+                if not names:
+                    continue
+                self.step(number, k)
+                self.page.until("busy.hidden", 20)
+                time.sleep(0.4)
+                for place, name in enumerate(names):
+                    count += 1
+                    button = f"lesson.querySelectorAll('.pointer')[{place}]"
+                    self.value(f"{button}.scrollIntoView({{block: 'center'}}); {button}.click()")
+                    self.sees(f"{wide}: {name} of {number}.{k}", f"{IN_SIGHT}('{name}')", 10)
+        self.note("there are some", count > 20, count)
+
+    def test_no_answer_before_the_question(self) -> None:
+        """What has the answer to a step's question isn't on the screen before the question is answered."""
+        self.open(1280, 800, False)
+        for lesson, k, said, answer in (
+            (5, 1, "So far it was", "1"),
+            (5, 3, "at the same pulse", "5"),
+            (6, 2, "nobody wins it", "no"),
+            (1, 1, "allowed", "4"),
+        ):
+            self.step(lesson, k)
+            self.page.until("busy.hidden", 20)
+            time.sleep(0.5)
+            seen = f"side.innerText.includes({json.dumps(said)})"
+            self.reads(f"lesson {lesson} step {k}: not yet", seen, False)
+            picks = LESSONS[lesson - 1].steps[k - 1].exercise
+            assert picks
+            if getattr(picks, "picks", ()):
+                self.value(
+                    "Array.from(lesson.querySelectorAll('form button')).find(one => "
+                    f"one.textContent === {json.dumps(answer)}).click()"
+                )
+            else:
+                self.value(
+                    f"lesson.querySelector('form input').value = {json.dumps(answer)}; "
+                    "lesson.querySelector('form').requestSubmit()"
+                )
+            self.sees("but once it is answered", seen, 20)
+
+    def test_what_is_won_is_seen(self) -> None:
+        """The node that makes a pulse with a wrong inbox is at that pulse in the picture, too, in a red ring."""
+        self.go_to(f"example=two&tab=adversary&without=safes&dare=wrong&steps={WRONG}")
+        self.sees("it is won", "dared.className === 'card won'")
+        self.sees("it is said", "stepsaid.textContent.includes('node 2 makes pulse 2')")
+        number = "document.querySelector('#net [data-node=\"2\"]').textContent"
+        self.note("and drawn", "2" in self.value(number).split()[0][:1], self.value(number))
+        self.reads(
+            "and spoken",
+            "document.querySelector('#net [data-node=\"2\"]').getAttribute('aria-label')",
+            "node 2, pulse 2",
+        )
+        self.sees("in red", "legend.querySelector('[data-kind-of-mark=ring_wrong]')")
+
+    def test_clicks_in_a_row(self) -> None:
+        """What is clicked while a step is being worked out is done after it."""
+        self.go_to("example=triangle&tab=adversary")
+        self.sees("its messages", "document.querySelectorAll('#possible [data-step]').length === 6")
+        for step in ("1-2", "2-1", "1-3"):
+            self.value(f"document.querySelector(\"#possible [data-step='{step}']\").click()")
+        self.sees("all three", "studio.steps.made.join() === '1-2,2-1,1-3'", 10)
+        self.value(
+            "document.getElementById('undostep').click(); document.getElementById('chance').click()"
+        )
+        self.sees(
+            "one back and one on",
+            "studio.steps.made.length === 3 && studio.steps.made[1] === '2-1'",
+            10,
+        )
+
+    def test_no_way_out(self) -> None:
+        """In a lesson no button of the chosen node leads out of the step; outside of one it does."""
+        self.go_to("lesson=2&step=4")
+        self.sees("the centre", "chosen.textContent.includes('Node 9')")
+        self.page.until("studio.drawn.plan", 20)
+        self.note("no way out", "why this channel" not in self.page.text("chosen"))
+        self.go_to("example=star&tab=draw&node=9")
+        self.sees("a way", "chosen.textContent.includes('why this channel')")
+
+    def test_a_new_identifier(self) -> None:
+        """A node that is given another identifier has it in its heading and beside it, and keeps its number."""
+        self.go_to("lesson=2&step=4")
+        self.sees("the centre", "chosen.textContent.includes('Node 9')")
+        self.page.until("studio.drawn.plan && busy.hidden", 20)
+        self.value(
+            "(field => { field.value = '0'; field.onchange(); })(chosen.querySelectorAll('input')[1])"
+        )
+        self.sees(
+            "in the heading",
+            "chosen.querySelector('h2').textContent.startsWith('Node 9, identifier 0')",
+            20,
+        )
+        self.sees("and beside it", "net.textContent.includes('9 (0)')", 20)
+
+    def test_zz_no_script_complained(self) -> None:
+        self.same("no script complained", self.page.faults, [])
