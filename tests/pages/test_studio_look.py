@@ -366,7 +366,7 @@ class Look(Page):
         self.same("so far", looked[:2], [[], 1])
         self.note("some are farther apart", looked[2] > 1, looked)
         self.value("studio.time.set(200)")
-        self.sees("is said", "now.textContent.includes('So far it was at most 1 for neighbours')")
+        self.sees("is said", "apart.textContent.includes('So far it was at most 1 for neighbours')")
         pulse = self.value(
             "Math.min(...studio.run.film.looks(studio.run.at).map(one => one.pulse))"
         )
