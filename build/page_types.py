@@ -10,7 +10,8 @@ from types import ModuleType, NoneType, UnionType
 from typing import Annotated, Literal, Union, get_args, get_origin, get_type_hints
 
 from build.crate_lists import TOP
-from forestplan.pictures import page_data
+from forestplan.pictures import geometry, page_data
+from forestplan.pictures.translation import camel
 from forestplan.studio import answers, messages, recorded_answers
 from forestplan.studio.calls import CALLS
 from forestplan.studio.fields import word, words_by_name
@@ -146,6 +147,21 @@ def call_types() -> str:
     return "\n".join(["interface Asks {", *asked, "}", "interface Answers {", *got, "}", ""])
 
 
+def function_types(module: ModuleType) -> str:
+    """What a module exports that is translated: its constants and functions, and the types that it names."""
+    lines: list[str] = []
+    for name, value in vars(module).items():
+        if getattr(value, "__module__", "") == module.__name__:
+            hints = {camel(one): type_of(hint) for one, hint in get_type_hints(value).items()}
+            result = hints.pop("return")
+            given = ", ".join(f"{one}: {hint}" for one, hint in hints.items())
+            lines.append(f"export function {camel(name)}({given}): {result};")
+        elif name.isupper():
+            kind = "number[]" if isinstance(value, tuple) else "number"
+            lines.append(f"export const {name}: {kind};")
+    return "\n".join([*lines, ""])
+
+
 def page_types() -> dict[str, str]:
     """The files of types by their paths."""
     studio = [
@@ -160,6 +176,11 @@ def page_types() -> dict[str, str]:
         )
         + "\n"
         + module_types(page_data),
+        os.path.join("src", "forestplan", "pictures", "page", "geometry.d.ts"): WRITTEN_BY.format(
+            "src/forestplan/pictures/geometry.py"
+        )
+        + "\n"
+        + function_types(geometry),
         os.path.join("src", "forestplan", "studio", "page", "calls.d.ts"): WRITTEN_BY.format(
             "src/forestplan/studio/answers.py, messages.py, calls.py and recorded_answers.py"
         )

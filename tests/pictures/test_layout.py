@@ -5,9 +5,10 @@ from itertools import combinations, product
 
 from forestplan.networks.network_text import network_in_bytes
 from forestplan.networks.sources import network_bytes
+from forestplan.network import Edge
+from forestplan.pictures.geometry import Box, Point, Room, bends_of, labels_at
 from forestplan.pictures.page_data import PlainNode
-from forestplan.pictures.pages import net_at, net_of, page_label
-from forestplan.pictures.places import Places, page_bends
+from forestplan.pictures.pages import page_label
 from forestplan.schedules import rules
 from tests.cases import examples
 from tests.pictures.base import BARRED, PictureCase, transcript
@@ -89,52 +90,54 @@ def overlaps(pairs, most):
 
 
 class Bends(PictureCase):
-    def test_bends_of_pages(self):
-        """By hand: circles have at most 200 / 16 = 12.5 as their radius. An edge of length 200 that passes a third node
-        nearer than that is bent by 0.75 * 12.5 + 0.045 * 200 = 18.375 upwards, which is the left of one to the right.
-        Its middle is moved by twice that. One that passes at 60 isn't bent."""
+    def test_bends(self):
+        """By hand: an edge passes a circle of radius 12.5 by 0.3 of that, at 16.25. One of length 200 that passes nearer
+        is bent by 16.25 + 0.03 * 200 = 22.25 upwards, which is the left of one to the right: the point towards which it
+        is drawn is moved by twice that. One that passes at 60 isn't bent, nor is one without room above its other side.
+        """
         edges = [(1, 2), (1, 3), (2, 3)]
-        for y, bent in ((100, {(1, 3): (0, -36.75)}), (106, {(1, 3): (0, -36.75)}), (160, {})):
-            places: Places = {1: (100, 100), 2: (200, y), 3: (300, 100)}
-            self.same(f"node 2 at {y}", page_bends(places, edges), bent)
-        self.same("no node", page_bends({}, []), {})
-        crowd: Places = {v: (v, 0) for v in range(1, 1003)}
+        wide: Room = (-1e9, -1e9, 1e9, 1e9)
+        low: Room = (0, 90, 400, 400)
+        for y, room, bent in (
+            (100, wide, (0, -44.5)),
+            (106, wide, (0, -44.5)),
+            (160, wide, None),
+            (100, low, (0, 44.5)),
+        ):
+            places: list[Point] = [(100, 100), (200, y), (300, 100)]
+            self.same(f"node 2 at {y}", bends_of(places, edges, 12.5, room), [None, bent, None])
+        self.same("no node", bends_of([], [], 12.5, wide), [])
+        crowd: list[Point] = [(v, 0) for v in range(1, 1003)]
         far = [(1, v) for v in range(3, 1003)]
-        self.same("too many edges to look at", page_bends(crowd, far), {})
-        self.same("too many nodes to look at", page_bends(crowd, [(1, 3)]), {})
+        self.same("too many edges to look at", {*bends_of(crowd, far, 5, wide)}, {None})
+        self.same("too many nodes to look at", bends_of(crowd, [(1, 3)], 5, wide), [None])
 
-    def test_a_network_has_its_bends(self):
-        """The data of a page: in its box of 1,000 by 700 the row is 860 wide, so the middle of the long edge is moved
-        by 2 * (0.75 * 860 / 16 + 0.045 * 860) = 158.025."""
-        row = b"c at 1 0 0\nc at 2 1 0\nc at 3 2 0\np edge 3 3\ne 1 2\ne 1 3\ne 2 3\n"
-        self.same("a row", net_of(network_in_bytes(row)).bends, [None, (0, -158), None])
+
+def sides_of(places: list[Point], edges: list[Edge], taken: list[Box] | None = None) -> list[int]:
+    """The sides on which labels of one digit are, beside circles of the radius 20."""
+    texts = [[(5.0, 6.5)]] * len(places)
+    bends = [None] * len(edges)
+    spots = labels_at(places, edges, bends, 20, 0, texts, taken or [], 2000, 2000)
+    return [side if text == 0 else -1 for text, side, _, _ in spots]
 
 
 class Labels(PictureCase):
     def test_sides(self):
         """By hand: in a row from the left to the right each label is above its node. A node whose edges leave room only
-        below it and at its lower right has it at the lower right, or if it has barred channels, at neither.
+        below it and at its lower right has it at the lower right; and nowhere where something else is written.
         """
-        row = [PlainNode(x, 0, "", "", []) for x in (0, 300, 600)]
-        sides = [node.side for node in net_at("", row, [(1, 2), (2, 3)]).nodes]
+        row: list[Point] = [(x, 400.0) for x in (100, 400, 700)]
+        sides = sides_of(row, [(1, 2), (2, 3)])
         self.note("above", {*sides} <= {14, 15, 0, 1, 2}, sides)
         around = [(-300, 0), (-212, -212), (0, -300), (212, -212), (300, 0), (-212, 212)]
-        rows: list[tuple[list[int], set[int]]] = [
-            ([], {5, 6}),
-            ([1], {0, 1, 2, 3, 4, 10, 11, 12, 13, 14, 15}),
-        ]
-        for bars, wanted in rows:
-            middle = PlainNode(0, 0, "", "", bars)
-            nodes = [middle, *(PlainNode(x, y, "", "", []) for x, y in around)]
-            side = net_at("", nodes, [(1, w) for w in range(2, 8)]).nodes[0].side
-            self.note(f"with {len(bars)} bars", side in wanted, side)
-        fan = [PlainNode(0, 0, "", "", []), *(PlainNode(x, y, "", "", []) for x, y in around[:5])]
-        lower = fan + [PlainNode(212, 212, "", "", []), PlainNode(-212, 212, "", "", [])]
-        side = net_at("", lower, [(1, w) for w in range(2, 9)]).nodes[0].side
-        self.note("not below, where it has most room", side not in (7, 8, 9), side)
-        self.same("no node", net_at("", [], []).nodes, [])
-        crowd = [PlainNode(v, v % 7, "", "", []) for v in range(1001)]
-        self.same("too many to look at", {one.side for one in net_at("", crowd, []).nodes}, {2})
+        places: list[Point] = [(500.0, 500.0), *((500.0 + x, 500.0 + y) for x, y in around)]
+        edges = [(1, w) for w in range(2, 8)]
+        self.note("at the lower right", sides_of(places, edges)[0] in {5, 6, 7, 8}, "")
+        below: Box = (500.0, 540.0, 60.0, 20.0)
+        self.note("not below", sides_of(places, edges, [below])[0] not in {6, 7, 8, 9, 10}, "")
+        full: Box = (500.0, 500.0, 90.0, 90.0)
+        self.same("no room at all", sides_of(places, edges, [full])[0], -1)
+        self.same("no node", sides_of([], []), [])
 
     def test_words(self):
         """The name has at most 12 letters, the identifier 8 digits; what belongs to a letter isn't cut off it."""

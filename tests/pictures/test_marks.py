@@ -2,6 +2,7 @@
 The page's own module draws it, if node is installed."""
 
 import json
+import re
 import shutil
 from collections.abc import Callable, Sequence
 
@@ -56,8 +57,9 @@ class Marks(Case):
     def drawn(self) -> dict[str, list[list[dict]]]:
         """What the page's module draws."""
         need(self, "node")
-        for name, code in (("hues", pages.hues()), ("marks", pages.page_file_text("marks.js"))):
-            self.file(f"{name}.mjs", code.replace('"./hues.js"', '"./hues.mjs"'))
+        made = {name: code() for name, code in pages.MADE.items()}
+        for name, code in {**made, "marks": pages.page_file_text("marks.js")}.items():
+            self.file(f"{name}.mjs", re.sub(r'from "\./(\w+)\.js"', r'from "./\1.mjs"', code))
         numbers = [str(one) for one in NUMBERS]
         asked = {"r": RADIUS, "channels": CHANNELS, "colours": list(COLOURS), "numbers": numbers}
         program, node = self.file("draw.mjs", DRAW), shutil.which("node")

@@ -348,7 +348,7 @@ class Addresses(Writes):
         found = opened_by("tab=run&slow=2-1&node=2", Session(), here)
         wanted = Values(tab="run", slow=[(1, 2)], node=2)
         self.same("its network is kept", (found.network, found.address.values), (None, wanted))
-        self.same("an empty one", opened_by("net=~", Session(), here).network, Net("", [], [], []))
+        self.same("an empty one", opened_by("net=~", Session(), here).network, Net("", [], []))
         values = opened_by("lesson=6&step=3", Session()).address.values
         self.same("a lesson's place", (values.tab, values.without), ("adversary", "safes"))
         values = opened_by(f"{TWO}&tab=check&lesson=6", Session()).address.values

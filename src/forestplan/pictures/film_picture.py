@@ -7,10 +7,10 @@ from forestplan.definitions.rounds import FIRST_MERGE, Pulse, ColouringRounds
 from forestplan.fault_codes import Code
 from forestplan.faults import Fault, InText
 from forestplan.network import Network
+from forestplan.pictures.geometry import Point
 from forestplan.pictures.map_picture import EDGE, Vertex, begun, draw_map
 from forestplan.pictures.marks import Map, short_name
 from forestplan.pictures.palette import INK, PAPER, WIRES
-from forestplan.pictures.places import Point
 from forestplan.pictures.player_page import caption
 from forestplan.pictures.svg import Svg, text_width, wrapped
 from forestplan.wording import counted

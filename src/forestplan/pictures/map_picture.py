@@ -3,6 +3,7 @@ pictures that have words beside the circles."""
 from collections.abc import Callable, Iterable, Mapping
 
 from forestplan.network import Network
+from forestplan.pictures.geometry import Point
 from forestplan.pictures.marks import (
     LARGE,
     Map,
@@ -14,7 +15,7 @@ from forestplan.pictures.marks import (
     width_of_map,
 )
 from forestplan.pictures.palette import INK, PAPER, SOFT, text_on
-from forestplan.pictures.places import Point, box_height, places_of
+from forestplan.pictures.places import box_height, places_of
 from forestplan.pictures.svg import Svg, text_width
 from forestplan.wording import counted
 
@@ -135,8 +136,7 @@ def draw_map(
     if draw_more:
         draw_more(drawn)
     drawn.label(
-        drawn.radius + (7 if network.nodes > LARGE else 11),
-        {v: (one.room() / 2, BAR if one.bars else 0.45 * one.size) for v, one in vertices.items()},
+        {v: (one.room() / 2, BAR if one.bars else 0.45 * one.size) for v, one in vertices.items()}
     )
     for v, (x, y) in sorted(drawn.places.items()):
         vertices[v].draw(svg, x, y, drawn.radius, drawn.labels[v])

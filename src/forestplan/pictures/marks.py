@@ -2,10 +2,11 @@
 import unicodedata
 from collections.abc import Collection
 from copy import copy
-from math import sqrt
+from math import inf, sqrt
 from typing import TypeVar
 
-from forestplan.network import Network
+from forestplan.network import Edge, Network
+from forestplan.pictures.geometry import Point, bends_of, labels_at, radius_passed, towards_of
 from forestplan.pictures.palette import (
     BAR_SIZES,
     FOREST_COLOURS,
@@ -23,16 +24,7 @@ from forestplan.pictures.palette import (
     size_in,
     text_on,
 )
-from forestplan.pictures.places import (
-    OF_CIRCLES,
-    Bends,
-    Places,
-    bends,
-    label_spots,
-    middle,
-    moved_places,
-    spaced,
-)
+from forestplan.pictures.places import OF_CIRCLES, Places, moved_places, spaced
 from forestplan.pictures.svg import Svg
 
 # Maps of more nodes than these are wider, and of more than the second have smaller circles and straight edges.
@@ -166,15 +158,30 @@ class Map:
         places, self.radius = spaced(places, width, height, margin, radius, least, apart)
         self.network, self.places = network, moved_places(places, left, top)
         self.labels: Places = {}
-        self.bend: Bends = {}
+        # By how much the point is moved aside towards which each edge that is bent is drawn.
+        self.bend: dict[Edge, Point] = {}
         if network.nodes <= LARGE:
-            self.bend = bends(self.places, network.edges, self.radius + 1)
+            edges, room = list(network.edges), (left, top, left + width, top + height)
+            self.radius = radius_passed(self.all_places(), edges, self.radius, room)
+            bends = bends_of(self.all_places(), edges, self.radius, room)
+            self.bend = {edge: bend for edge, bend in zip(edges, bends) if bend is not None}
 
-    def label(self, distance: float, boxes: Places) -> None:
-        spots = label_spots(
-            self.places, self.network.edges, self.bend, distance, boxes, self.radius + 2
-        )
-        self.labels = {v: spot.place for v, spot in spots.items()}
+    def all_places(self) -> list[Point]:
+        return [self.places[v] for v in self.network.vertices]
+
+    def label(self, boxes: Places, corner: float = 0) -> None:
+        """Finds where the words of each vertex are, of which `boxes` has half the width and half the height; `corner`
+        is how much farther out the corners of its mark are."""
+        edges = list(self.network.edges)
+        bends = [self.bend.get(edge) for edge in edges]
+        texts = [[boxes[v]] for v in self.network.vertices]
+        places = self.all_places()
+        spots = labels_at(places, edges, bends, self.radius, corner, texts, [], inf, inf)
+        self.labels = {v: (x, y) for v, (_, _, x, y) in zip(self.network.vertices, spots)}
+
+    def towards(self, a: int, b: int) -> Point:
+        """The point towards which the edge from a to b is drawn."""
+        return towards_of(self.places[a], self.places[b], self.bend.get((min(a, b), max(a, b))))
 
     def at(self: Drawing, left: float, top: float) -> Drawing:
         """The same map elsewhere."""
@@ -196,11 +203,7 @@ class Map:
         mark: str = "edge",
     ) -> None:
         """An edge from a to b; with a head, an arrow whose tip is at this distance of b."""
-        (x1, y1), (x2, y2), (mx, my) = (
-            self.places[a],
-            self.places[b],
-            middle(self.places, self.bend, a, b),
-        )
+        (x1, y1), (x2, y2), (mx, my) = (self.places[a], self.places[b], self.towards(a, b))
         ex, ey = x2 - mx, y2 - my
         length = sqrt(ex * ex + ey * ey) or 1
         ex, ey = ex / length, ey / length

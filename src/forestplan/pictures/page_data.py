@@ -48,22 +48,18 @@ class PlainNode:
 @dataclass(frozen=True)
 class NetNode(PlainNode):
     """A node as a page draws it. `label` is what is written after its number: its name and its identifier, cut if they
-    are long. It is written on the `side` of the node, one of SIDES."""
+    are long."""
 
     label: str
-    side: int
 
 
 @dataclass(frozen=True)
 class Net:
-    """A network: its edges (v, w) count nodes from 1, the lower node first, and ascend. `bends` says of each edge by
-    how much its middle is moved aside, in the measure of the nodes' places; it has None for one that is straight.
-    """
+    """A network: its edges (v, w) count nodes from 1, the lower node first, and ascend."""
 
     name: str
     nodes: Sequence[NetNode]
     edges: Collection[Edge]
-    bends: Sequence[tuple[float, float] | None]
 
 
 @dataclass(frozen=True)

@@ -4,28 +4,16 @@ import json
 import os
 import re
 import unicodedata
-from collections.abc import Collection, Sequence
+from collections.abc import Callable, Collection, Sequence
+from functools import cache
 
 from forestplan.network import Edge, Network
-from forestplan.pictures import palette
+from forestplan.pictures import geometry, palette
 from forestplan.pictures.marks import cut_name
 from forestplan.pictures.page_data import Net, NetNode, PlainNode, as_object
-from forestplan.pictures.places import (
-    LITTLE,
-    MOST_LOOKED_AT,
-    SHORT,
-    SIDES,
-    UPPER_FIRST,
-    Bends,
-    Places,
-    Point,
-    label_spots,
-    page_bends,
-    page_radius,
-    places_of,
-    spaced,
-)
-from forestplan.pictures.svg import escaped, text_width
+from forestplan.pictures.places import Places, places_of, spaced
+from forestplan.pictures.svg import escaped
+from forestplan.pictures.translation import translated
 
 FOLDER = os.path.join(os.path.dirname(os.path.abspath(__file__)), "page")
 # Each imports only those before it.
@@ -35,22 +23,25 @@ MORE = {"watch_reactions": ("messages",)}
 # In pixels of a large screen; the radius of a node at most and at least (of a hundred and fewer; of more all are
 # smaller), and how many radii two are apart.
 WIDE, HIGH, MARGIN, RADIUS, LEAST, APART = 1000, 700, 70, 22, 9, 3
-# The sides of a node where a page writes what the node has found, and where it draws barred channels.
-BELOW, BESIDE_BARS = {7, 8, 9}, {5, 6, 7}
-# Labels have room on a stage on which the network is as small as this. Letters don't shrink with it.
-SHRUNK = 0.8
-# How far around a label a page looks for room, in distances of the label from its node.
-LOOKS = 2.5
-# How many times as near a label is to its own node as to any other one, if it can be.
-CLEARLY = 1.5
 # The most digits of an identifier that are written.
 MOST_DIGITS = 8
 
 
 def hues() -> str:
-    """What marks look like and where labels are, as the module hues.js."""
-    given = {**palette.page_marks(), "SIDES": SIDES, "SHORT": SHORT, "LITTLE": LITTLE}.items()
+    """What marks look like, as the module hues.js."""
+    given = palette.page_marks().items()
     return "".join(f"export const {name} = {json.dumps(value)};\n" for name, value in given)
+
+
+@cache
+def geometry_script() -> str:
+    """Where all is drawn, as the module geometry.js."""
+    with open(geometry.__file__, encoding="utf-8") as file:
+        return translated(file.read())
+
+
+# The modules of pages that are made of modules of Python, by their names.
+MADE: dict[str, Callable[[], str]] = {"hues": hues, "geometry": geometry_script}
 
 
 def net_of(network: Network) -> Net:
@@ -79,24 +70,12 @@ def plain_nodes(network: Network, places: Places) -> list[PlainNode]:
 
 
 def net_at(name: str, nodes: Sequence[PlainNode], edges: Collection[Edge]) -> Net:
-    """A network whose nodes are where they are: how its edges are bent, and what is written beside its nodes, and on
-    which side."""
-    places = {v: (node.x, node.y) for v, node in enumerate(nodes, 1)}
-    labels = [page_label(v, node) for v, node in enumerate(nodes, 1)]
-    bent = page_bends(places, edges)
-    sides = page_sides(nodes, places, bent, edges, labels)
+    """A network whose nodes are where they are, with what is written beside them."""
     drawn = [
-        NetNode(node.x, node.y, node.id, node.name, node.bars, label, side)
-        for node, label, side in zip(nodes, labels, sides)
+        NetNode(node.x, node.y, node.id, node.name, node.bars, page_label(v, node))
+        for v, node in enumerate(nodes, 1)
     ]
-    return Net(name, drawn, edges, [rounded_bend(bent, edge) for edge in edges])
-
-
-def rounded_bend(bent: Bends, edge: Edge) -> Point | None:
-    if edge not in bent:
-        return None
-    dx, dy = bent[edge]
-    return round(dx, 1), round(dy, 1)
+    return Net(name, drawn, edges)
 
 
 def page_label(v: int, node: PlainNode) -> str:
@@ -110,29 +89,6 @@ def page_label(v: int, node: PlainNode) -> str:
     return " ".join(filter(None, [shown, own]))
 
 
-def page_sides(
-    nodes: Sequence[PlainNode],
-    places: Places,
-    bent: Bends,
-    edges: Collection[Edge],
-    labels: Sequence[str],
-) -> list[int]:
-    """On which side of each node its label is written: on none where what the node has found is written, or its barred
-    channels."""
-    if not nodes or len(nodes) * max(len(nodes), len(edges)) > MOST_LOOKED_AT:
-        return [UPPER_FIRST[0]] * len(nodes)
-    radius = min(RADIUS, page_radius(places))
-    size = max(10 / SHRUNK, min(13 / SHRUNK, 0.75 * radius))
-    boxes: Places = {}
-    kept_free = {}
-    for v, (node, label) in enumerate(zip(nodes, labels), 1):
-        boxes[v] = text_width(f"{v} {label}".strip(), size) / 2, size / 2
-        kept_free[v] = BELOW | BESIDE_BARS if node.bars else BELOW
-    distance = radius + 5 / SHRUNK + size / 2
-    spots = label_spots(places, edges, bent, distance, boxes, radius + 2, kept_free, LOOKS, CLEARLY)
-    return [spots[v].side for v in places]
-
-
 def page_file_text(name: str) -> str:
     with open(os.path.join(FOLDER, name), encoding="utf-8") as file:
         return file.read()
@@ -142,8 +98,9 @@ def joined(main: str) -> str:
     """The modules that a page needs as one script, on one line: imports and exports go, since all names are in one
     place, and comments: what is said to a reader has lines of its own, and types are in `/** .. */` on one line.
     """
+    names = (*MODULES, *MORE.get(main, ()), main)
     text = "".join(
-        [hues(), *(page_file_text(f"{name}.js") for name in (*MODULES, *MORE.get(main, ()), main))]
+        [*(made() for made in MADE.values()), *(page_file_text(f"{name}.js") for name in names)]
     )
     text = re.sub(r"(?m)^export |^ *//.*$|/\*\*.*?\*/ ?", "", text)
     text = re.sub(r"(?ms)^import .*?;$", "", text)

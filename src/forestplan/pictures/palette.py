@@ -41,6 +41,8 @@ IN_RING = 0.85
 RING_WIDTH, LEAST_RING = 0.25, 2
 # Half the width of an arrow's head, in its lengths.
 HEAD = 0.42
+# A ring around a node: how wide it is, what is between it and the node, and how much farther out the next one is.
+OUTER_RING, RING_GAP, NEXT_RING = 3.5, 1.5, 4.5
 # The most barred channels of a node that are drawn.
 MOST_BARS = 4
 # A number of more digits than these is written as the number of its binary digits.
@@ -150,6 +152,9 @@ def page_marks() -> dict[str, object]:
         "SQUARE_SIZES": SQUARE_SIZES,
         "BAR_SIZES": BAR_SIZES,
         "HEAD": HEAD,
+        "OUTER_RING": OUTER_RING,
+        "RING_GAP": RING_GAP,
+        "NEXT_RING": NEXT_RING,
         "MOST_BARS": MOST_BARS,
         "MOST_DIGITS": MOST_DIGITS,
     }

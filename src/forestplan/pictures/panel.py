@@ -1,8 +1,9 @@
 """A small map of a network: a forest's edges and colours, or the channels once some forests are merged."""
 from forestplan.network import Edge, Network
+from forestplan.pictures.geometry import CORNER
 from forestplan.pictures.marks import LARGE, Map, alone_chip, by_size, channel_circle, colour_square
 from forestplan.pictures.palette import INK, PAPER, WRONG
-from forestplan.pictures.places import OF_SQUARES, box_height, places_of
+from forestplan.pictures.places import OF_SQUARES, Places, box_height, places_of
 from forestplan.pictures.svg import Svg, text_width
 
 PANEL = 250
@@ -19,9 +20,8 @@ class Panel(Map):
         self.height = box_height(places, PANEL, margin, 100)
         super().__init__(network, places, PANEL, self.height, margin, radius, least, OF_SQUARES)
         if not self.is_large:
-            self.label(
-                self.radius * 1.25 + 8, {v: (text_width(v, 8.5) / 2, 4) for v in network.vertices}
-            )
+            boxes: Places = {v: (text_width(v, 8.5) / 2, 4) for v in network.vertices}
+            self.label(boxes, corner=self.radius * CORNER)
 
     def colours(
         self, svg: Svg, left: float, top: float, parents: dict[int, int], colours: dict[int, int]

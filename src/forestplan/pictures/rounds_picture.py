@@ -6,9 +6,9 @@ from typing import TYPE_CHECKING
 from forestplan.definitions.rounds import LAST_COLOUR, Pulse, ColouringRounds
 from forestplan.faults import at_most
 from forestplan.network import Network
+from forestplan.pictures.geometry import Point
 from forestplan.pictures.marks import alone_chip, bar_row, bars_width, channel_circle, colour_square
 from forestplan.pictures.palette import FOREST_COLOURS, INK, PAPER, SOFT, channel_hue, short
-from forestplan.pictures.places import Point
 from forestplan.pictures.svg import Svg, text_width
 
 if TYPE_CHECKING:

@@ -8,9 +8,9 @@ import math
 
 from forestplan.fault_codes import Code
 from forestplan.faults import Fault, InText, at_most
+from forestplan.pictures.geometry import Point
 from forestplan.pictures.marks import dash_of, short_name, wire_arrow
 from forestplan.pictures.palette import BAND, BORDER, INK, PAPER, PULSE, WIRES, WRONG
-from forestplan.pictures.places import Point
 from forestplan.pictures.svg import Svg, text_width, wrapped
 from forestplan.pictures.transcripts import Run, Wire
 from forestplan.pictures.wrong_run import draw_wrong, stop_words

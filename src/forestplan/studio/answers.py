@@ -216,12 +216,9 @@ class FileUnsaid:
 
 @dataclass(frozen=True)
 class DrawingFound:
-    """How a network is drawn, as a network has it, too: how its edges are bent, and of each node the label and its
-    side."""
+    """What is written beside each node after its number, as a network has it, too."""
 
-    bends: Sequence[tuple[float, float] | None]
     labels: Sequence[str]
-    sides: Sequence[int]
 
 
 @dataclass(frozen=True)

@@ -15,8 +15,8 @@ CHANGING = re.compile(r"(?m)^export let (\w+)")
 
 
 def module_text(name: str) -> str:
-    if name == "hues":
-        return pages.hues()
+    if name in pages.MADE:
+        return pages.MADE[name]()
     folder = next(one for one in FOLDERS if os.path.exists(os.path.join(one, f"{name}.js")))
     with open(os.path.join(folder, f"{name}.js"), encoding="utf-8") as file:
         return file.read()

@@ -103,7 +103,7 @@ class TidyCall(OfNetwork):
 
 @dataclass(frozen=True, kw_only=True)
 class DrawingCall(OfNetwork):
-    """Asks how a network is drawn, after a change or when a node is let go."""
+    """Asks what is written beside the nodes of a network, after a change."""
 
 
 @dataclass(frozen=True, kw_only=True)

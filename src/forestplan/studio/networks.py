@@ -173,7 +173,7 @@ def file_read(call: ReadCall, session: Session, _tell: Tell) -> FileRead | FileU
         form = form_of(name, name, stated)
         network, said = read_any(call.data, name, form, stated)
         net = drawable_net(network)
-        return FileRead(net.name, net.nodes, net.edges, net.bends, said)
+        return FileRead(net.name, net.nodes, net.edges, said)
     except Unsaid as why:
         choices = [Choice(command, means) for command, means in why.choices]
         return FileUnsaid(str(why), choices, why.wanted, why.titles)
@@ -233,11 +233,10 @@ def by_shape(kind: str, nodes: int, *_: int) -> dict[int, tuple[float, float]]:
 
 
 def drawing_found(call: DrawingCall, session: Session, _tell: Tell) -> DrawingFound:
-    """How a network is drawn whose nodes are where the page has them."""
+    """What is written beside the nodes of a network."""
     network = network_asked(call)
     net = net_at(network.name, plain_nodes(network, places_of(network)), network.edges)
-    labels = [node.label for node in net.nodes]
-    return DrawingFound(net.bends, labels, [node.side for node in net.nodes])
+    return DrawingFound([node.label for node in net.nodes])
 
 
 def tidy(call: TidyCall, session: Session, _tell: Tell) -> Net:

@@ -259,7 +259,7 @@ class Recording:
     def at(self, spot: Spot) -> None:
         """All that the page can ask at a place."""
         opened = opened_by(spot.place, self.session)
-        values, net = opened.address.values, opened.network or Net("", [], [], [])
+        values, net = opened.address.values, opened.network or Net("", [], [])
         if values.example:
             self.examples.add(values.example)
             self.ask(ExampleCall(name=values.example))
@@ -492,7 +492,7 @@ def made_calls() -> Iterator[MakeCall]:
 
 def of_edges(nodes: int, edges: Collection[tuple[int, int]]) -> Net:
     """A network without places: no answer that is recorded of it depends on them."""
-    return Net("", [NetNode(0, 0, "", "", (), "", 0)] * nodes, sorted(edges), [])
+    return Net("", [NetNode(0, 0, "", "", (), "")] * nodes, sorted(edges))
 
 
 def drawn_from(net: Net) -> Iterator[Net]:

@@ -230,8 +230,8 @@ class Handler(http.server.BaseHTTPRequestHandler):
         path = self.path.split("?")[0]
         name = "page.html" if path == "/" else path[1:]
         kind = KINDS.get(os.path.splitext(name)[1])
-        if name == "hues.js":
-            body = pages.hues().encode()
+        if name.endswith(".js") and name[:-3] in pages.MADE:
+            body = pages.MADE[name[:-3]]().encode()
         elif kind and name in FILES:
             with open(FILES[name], "rb") as file:
                 body = file.read()

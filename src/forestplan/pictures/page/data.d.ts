@@ -10,14 +10,12 @@ interface PlainNode {
 
 interface NetNode extends PlainNode {
   label: string;
-  side: number;
 }
 
 interface Net {
   name: string;
   nodes: NetNode[];
   edges: [number, number][];
-  bends: ([number, number] | null)[];
 }
 
 interface AnyPulse {

@@ -17,10 +17,9 @@ export const SQUARE_SIZES: number[];
 export const BAR_SIZES: number[];
 export const MOST_BARS: number;
 export const MOST_DIGITS: number;
-// The sides of a node on which its label can be, as directions; a text that is no wider than a little more than SHORT
-// in each half isn't moved aside.
-export const SIDES: [number, number][];
-export const SHORT: number;
-export const LITTLE: number;
+// A ring around a node: how wide it is, what is between it and the node, and how much farther out the next one is.
+export const OUTER_RING: number;
+export const RING_GAP: number;
+export const NEXT_RING: number;
 // Half the width of an arrow's head, in its lengths.
 export const HEAD: number;

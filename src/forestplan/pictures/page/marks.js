@@ -1,8 +1,9 @@
 // The marks of the pictures, as light descriptions that `patch` makes into elements.
+import {pillHigh, pillWide, textWide} from "./geometry.js";
 import {BAR_SIZES, FORESTS, GREYS, HUES, INK, LEAST_RING, LOOKS, MOST_DIGITS, PALE, PERIOD, RING_WIDTH, SQUARE_SIZES,
   WHITE, WIRES, WRONG} from "./hues.js";
 
-const SVG = "http://www.w3.org/2000/svg", LEAST_SIZE = 8, MOST_LETTERS = 13;
+const SVG = "http://www.w3.org/2000/svg", LEAST_SIZE = 8, MOST_LETTERS = 13, NOTE = 11.5;
 // `inside` is a text or a list of marks.
 /** @type {(name: string, attributes?: Attributes, inside?: Inside) => Mark} */
 export function mark(name, attributes = {}, inside = null) { return {name, attributes, inside}; }
@@ -43,6 +44,10 @@ function update(element, wanted) {
   if (Array.isArray(wanted.inside)) patch(element, wanted.inside);
   else if (element.inside !== wanted.inside) element.textContent = element.inside = wanted.inside;
 }
+
+// Whether a ring is there: of what isn't so none is.
+/** @type {(one: string | false | null) => one is string} */
+export function isColour(one) { return Boolean(one); }
 
 // What an event is of, which is an element of the page.
 /** @param {Event} event */
@@ -105,7 +110,7 @@ export function textMark(x, y, wanted, fill, said, more = {}) {
 // What a node has found, in words below it; what has no room, `wide` pixels, is cut, and whole in its title.
 /** @param {number} x @param {number} y @param {number} size @param {string} said @param {number} wide @returns {Marks} */
 export function resultWords(x, y, size, said, wide) {
-  const most = Math.max(4, Math.min(MOST_LETTERS, Math.floor(wide / size / 0.6))), fits = said.length <= most;
+  const most = Math.max(4, Math.min(MOST_LETTERS, Math.floor(wide / textWide(1, size)))), fits = said.length <= most;
   return [fits ? null : mark("title", {}, said),
     textMark(x, y, size, "var(--ink)", fits ? said : said.slice(0, most - 1) + "…", HALO)];
 }
@@ -140,23 +145,21 @@ export function barMark(x, y, r, channel) {
     mark("line", {x1: x - 0.9 * r, y1: y + 0.9 * r, x2: x + 0.9 * r, y2: y - 0.9 * r, stroke: WRONG,
       "stroke-width": 1.5}), textMark(x, y, r * sizeIn(BAR_SIZES, String(channel)), INK, channel, BOLD)];
 }
-/** @param {string} said @param {number} size */
-export function pillWidth(said, size) { return said.length * size * 0.62 + 9; }
 // How a message looks that isn't looked at.
 export const FADED = {fill: "var(--paper)", stroke: "var(--edge)", "stroke-dasharray": "2 2", ink: "var(--soft)", "data-mark": "faded"};
 // A pill with words: a message on its way.
 /** @type {(x: number, y: number, said: string, kind: string, size: number, look?: Attributes & {ink?: string}) => Marks} */
 export function pill(x, y, said, kind, size, {ink = INK, ...more} = {}) {
-  const wide = pillWidth(said, size), high = size + 6;
+  const wide = pillWide(said.length, size), high = pillHigh(size);
   return [mark("rect", {x: x - wide / 2, y: y - high / 2, width: wide, height: high, rx: high / 2, fill: PALE[kind],
     stroke: WIRES[kind], "stroke-width": 1.6, "data-mark": kind, ...more}), textMark(x, y, size, ink, said)];
 }
 /** @param {string} said */
-export function noteWidth(said) { return said.length * 7 + 12; }
+export function noteWidth(said) { return textWide(said.length, NOTE) + 12; }
 // A red note on a white ground.
 /** @param {number} x @param {number} y @param {string} said @returns {Marks} */
 export function note(x, y, said) {
   const wide = noteWidth(said);
   return [mark("rect", {x: x - wide / 2, y: y - 10, width: wide, height: 20, rx: 10, fill: WHITE, stroke: WRONG,
-    "stroke-width": 1.5}), textMark(x, y, 11.5, WRONG, said, BOLD)];
+    "stroke-width": 1.5}), textMark(x, y, NOTE, WRONG, said, BOLD)];
 }

@@ -1,6 +1,7 @@
 // The rounds of a network, pulse by pulse, by what src/forestplan/ has worked out.
+import {pillHigh, pillWide} from "./geometry.js";
 import {WIRES} from "./hues.js";
-import {FADED, HALO, blank, channelCircle, colourSquare, discOf, html, mark, pill, pillWidth, resultWords, short,
+import {FADED, HALO, blank, channelCircle, colourSquare, discOf, html, isColour, mark, pill, resultWords, short,
   textMark} from "./marks.js";
 
 const ORIENT = 1, SEED = 2, LAST_BIT_STEP = 6, LAST_COLOUR = 12;
@@ -161,7 +162,7 @@ export class RoundsFilm {
         shown.push(mark("circle", {class: "token", cx: x, cy: y, r: DOT / 2, fill: WIRES.payload, "data-mark": "dot"}));
         continue;
       }
-      const [x, y] = stage.beside(v, w, start + (1 - start) * far, pillWidth(said, size), size + 6);
+      const [x, y] = stage.beside(v, w, start + (1 - start) * far, pillWide(said.length, size), pillHigh(size));
       const look = why && !heard.has([p, v, w].join(" ")) ? FADED : {};
       shown.push(mark("g", {class: "token"},
         [mark("title", {}, `${v} tells ${w}: ${word} ${sent}`), ...pill(x, y, said, "payload", size, look)]));
@@ -181,7 +182,7 @@ export class RoundsFilm {
       says: v => `pulse ${p}, ${this.stateText(v, p, shown)}`,
       label: pulse.results && !this.channels ? v => this.net.nodes[v - 1].label
         : quiet ? v => stage.radius < 9 ? "" : String(v) : null,
-      ring: v => v === node ? "var(--glow)" : names.has(v) ? "var(--edge)" : null,
+      rings: v => [v === node && "var(--glow)", names.has(v) && "var(--edge)"].filter(isColour),
       around: v => pulse.results ? pulse.new.includes(v) ? LIT * stage.radius : 0
         : v in pulse.chosen ? LIT * stage.radius : 0,
       edge: () => ({"stroke-width": p === 0 ? 1.6 : 0.8}), still: [this, p, forest, node, why, quiet, plain]});

@@ -1,6 +1,7 @@
 // A run without a clock: rows that src/forestplan/pictures/watch_page.py has worked out of a transcript.
+import {pillHigh, pillWide} from "./geometry.js";
 import {WIRES} from "./hues.js";
-import {FADED, channelCircle, html, mark, pill, pillWidth, resultWords, row, textMark} from "./marks.js";
+import {FADED, channelCircle, html, isColour, mark, pill, resultWords, row, textMark} from "./marks.js";
 import {nameOf} from "./stage.js";
 
 /** @type {Record<string, string>} */
@@ -24,7 +25,7 @@ function wireWords(said, isLong) {
 /** @type {(stage: Stage, v: number, w: number, far: number, said: string, isLong: boolean, more?: Attributes, look?: Attributes & {ink?: string}, shown?: string) => Mark} */
 export function wireMark(stage, v, w, far, said, isLong, more = {}, look = {}, shown = wireWords(said, isLong)) {
   const kind = said.split(" ")[0], size = Math.max(9, Math.min(stage.largest - 10.5, stage.radius * 0.55));
-  const [x, y] = stage.beside(v, w, far, pillWidth(shown, size), size + 6, 3);
+  const [x, y] = stage.beside(v, w, far, pillWide(shown.length, size), pillHigh(size), 3);
   return mark("g", {class: "wire", ...more},
     [mark("title", {}, `${said}, from ${v} to ${w}`), ...pill(x, y, shown, kind, size, look)]);
 }
@@ -219,7 +220,7 @@ export class RunFilm {
     const isWord = typeof this.table.start[0].found === "string";
     stage.draw({node: (v, x, y, r) => alphaMarks(stage, this.look(v, at), v, x, y, r), bars: false, apart: 4.6,
       above: () => this.wires(stage, stamp, at, {node, only}), below: isWord,
-      ring: v => last && last[1] === v ? "var(--glow)" : node === v ? "var(--edge)" : null,
+      rings: v => [last && last[1] === v && "var(--glow)", node === v && "var(--edge)"].filter(isColour),
       says: v => lookWords(this.look(v, at), this.found.last), label: v => nameOf(this.net, v) + (lazy.includes(v) ? " (waits)" : ""),
       edge: (v, w) => heldEdge(v, w, waits.has(v + "-" + w))});
     return at;

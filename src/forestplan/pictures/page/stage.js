@@ -1,11 +1,11 @@
 // A picture of a network: where things are on the screen, what is drawn, and what is under the pointer.
-import {HEAD, LITTLE, MOST_BARS, SHORT, SIDES} from "./hues.js";
+import {CORNER, along, bendsOf, fitted, labelHalf, labelSize, labelsAt, largestIn, leastApart, marginsOf, onLink, radiusIn,
+  radiusPassed, towardsOf} from "./geometry.js";
+import {HEAD, MOST_BARS, NEXT_RING, OUTER_RING, RING_GAP} from "./hues.js";
 import {HALO, barMark, mark, patch, textMark} from "./marks.js";
 
-const RING = 7;
-
 export class Stage {
-  // `net` has nodes {x, y, id, name, bars, label, side} from 0, and edges [v, w] from 1.
+  // `net` has nodes {x, y, id, name, bars, label} from 0, and edges [v, w] from 1.
   /** @param {SVGSVGElement} svg @param {Net} net */
   constructor(svg, net) {
     this.svg = svg;
@@ -30,6 +30,16 @@ export class Stage {
     this.still = [];
     /** @type {Map<string, Point | null>} */
     this.bends = new Map();
+    /** @type {Spot[]} */
+    this.spots = [];
+    /** @type {Label[][]} */
+    this.texts = [];
+    /** @type {Point[]} */
+    this.places = [];
+    // What a drawing depended on, by which it is seen what stays.
+    /** @type {string[]} */
+    this.drawn = [];
+    this.sized = "";
     /** @type {number[][]} */
     this.close = [];
     // How far what is around a node goes beyond its circle.
@@ -45,24 +55,16 @@ export class Stage {
 
   // The scale that fits the network into the stage; it is kept while the network is drawn on.
   fit() {
-    const box = this.svg.getBoundingClientRect(), xs = this.net.nodes.map(n => n.x), ys = this.net.nodes.map(n => n.y);
+    const box = this.svg.getBoundingClientRect(), {nodes} = this.net;
     this.wide = box.width || 1;
     this.high = box.height || 1;
     this.isZoomed = false;
-    const names = Math.max(0, ...this.net.nodes.map(n => Math.min(12, n.name.length) + Math.min(8, n.id.length)));
-    const margin = Math.max(42, Math.min(64, 12 + this.wide / 14)) + Math.min(6 * names, this.wide / 8)
-      + 2 * (this.largest - 22);
-    /** @type {(size: number, part: number) => number} */
-    const room = (size, part) => size - 2 * Math.min(margin, size / part);
-    if (xs.length < 2) {
-      this.to = {scale: 1, x: this.wide / 2 - (xs[0] || 0), y: this.high / 2 - (ys[0] || 0)};
-      if (!xs.length) this.to = {scale: 1, x: 0, y: 0};
-      return;
-    }
-    const left = Math.min(...xs), top = Math.min(...ys), across = Math.max(...xs) - left, up = Math.max(...ys) - top;
-    const scale = Math.min(1.4, room(this.wide, 4) / (across || 1), room(this.high, 5) / (up || 1));
-    this.to = {scale, x: (this.wide - scale * across) / 2 - scale * left,
-      y: (this.high - scale * up) / 2 - scale * top};
+    if (!nodes.length) { this.to = {scale: 1, x: 0, y: 0}; return; }
+    const largest = largestIn(this.wide, this.high, this.largest), size = labelSize(largest, this.largest);
+    const words = Math.max(...nodes.map((_, k) => nameOf(this.net, k + 1).length));
+    const margins = marginsOf(this.wide, this.high, largest, labelHalf(words, size));
+    const [scale, x, y] = fitted(nodes.map(n => [n.x, n.y]), this.wide, this.high, ...margins);
+    this.to = {scale, x, y};
   }
   // Fits it once more if there is another size for it; what somebody has zoomed or moved stays where it is.
   refit() {
@@ -151,55 +153,67 @@ export class Stage {
     }
     return null;
   }
-  // Edges that pass a third node too near are bent, as the network's data say.
-  measure() {
-    const {nodes, edges, bends} = this.net;
-    // While a node is dragged the edges keep their bends.
-    if (this.isDragged()) { this.still = []; return; }
-    const now = JSON.stringify([nodes.map(n => [n.x, n.y, n.label, n.side]), edges, bends, this.to, this.wide, this.apart, this.largest]);
+  // Where all is by the rules of geometry.js: first the circles. Their radius stays while nodes are only moved: one that
+  // is dragged over another shrinks none.
+  space() {
+    const {nodes, edges} = this.net, {wide, high, apart, largest} = this;
+    const sized = [nodes.length, edges.length, this.to.scale, wide, high, apart, largest].join();
+    this.places = nodes.map((_, k) => this.place(k + 1));
+    if (sized === this.sized) return;
+    this.sized = sized;
+    this.least = Math.min(1e9, leastApart(this.places));
+    this.radius = radiusPassed(this.places, edges, radiusIn(this.least, apart, largestIn(wide, high, largest)), this.room());
+  }
+  // Then bends and labels. `isBelow` says that something is written below each node, `isBarred` that its barred channels
+  // are drawn.
+  /** @param {boolean} isBelow @param {boolean} isBarred */
+  measure(isBelow, isBarred) {
+    const {places, texts, radius, wide, high} = this, {nodes, edges} = this.net, bars = isBarred && nodes.map(n => n.bars.length);
+    const now = JSON.stringify([places, edges, texts, radius, wide, high, isBelow, bars]);
     if (now === this.key) return;
     this.still = [];
     this.key = now;
     this.close = nodes.map(() => []);
     edges.forEach(([v, w]) => { this.close[v - 1].push(w); this.close[w - 1].push(v); });
     this.close.forEach(list => list.sort((a, b) => a - b));
-    const xs = nodes.map((_, k) => this.X(k + 1)), ys = nodes.map((_, k) => this.Y(k + 1));
-    let least = 1e9;
-    xs.forEach((x, v) => {
-      for (let w = v + 1; w < xs.length; w++) least = Math.min(least, Math.hypot(x - xs[w], ys[v] - ys[w]));
-    });
-    this.least = least;
-    // Numbers have room if there is any, rather than wires.
-    const room = Math.max(least / this.apart, Math.min(8, least / 2.4));
-    this.radius = Math.max(5, Math.min(this.largest, this.wide / 16, room));
-    this.bends = new Map(edges.map(([a, b], k) => [a + " " + b, bends[k] || null]));
+    const bends = bendsOf(places, edges, radius, this.room());
+    this.bends = new Map(edges.map(([a, b], k) => [a + " " + b, bends[k]]));
+    const boxes = texts.map(own => own.map(({said, size}) => /** @type {Point} */ ([labelHalf(said.length, size), 0.55 * size])));
+    this.spots = labelsAt(places, edges, bends, radius, CORNER * radius, boxes, this.taken(isBelow, isBarred), wide, high);
   }
+  // Where something else is written: below nodes, and their barred channels.
+  /** @param {boolean} isBelow @param {boolean} isBarred @returns {Box[]} */
+  taken(isBelow, isBarred) {
+    const r = this.radius, high = Math.max(r, 24) / 2, wide = Math.max(1.35 * r, Math.min(this.least / 2, 44));
+    /** @type {Box[]} */
+    const found = [];
+    this.places.forEach(([x, y], k) => {
+      const bars = isBarred ? Math.min(this.net.nodes[k].bars.length, MOST_BARS + 1) : 0;
+      if (isBelow) found.push([x, y + r + high, wide, high]);
+      if (bars) found.push([x + r - 1 + bars * 9.5, y + r + 5, bars * 9.5, 9]);
+    });
+    return found;
+  }
+  // Where edges are bent into: the stage, or if it is zoomed anywhere.
+  /** @returns {Box} */
+  room() { return this.isZoomed ? [-1e9, -1e9, 1e9, 1e9] : [0, 0, this.wide, this.high]; }
   isDragged() {
     return this.dragged > 0 && this.groups.length === this.net.nodes.length && this.lines.length === this.net.edges.length;
   }
-  // By how much the middle of an edge is moved aside, in the measure of the network, or null if it is straight.
+  // By how much the point is moved aside towards which an edge is drawn, or null if it is straight.
   /** @param {number} a @param {number} b */
   bend(a, b) { return this.bends.get(Math.min(a, b) + " " + Math.max(a, b)) || null; }
+  /** @param {number} v @returns {Point} */
+  place(v) { return [this.X(v), this.Y(v)]; }
   // The point towards which the edge from a to b is drawn.
   /** @param {number} a @param {number} b @returns {Point} */
-  middle(a, b) {
-    const [dx, dy] = this.bend(a, b) || [0, 0];
-    return [(this.X(a) + this.X(b)) / 2 + dx * this.to.scale, (this.Y(a) + this.Y(b)) / 2 + dy * this.to.scale];
-  }
+  middle(a, b) { return towardsOf(this.place(a), this.place(b), this.bend(a, b)); }
   /** @param {number} a @param {number} b @param {number} t @returns {Point} */
-  along(a, b, t) {
-    const m = this.middle(a, b), s = 1 - t;
-    return [s * s * this.X(a) + 2 * t * s * m[0] + t * t * this.X(b),
-      s * s * this.Y(a) + 2 * t * s * m[1] + t * t * this.Y(b)];
-  }
+  along(a, b, t) { return along(this.place(a), this.middle(a, b), this.place(b), t); }
   // A place on the way from a to b, to the right of it and off the nodes, for something of this size.
   /** @param {number} a @param {number} b @param {number} t @param {number} wide @param {number} high @returns {Point} */
   beside(a, b, t, wide, high, aside = 0) {
-    const dx = this.X(b) - this.X(a), dy = this.Y(b) - this.Y(a), whole = Math.hypot(dx, dy) || 1;
-    const across = Math.abs(dx) / whole, up = Math.abs(dy) / whole;
-    const touch = this.radius + 3 + (across * wide + up * high) / 2, off = Math.min(0.5, touch / whole);
-    const at = this.along(a, b, off + t * (1 - 2 * off)), by = 3 + aside + (up * wide + across * high) / 2;
-    return [at[0] - dy / whole * by, at[1] + dx / whole * by];
+    return onLink(this.place(a), this.middle(a, b), this.place(b), t, this.radius, wide, high, aside);
   }
   /** @param {number} a @param {number} b @param {Attributes} attributes */
   line(a, b, attributes) {
@@ -217,49 +231,60 @@ export class Stage {
     return [this.line(a, b, {stroke, "stroke-width": width, "data-mark": kind}), mark("path", {fill: stroke,
       d: `M${tx} ${ty}L${bx - ey * half} ${by + ex * half}L${bx + ey * half} ${by - ex * half}Z`})];
   }
-  // Where a label of this half width is, on the side of its node that the network's data say. The corners of a square
-  // are farther out than a circle; what has no room at the side of the stage is above or below.
-  /** @param {number} v @param {number} wide @param {number} size @param {boolean} isBelow @returns {Point} */
-  labelAt(v, wide, size, isBelow) {
-    const [dx, dy] = SIDES[this.net.nodes[v - 1].side], x = this.X(v), y = this.Y(v);
-    const far = this.radius * (1 + 0.8 * Math.abs(dx * dy)) + 5 + size / 2, aside = wide > SHORT + LITTLE ? wide - SHORT : 0;
-    const free = x + dx * far + aside * Math.max(-1, Math.min(1, 2 * dx));
-    const at = Math.max(wide + 2, Math.min(this.wide - wide - 2, free));
-    if (Math.abs(at - free) <= 4) return [at, y + dy * far];
-    return [at, y + (dy > 0 && !isBelow ? far : -far)];
-  }
-
   // Draws all. `edge(v, w)` gives an edge's attributes, `node(v, x, y, r)` the marks of a node, `label(v)` its words;
-  // `links()` and `above()` are marks; `ring(v)` is the colour of a ring around it, or nothing. `below` says that
+  // `links()` and `above()` are marks; `rings(v)` are the colours of rings around it. `below` says that
   // something is written below each node. `still` is all that they depend on but for what is above: as long as it is
   // the same, only that is drawn anew. `says(v)` is what a node shows, in words; `around(v)` is how far what `node`
   // draws goes beyond the circle.
   /** @param {Drawing} drawing */
-  draw({edge, node, label, says = () => "", ring, around = () => 0, links = () => [], above = () => [], bars = true,
+  draw({edge, node, label, says = () => "", rings = () => [], around = () => 0, links = () => [], above = () => [], bars = true,
     apart = 2.9, below = false, still}) {
     this.apart = apart;
-    this.around = v => Math.max(around(v), ring && ring(v) ? RING : 0);
-    this.measure();
+    this.around = v => around(v) + ringsWide(rings(v));
+    const {nodes, edges} = this.net;
+    /** @type {(v: number) => string} */
+    const saidOf = v => label ? label(v) : nameOf(this.net, v);
+    this.space();
+    this.texts = this.textsOf(saidOf);
+    this.measure(below, bars);
     const isStill = still && still.length === this.still.length && still.every((one, k) => one === this.still[k]);
     this.still = still || [];
     if (!isStill) {
       const box = `0 0 ${this.wide} ${this.high}`;
-      /** @type {(...vs: number[]) => boolean} */
-      const isKept = (...vs) => this.isDragged() && !vs.includes(this.dragged);
       if (this.svg.getAttribute("viewBox") !== box) this.svg.setAttribute("viewBox", box);
-      this.lines = this.net.edges.map(([v, w], k) => isKept(v, w) ? this.lines[k] : this.line(v, w,
+      // While a node is dragged, what isn't at it and is where it was is kept.
+      const isDragged = this.isDragged(), before = this.drawn, drawn = [...edges.map(([v, w]) => String(this.bend(v, w))), ...this.spots.map(String)];
+      /** @type {(at: number, ...vs: number[]) => boolean} */
+      const isKept = (at, ...vs) => isDragged && !vs.includes(this.dragged) && drawn[at] === before[at];
+      this.drawn = drawn;
+      this.lines = edges.map(([v, w], k) => isKept(k, v, w) ? this.lines[k] : this.line(v, w,
         {stroke: "var(--edge)", "stroke-width": 1.6, ...(edge ? edge(v, w) : {}), "data-edge": v + "-" + w}));
       patch(this.edges, this.lines);
       patch(this.arrows, links());
-      const size = Math.max(10, Math.min(this.largest - 9, this.radius * 0.75));
-      /** @type {(v: number) => string} */
-      const saidOf = v => label ? label(v) : nameOf(this.net, v);
-      const look = {node, size, says, ring, bars};
-      this.groups = this.net.nodes.map((_, k) => isKept(k + 1) ? this.groups[k]
-        : this.group(k + 1, {...look, said: saidOf(k + 1), below}));
+      const look = {node, says, rings, around, bars};
+      this.groups = nodes.map((_, k) => isKept(edges.length + k, k + 1) ? this.groups[k]
+        : this.group(k + 1, {...look, said: saidOf(k + 1)}));
       patch(this.nodes, this.groups);
     }
     patch(this.over, above());
+  }
+  // What may be written beside each node, the best first: all of its label, or only its number; and that smaller.
+  /** @param {(v: number) => string} saidOf @returns {Label[][]} */
+  textsOf(saidOf) {
+    const size = labelSize(Math.min(this.radius, largestIn(this.wide, this.high, this.largest)), this.largest);
+    return this.net.nodes.map((_, k) => {
+      const said = saidOf(k + 1), number = said.startsWith(String(k + 1)) ? String(k + 1) : "";
+      const all = [{said, size}, said !== number && {said: number, size}, {said: number, size: 8}];
+      return all.filter(/** @returns {one is Label} */ one => one && one.said !== "");
+    });
+  }
+  // The label of a node where it has room. Without room it is left out, but for a node that is ringed.
+  /** @param {number} v @param {string} said @param {boolean} isRinged @returns {Mark | null} */
+  labelMark(v, said, isRinged) {
+    const [text, , x, y] = this.spots[v - 1], texts = this.texts[v - 1];
+    if (!texts.length || text < 0 && !isRinged) return null;
+    const {said: shown, size} = texts[Math.max(0, text)], wide = labelHalf(shown.length, size);
+    return textMark(...this.outside(v, [x, y], wide, size), size, "var(--soft)", shown, {...HALO, "data-label": v});
   }
   // The place of a label, farther out where something around its node would cover it.
   /** @param {number} v @param {Point} spot @param {number} wide @param {number} size @returns {Point} */
@@ -271,18 +296,25 @@ export class Stage {
     return [spot[0] + dx / far * more, spot[1] + dy / far * more];
   }
   /** @param {number} v @param {LookOfNode} look @returns {Mark} */
-  group(v, {node, said, below, size, says, ring, bars}) {
-    const x = this.X(v), y = this.Y(v), r = this.radius, colour = ring && ring(v), own = this.net.nodes[v - 1].bars;
-    const wide = said.length * size * 0.3, spot = this.outside(v, this.labelAt(v, wide, size, below), wide, size);
+  group(v, {node, said, says, rings, around, bars}) {
+    const x = this.X(v), y = this.Y(v), r = this.radius, colours = rings(v), own = this.net.nodes[v - 1].bars;
     /** @type {Marks} */
-    const parts = [colour && mark("circle", {cx: x, cy: y, r: r + RING - 2, fill: "none", stroke: colour, "stroke-width": 4, "data-mark": colour.replace(/var\(--(\w+)\)/, "ring_$1")}),
-      ...node(v, x, y, r), textMark(...spot, size, "var(--soft)", said, HALO)];
+    const parts = [...ringMarks(x, y, r + around(v), colours), ...node(v, x, y, r), this.labelMark(v, said, colours.length > 0)];
     if (bars) own.slice(0, MOST_BARS).forEach((bar, n) => parts.push(...barMark(x + r + 8 + n * 19, y + r + 5, 9, bar)));
     const more = `+${own.length - MOST_BARS}`;
     if (bars && own.length > MOST_BARS) parts.push(textMark(x + r + 90, y + r + 5, 11, "var(--wrong)", more, HALO));
     return mark("g", {class: "node", tabindex: 0, role: "button", "data-node": v, "aria-label": [`node ${said || v}`, says(v)].filter(Boolean).join(": ")},
       parts);
   }
+}
+// How far rings go beyond what they are around.
+/** @param {string[]} colours */
+function ringsWide(colours) { return colours.length ? RING_GAP + OUTER_RING + (colours.length - 1) * NEXT_RING : 0; }
+// A ring of each colour, one around the other, so that none hides another.
+/** @param {number} x @param {number} y @param {number} r @param {string[]} colours @returns {Mark[]} */
+function ringMarks(x, y, r, colours) {
+  return colours.map((colour, k) => mark("circle", {cx: x, cy: y, r: r + RING_GAP + OUTER_RING / 2 + k * NEXT_RING, fill: "none",
+    stroke: colour, "stroke-width": OUTER_RING, "data-mark": colour.replace(/var\(--(\w+)\)/, "ring_$1")}));
 }
 // A node's number, with its name and its identifier if it has them.
 /** @param {Net} net @param {number} v */

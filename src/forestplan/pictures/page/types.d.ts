@@ -4,8 +4,11 @@
 // A number that JavaScript can hold, or its digits.
 type Numeral = number | string;
 type Edge = [number, number];
-// A place of the stage.
+// A place of the stage; a box by its middle and by half its width and half its height; and where a label is, by the
+// number of its text, its side and its place.
 type Point = [number, number];
+type Box = [number, number, number, number];
+type Spot = [number, number, number, number];
 
 type Attributes = Record<string, string | number | boolean | null | undefined>;
 // A description of an element of a picture; what is no mark is left out where marks are asked for.
@@ -14,6 +17,8 @@ type Marks = (Mark | null | undefined | boolean | 0 | "")[];
 type Inside = string | null | Marks;
 // An element that was made of a mark; it knows the mark, and what it shows.
 interface Shown extends SVGElement { mark?: Mark; shown?: Attributes; inside?: string | null; }
+// A text beside a node, and its size.
+interface Label { said: string; size: number; }
 // A node's circle on the stage: its number, its place and its radius.
 type OfNode<Result> = (v: number, x: number, y: number, r: number) => Result;
 
@@ -23,7 +28,7 @@ interface Drawing {
   node: OfNode<Marks>;
   label?: ((v: number) => string) | null;
   says?: (v: number) => string;
-  ring?: (v: number) => string | null;
+  rings?: (v: number) => string[];
   around?: (v: number) => number;
   links?: () => Marks;
   above?: () => Marks;
@@ -36,10 +41,9 @@ interface Drawing {
 interface LookOfNode {
   node: OfNode<Marks>;
   said: string;
-  below: boolean;
-  size: number;
   says: (v: number) => string;
-  ring?: (v: number) => string | null;
+  rings: (v: number) => string[];
+  around: (v: number) => number;
   bars: boolean;
 }
 

@@ -1,5 +1,5 @@
 // A page that plays a run of nodes that react to messages, without rounds: D is {net, run}. The place is a stamp.
-import {element, html, row} from "./marks.js";
+import {element, html, isColour, row} from "./marks.js";
 import {legend} from "./legend.js";
 import {MESSAGES, hueOf, reactedMarks, reactedWords} from "./messages.js";
 import {firstOf, wireMark} from "./run.js";
@@ -37,7 +37,7 @@ function show(stamp) {
   const last = at ? run.rows[at - 1] : null;
   picture.draw({node: (v, x, y, r) => reactedMarks(picture, lookOf_(v), x, y, r), bars: false, apart: 4.6, below: true,
     above: () => messagesAt(stamp), says: v => reactedWords(lookOf_(v)), label: v => nameOf(net, v),
-    ring: v => last && last[1] === v ? "var(--glow)" : v === chosen ? "var(--edge)" : null});
+    rings: v => [last && last[1] === v && "var(--glow)", v === chosen && "var(--edge)"].filter(isColour)});
   element("when").textContent = "stamp " + Math.floor(stamp);
   element("said").textContent = last ? `entry ${at}, stamp ${last[0]}: node ${last[1]} ${run.texts[last[3]]}` : "nothing has happened yet";
   element("table").replaceChildren(resultsTable(last ? last[1] : 0));

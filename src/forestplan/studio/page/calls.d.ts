@@ -148,9 +148,7 @@ interface FileUnsaid {
 }
 
 interface DrawingFound {
-  bends: ([number, number] | null)[];
   labels: string[];
-  sides: number[];
 }
 
 interface PlanFound {

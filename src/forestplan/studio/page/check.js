@@ -40,7 +40,7 @@ function showPlan() {
     const [v, w] = at, said = SAID[is.code] || is.code;
     return note(...(at.length === 2 ? stage.middle(v, w) : placeOfNote(v, noteWidth(said))), said);
   };
-  stage.draw({above, ring: v => at.includes(v) ? "var(--wrong)" : null,
+  stage.draw({above, rings: v => at.includes(v) ? ["var(--wrong)"] : [],
     says: v => plan[v - 1] ? `channel ${plan[v - 1]}` : "no channel",
     node: (v, x, y, r) => plan[v - 1] ? channelCircle(x, y, r, plan[v - 1]) : blank(x, y, r),
     edge: (v, w) => isWrong(v, w) ? {stroke: "var(--wrong)", "stroke-width": 5}

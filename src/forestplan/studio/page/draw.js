@@ -17,7 +17,7 @@ function showPlan() {
   /** @type {(v: number) => string} */
   const says = v => [plan[v - 1] ? `channel ${plan[v - 1]}` : "", `neighbours ${neighbours(v).join(", ") || "none"}`]
     .filter(Boolean).join(", ");
-  stage.draw({says, ring: v => v === seen.node ? "var(--glow)" : null,
+  stage.draw({says, rings: v => v === seen.node ? ["var(--glow)"] : [],
     edge: (v, w) => {
       const isChosen = isEdge(v, w), look = isChosen ? {stroke: "var(--glow)", "stroke-width": 4} : {};
       return {...look, tabindex: 0, role: "button", "aria-label": `edge ${v}–${w}`, "aria-pressed": isChosen};
@@ -60,19 +60,19 @@ export function askPlan() {
   }), 40);
 }
 
-// Asks how the network is drawn, a moment after the last change: while a node is dragged, bends and labels stay.
+// Asks what is written beside the nodes, a moment after the last change but a move.
 let drawing = 0;
 model.onChange(what => {
+  if (what === "move") return;
   clearTimeout(drawing);
   cancel("drawing");
-  if (what !== "load" && net.nodes.length) drawing = setTimeout(askDrawing, 40);
+  if (what !== "load" && net.nodes.some(node => node.name || node.id || node.label)) drawing = setTimeout(askDrawing, 40);
 });
 async function askDrawing() {
   // Of a network that is refused the plan says why.
   const got = await call("drawing", {network: text()}).catch(() => null);
   if (!got) return;
-  net.bends = got.bends;
-  net.nodes.forEach((node, k) => Object.assign(node, {label: got.labels[k], side: got.sides[k]}));
+  net.nodes.forEach((node, k) => { node.label = got.labels[k]; });
   show();
 }
 
@@ -151,7 +151,7 @@ function click(v, edge, event) {
   if (v) return chooseOrNot(v);
   if (edge) return choose(null, isEdge(...edge) ? null : edge);
   if (seen.node || seen.edge) return choose(null);
-  if (event instanceof MouseEvent) change(n => n.nodes.push({...stage.placeOf(event), id: "", name: "", bars: [], label: "", side: 2}));
+  if (event instanceof MouseEvent) change(n => n.nodes.push({...stage.placeOf(event), id: "", name: "", bars: [], label: ""}));
 }
 // Whether a lesson's step asks something of an example that stays as it is: a click chooses a node there, and changes
 // nothing.
@@ -163,7 +163,7 @@ function isOnlyLookedAt() {
 function addByKey() {
   const last = net.nodes[net.nodes.length - 1], up = net.nodes.length % 2 ? 30 : -30;
   const place = last ? {x: last.x + 70, y: last.y + up} : {x: stage.wide / 2, y: stage.high / 2};
-  change(n => n.nodes.push({...place, id: "", name: "", bars: [], label: "", side: 2}));
+  change(n => n.nodes.push({...place, id: "", name: "", bars: [], label: ""}));
   if (stage.isOutside()) { stage.fit(); show(); }
 }
 // `on` is the node that has the focus.

@@ -1,7 +1,7 @@
-// The network that is drawn: nodes {x, y, id, name, bars, label, side} from 0, edges [v, w] from 1, the lower node
+// The network that is drawn: nodes {x, y, id, name, bars, label} from 0, edges [v, w] from 1, the lower node
 // first. An id is the digits of an identifier, or "" for the node's own number.
 /** @type {Drawn} */
-export const net = {name: "", nodes: [], edges: [], bends: [], example: ""};
+export const net = {name: "", nodes: [], edges: [], example: ""};
 // The network as it was before a change, and the node that this change takes away or brings back.
 /** @typedef {{text: string, removed: number | null}} Before */
 /** @type {Before[]} */
@@ -30,12 +30,9 @@ export function change(does, key = null, what = "edit", removed = null) {
   if (key === null || key !== lastKey) { past.push({text: kept(), removed}); future.length = 0; }
   if (past.length > 200) past.shift();
   lastKey = key;
-  // Until the server has said how the network is drawn now, each edge keeps its bend, and each node its label.
-  const bends = new Map(net.edges.map((edge, k) => [edge.join(), net.bends[k]]));
   does(net);
   net.example = "";
   net.edges.sort((a, b) => a[0] - b[0] || a[1] - b[1]);
-  net.bends = net.edges.map(edge => removed === null && bends.get(edge.join()) || null);
   tell(what, {removed});
 }
 /** @param {Before[]} from @param {Before[]} to */
@@ -55,7 +52,7 @@ export function load(found, example = "") {
   replaced = net.nodes.length > 0 && !net.example;
   if (net.nodes.length) { past.push({text: kept(), removed: null}); future.length = 0; }
   lastKey = null;
-  Object.assign(net, {name: found.name || "", nodes: found.nodes, edges: found.edges, bends: found.bends, example});
+  Object.assign(net, {name: found.name || "", nodes: found.nodes, edges: found.edges, example});
   tell("load");
 }
 

@@ -146,8 +146,8 @@ function netOf(code, most) {
   const edges = edgesOf(links, spots.length), kinds = new Set(more.map(part => part[0]));
   if (spots.length > most || !spots.every(Boolean) || !edges || kinds.size < more.length) return null;
   const nodes = spots.map(spot => ({x: +(spot || [])[1], y: +(spot || [])[2], id: "", name: "", bars: /** @type {number[]} */ ([]),
-    label: "", side: 0}));
-  return more.every(part => isAdded(nodes, part)) ? {name: "", nodes, edges, bends: edges.map(() => null)} : null;
+    label: ""}));
+  return more.every(part => isAdded(nodes, part)) ? {name: "", nodes, edges} : null;
 }
 // The edges, the lower node first, ascending; null if one of them is wrong, or is there twice.
 /** @param {string} said @param {number} nodes @returns {Edge[] | null} */

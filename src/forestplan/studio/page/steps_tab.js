@@ -2,7 +2,7 @@
 import {all, announce, asks, by, capital, count, go, hello, hooks, leftOutWords, option, programNamed, ruleBoxes, rulesOf, seen,
   show, showOptions, stage, tabs, toggleLazy, toggleSlow, wrong} from "./base.js";
 import {keep, keptNumbers} from "./kept.js";
-import {html, sentence} from "./marks.js";
+import {html, isColour, sentence} from "./marks.js";
 import {MESSAGES, hueOf, reactedMarks, reactedWords} from "./messages.js";
 import {neighbours, net, text} from "./model.js";
 import {enterFile, markRan, reacts} from "./own.js";
@@ -114,7 +114,7 @@ function showAt() {
   question.show();
   const hidden = hiddenNode(), stopped = is.nodes ? 0 : refusedAt(is);
   stage.draw({...nodesDrawn(is), bars: false, apart: 4.6,
-    ring: v => v === stopped ? "var(--wrong)" : v !== hidden && isFree(String(v)) ? "var(--good)" : v === seen.node ? "var(--edge)" : null,
+    rings: v => [v === stopped && "var(--wrong)", v !== hidden && isFree(String(v)) && "var(--good)", v === seen.node && "var(--edge)"].filter(isColour),
     label: v => nameOf(net, v) + (seen.lazy.includes(v) ? " (held)" : ""),
     edge: (v, w) => heldEdge(v, w, slow.has(v + "-" + w)), above: () => is.wires.flatMap(queue)});
   if (is.ran) markRan([is.ran.function], is.ran.node);
