@@ -91,10 +91,10 @@ def overlaps(pairs, most):
 
 class Bends(PictureCase):
     def test_bends(self):
-        """By hand: an edge passes a circle of radius 12.5 by 0.3 of that, at 16.25. One of length 200 that passes nearer
-        is bent by 16.25 + 0.03 * 200 = 22.25 upwards, which is the left of one to the right: the point towards which it
-        is drawn is moved by twice that. One that passes at 60 isn't bent, nor is one without room above its other side.
-        """
+        """By hand: an edge passes a circle of radius 12.5 by 0.3 of that, at 16.25. One of length 200 that passes
+        nearer is bent by 16.25 + 0.03 * 200 = 22.25 upwards, which is the left of one to the right: the point towards
+        which it is drawn is moved by twice that. One that passes at 60 isn't bent, and one that has no room above is
+        bent downwards."""
         edges = [(1, 2), (1, 3), (2, 3)]
         wide: Room = (-1e9, -1e9, 1e9, 1e9)
         low: Room = (0, 90, 400, 400)
