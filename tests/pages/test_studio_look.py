@@ -5,6 +5,7 @@ import time
 from typing import get_args
 
 from forestplan.studio.answers import TabName
+from tests.browser import Browser
 from tests.pages.test_studio_page import Page
 
 PLACES = {
@@ -43,6 +44,14 @@ ROLES = {
     "spinbutton",
 }
 ROLES |= {"DisclosureTriangle"}
+
+
+def controls(page: Browser) -> tuple[int, list[str]]:
+    """How many controls the accessibility tree has, and the roles of those without a name."""
+    tree = page.ask("Accessibility.getFullAXTree")["nodes"]
+    used = [one for one in tree if not one.get("ignored") and one["role"]["value"] in ROLES]
+    nameless = [one for one in used if not one.get("name", {}).get("value", "").strip()]
+    return len(used), [one["role"]["value"] for one in nameless]
 
 
 class Look(Page):
@@ -304,19 +313,12 @@ class Look(Page):
         """Each control has a name in the accessibility tree."""
         for place in [*PLACES.values(), "lesson=1", "lesson=6&step=3", "lecture=2"]:
             self.go_and_wait(place)
-            count, nameless = self.controls()
+            count, nameless = controls(self.page)
             self.note(f"{place}: there are controls", count > 12, count)
             self.same(f"{place}: controls without a name", nameless, [])
         self.value("side.append(document.createElement('button'))")
-        self.same("one without a name is found", self.controls()[1], ["button"])
+        self.same("one without a name is found", controls(self.page)[1], ["button"])
         self.value("side.lastElementChild.remove()")
-
-    def controls(self) -> tuple[int, list[str]]:
-        """How many controls the accessibility tree has, and the roles of those without a name."""
-        tree = self.page.ask("Accessibility.getFullAXTree")["nodes"]
-        used = [one for one in tree if not one.get("ignored") and one["role"]["value"] in ROLES]
-        nameless = [one for one in used if not one.get("name", {}).get("value", "").strip()]
-        return len(used), [one["role"]["value"] for one in nameless]
 
     def test_best_so_far(self) -> None:
         """The card of a dare keeps the least steps in which this task was won."""

@@ -7,10 +7,12 @@ import time
 from forestplan.studio.lessons import LESSONS
 from tests.cases import Case
 from tests.pages.test_studio_lessons import steps
-from tests.pages.test_studio_page import Page
+from tests.pages.test_studio_look import controls
+from tests.pages.test_studio_page import UNSEEN, Page
 
-# Width and height of the window, and whether a finger points.
+# Width and height of the window, and whether a finger points; and those of a window of 1280 x 1024 at 400 %.
 WINDOWS = ((1280, 800, False), (360, 740, True))
+AT_400 = (320, 256, False)
 # Notes each control of the side that can be used, and is somewhere else some frames later, though nobody did anything;
 # `begin` forgets what was.
 WATCH = """(() => {
@@ -67,8 +69,9 @@ class Steps(Page):
         )
 
     def test_nothing_moves(self) -> None:
-        """From the moment in which a step is there no control that can be used moves by itself."""
-        for wide, high, is_phone in WINDOWS:
+        """From the moment in which a step is there no control that can be used moves by itself; none is cut or covered,
+        and each has a name in the accessibility tree."""
+        for wide, high, is_phone in (*WINDOWS, AT_400):
             self.open(wide, high, is_phone)
             self.value(WATCH)
             for number, k, _ in steps():
@@ -77,6 +80,10 @@ class Steps(Page):
                 self.page.until("busy.hidden", 20)
                 time.sleep(0.7)
                 self.same(f"{wide}: lesson {number} step {k}", self.value("moved.slice(0, 4)"), [])
+                self.reads("nothing is cut or covered", UNSEEN, [])
+                self.same("each control has a name", controls(self.page)[1], [])
+                across = self.value("document.documentElement.scrollWidth")
+                self.note("nor wider than the window", across <= wide, across)
 
     def test_what_is_named(self) -> None:
         """A click on words of a step that name a part of the panel has this part in sight."""
