@@ -15,63 +15,63 @@ A wrong type raises TypeError, and a value out of its range ValueError. If a pro
 call raises `Refused`, which is a ValueError, too. If a program isn't built, it raises FileNotFoundError.
 
 Below are the definitions and tools of which the commands of `forestlab` and the studio are made. Nothing of them is
-proved; they need the standard library alone. Each package names its modules, so ``help("forestplan.networks")`` leads
-to ``help("forestplan.networks.kinds")``, and that to ``help("forestplan.networks.kinds.ring")``:
+proved; they need the standard library alone. Each package has its public names, which ``dir(forestplan.networks)``
+lists and ``help(forestplan.networks)`` explains; ``help(forestplan.networks.ring)`` explains one of them. The other
+modules are for those who read the sources.
 
-    definitions         what a network's nodes do: the colouring and five other programs, in rounds and without a clock
     networks            networks: made, read in other forms, numbered, described; plans, and real channel numbers
-    transcripts         what a run without a clock has written down: read, judged, converted
+    definitions         what a network's nodes do: the colouring and five other programs, in rounds and without a clock
     schedules           runs without a clock: by a policy, step by step, or every order of events; with rules left out
+    transcripts         what a run without a clock has written down: read, judged, converted
     pictures            pictures and pages of networks, plans, rounds, runs and schedules
-    interface           what `import forestplan` gives: the calls above
     workshop            students' programs as the nodes of a network: played, judged and graded
+    interface           what `import forestplan` gives: the calls above
     studio              the page on which a network is drawn and everything of it moves, and its server
 
-Make a network: of a kind with its size, an example, or a file. Vertices are numbers from 1.
+Make a network: of a kind with its size, of your own edges, an example, or a file. Vertices are numbers from 1.
 
->>> from forestplan.networks.sources import network_at
->>> ring = network_at("ring5")
+>>> import forestplan
+>>> ring = forestplan.networks.ring(5)
 >>> ring.neighbours[1]
 [2, 5]
+>>> own = forestplan.networks.Network(3, [(1, 2), (2, 3)])
+>>> petersen = forestplan.networks.network_at("petersen")
 
-Run the rounds of each program, and ask a node what it has found. ``program_at("layers", root=3)`` has an option.
+Run the rounds of each of the six programs, and ask a node what it has found. Two programs have an option.
 
->>> from forestplan.definitions.program import synchronous_run
->>> from forestplan.definitions.programs import PROGRAMS, program_at
->>> for name, program in PROGRAMS.items():
-...     print(name, "at node 3:", synchronous_run(ring, program)[3].result())
+>>> for name, program in forestplan.definitions.PROGRAMS.items():
+...     nodes = forestplan.definitions.synchronous_run(ring, program)
+...     print(name, "at node 3:", nodes[3].result())
 colouring at node 3: channel 1
 leader at node 3: leader 5
 layers at node 3: layer 2 by 0
 matching at node 3: partner 0
 independent-set at node 3: in
 recolouring at node 3: channel 2
+>>> layers = forestplan.definitions.program_at("layers", root=3)
+>>> forestplan.definitions.synchronous_run(ring, layers)[3].result()
+'layer 0'
 
-Play a schedule: a run without a clock, in which a policy and a seed choose what happens next.
+Play a schedule: a run without a clock, in which a policy and a seed choose what happens next. Its text is a transcript.
 
->>> from forestplan.schedules.simulate import played, text_of_run
->>> entries = played(ring, policy="slow-link", seed="7", program=PROGRAMS["leader"])
->>> transcript = text_of_run(ring.nodes, entries, PROGRAMS["leader"])
+>>> leader = forestplan.definitions.PROGRAMS["leader"]
+>>> entries = forestplan.schedules.played(ring, policy="slow-link", seed=7, program=leader)
+>>> transcript = forestplan.schedules.text_of_run(ring.nodes, entries, leader)
 >>> print("\\n".join(transcript.splitlines()[:2]))
 transcript 3 leader 5
 1 1 put 2 payload 0 leader 1
 
-Judge a transcript: the lines of its entries in an order that is a run, and the verdict; or a fault.
+Judge a transcript: the verdict, or a fault that says what is wrong in which line.
 
->>> from forestplan.transcripts.judge import whole_run
->>> lines, verdict = whole_run(ring, transcript.encode(), PROGRAMS["leader"])
->>> verdict.partition(", ")[0]
-'whole run of 5 nodes'
+>>> forestplan.transcripts.whole_run(ring, transcript, leader).verdict
+'whole run of 5 nodes, 233 entries, 22 payloads, 104 wires'
 
-Draw a picture: ``forestplan.pictures.picture.KINDS`` has the kinds.
+Draw a picture, and write it into a file. ``forestplan.pictures.KINDS`` has the kinds.
 
->>> from forestplan.definitions.colours import plan_text
->>> from forestplan.pictures.picture import Source, Text, drawing
->>> plan = Text("ring5", plan_text(ring).decode())
->>> drawing("plan", Source(ring, texts=[plan]))[:4]
-'<svg'
->>> drawing("results", Source(ring, PROGRAMS["matching"]))[:4]
-'<svg'
+>>> svg = forestplan.pictures.drawing("plan", ring)
+>>> page = forestplan.pictures.drawing("watch", ring, transcript, program=leader)
+>>> import pathlib
+>>> pathlib.Path("ring.svg").write_text(svg)  # doctest: +SKIP
 
 What all packages share:
 
@@ -89,6 +89,7 @@ What all packages share:
     processors          how many processors may be used
     folders             where the package is, and what belongs to it
     _python             refuses a Python that is too old
+    public_names        the public names of a package
     version             which forestplan this is
     process_exit        how a command ends, whatever happens
 """
@@ -133,26 +134,36 @@ __all__ = [
     "text_of",
     "transcript",
 ]
+# The packages below, which a prompt finds without importing them.
+PACKAGES = [
+    "definitions",
+    "interface",
+    "networks",
+    "pictures",
+    "schedules",
+    "studio",
+    "transcripts",
+    "workshop",
+]
 # The module of each of these names; it is imported once somebody asks for one of its names.
 MODULES = {
-    "answers": "Entry Message Plan Pulse Refused Rounds Transcript colour_map",
-    "calls": "check plan rounds transcript",
-    "graphs": "Sites text_of",
-    "programs": "home",
-    "sites": "sites",
+    "forestplan.interface.answers": "Entry Message Plan Pulse Refused Rounds Transcript colour_map",
+    "forestplan.interface.calls": "check plan rounds transcript",
+    "forestplan.interface.graphs": "Sites text_of",
+    "forestplan.interface.programs": "home",
+    "forestplan.interface.sites": "sites",
 }
 
-
-def __dir__() -> "list[str]":
-    return __all__
+__dir__ = [*__all__, *PACKAGES].copy
 
 
 if not TYPE_CHECKING:
 
     def __getattr__(name: str) -> object:
-        for module, names in MODULES.items():
-            if name in names.split():
-                found = getattr(importlib.import_module("forestplan.interface." + module), name)
-                globals()[name] = found
-                return found
-        raise AttributeError("module 'forestplan' has no attribute " + repr(name))
+        if name in PACKAGES:
+            return importlib.import_module("forestplan." + name)
+        if name not in __all__:
+            raise AttributeError("module 'forestplan' has no attribute " + repr(name))
+        from forestplan.public_names import finder
+
+        return finder(__name__, MODULES)(name)

@@ -26,6 +26,8 @@ class Network:
     ([(1, 2), (2, 3)], [1, 3], 4)
     >>> path.identifiers, path.higher
     ({1: 1, 2: 17, 3: 3}, {1: [2], 2: [], 3: [2]})
+
+    Raises ValueError if an edge joins a vertex to itself, or names one that isn't there.
     """
 
     nodes: int
@@ -41,6 +43,10 @@ class Network:
         self.edges = sorted({(min(edge), max(edge)) for edge in self.edges})
         self.neighbours: dict[int, list[int]] = {v: [] for v in self.vertices}
         for v, w in self.edges:
+            if not 1 <= v < w <= self.nodes:
+                raise ValueError(
+                    f"({v}, {w}) is no edge: it joins two different vertices from 1 to {self.nodes}"
+                )
             self.neighbours[v].append(w)
             self.neighbours[w].append(v)
         self.identifiers: dict[int, int] = {
@@ -54,12 +60,14 @@ class Network:
 
     @cached_property
     def barred(self) -> dict[int, frozenset[int]]:
+        """The colours from 0 that are barred at each vertex."""
         return {
             v: frozenset(channel - 1 for channel in self.bars.get(v, ())) for v in self.vertices
         }
 
     @cached_property
     def higher(self) -> dict[int, list[int]]:
+        """The parents of each vertex, by forest."""
         own = self.identifiers
         return {
             v: sorted((w for w in near if own[w] > own[v]), key=own.__getitem__)
@@ -68,6 +76,7 @@ class Network:
 
     @cached_property
     def number(self) -> dict[frozenset[int], int]:
+        """The forest of each edge."""
         return {
             frozenset((v, w)): f
             for v, parents in self.higher.items()
@@ -76,6 +85,7 @@ class Network:
 
     @cached_property
     def forest_count(self) -> int:
+        """How many forests there are."""
         return max(map(len, self.higher.values()), default=0)
 
     def parent(self, f: int, v: int) -> int | None:

@@ -1,7 +1,19 @@
 """The slow definitions, written from the pages in docs/claim, to be read and to be compared with.
 
 A vertex is a number from 1. Its ports are numbers from 0, in the order of its neighbours' numbers. Pulses, forests and
-colours are numbers from 0, and channels from 1. The modules:
+colours are numbers from 0, and channels from 1.
+
+Run the rounds of a program, and ask its nodes what they have found. `PROGRAMS` has the six programs: colouring, leader,
+layers, matching, independent-set and recolouring.
+
+>>> from forestplan.definitions import PROGRAMS, program_at, synchronous_run
+>>> from forestplan.networks import path
+>>> {v: node.result() for v, node in synchronous_run(path(3), PROGRAMS["leader"]).items()}
+{1: 'leader 3', 2: 'leader 3', 3: 'leader 3'}
+>>> {v: node.result() for v, node in synchronous_run(path(3), program_at("layers", root=3)).items()}
+{1: 'layer 2 by 0', 2: 'layer 1 by 1', 3: 'layer 0'}
+
+The modules:
 
     colours             the colouring as lists over all vertices: forests, bit step, shift, drop, merge; the plan's text
     program             what a program is: a node at each vertex, its payloads, its last pulse; the synchronous run
@@ -20,16 +32,62 @@ colours are numbers from 0, and channels from 1. The modules:
     reacting_program    a program of one's own whose nodes react to messages, without rounds
     file_variables      what such a file keeps outside of `me`
     values              values as keys that are equal exactly for equal values
-
-The plan of a path of three vertices, and then what its nodes find in the rounds:
-
->>> from forestplan.network import Network
->>> from forestplan.definitions.colours import colours
->>> from forestplan.definitions.nodes import COLOURING
->>> from forestplan.definitions.program import synchronous_run
->>> path = Network(3, [(1, 2), (2, 3)])
->>> colours(path)
-{1: 0, 2: 1, 3: 0}
->>> {v: node.result() for v, node in synchronous_run(path, COLOURING).items()}
-{1: 'channel 1', 2: 'channel 2', 3: 'channel 1'}
 """
+
+from typing import TYPE_CHECKING
+
+from forestplan.public_names import finder
+
+# For checkers of types and editors alone.
+if TYPE_CHECKING:
+    from forestplan.definitions.colours import plan_text
+    from forestplan.definitions.events import Entry, Event, Kind, Message, ack, safe
+    from forestplan.definitions.machine import NetState
+    from forestplan.definitions.nodes import alpha_start, last_pulse
+    from forestplan.definitions.program import (
+        Payload,
+        Program,
+        RoundsNode,
+        synchronous_pulses,
+        synchronous_run,
+    )
+    from forestplan.definitions.programs import PROGRAMS, program_at
+    from forestplan.definitions.rounds import ColouringRounds, rounds_text
+
+__all__ = [
+    "ColouringRounds",
+    "Entry",
+    "Event",
+    "Kind",
+    "Message",
+    "NetState",
+    "PROGRAMS",
+    "Payload",
+    "Program",
+    "RoundsNode",
+    "ack",
+    "alpha_start",
+    "last_pulse",
+    "plan_text",
+    "program_at",
+    "rounds_text",
+    "safe",
+    "synchronous_pulses",
+    "synchronous_run",
+]
+# The module of each of these names.
+MODULES = {
+    "forestplan.definitions.colours": "plan_text",
+    "forestplan.definitions.events": "Entry Event Kind Message ack safe",
+    "forestplan.definitions.machine": "NetState",
+    "forestplan.definitions.nodes": "alpha_start last_pulse",
+    "forestplan.definitions.program": "Payload Program RoundsNode synchronous_pulses synchronous_run",
+    "forestplan.definitions.programs": "PROGRAMS program_at",
+    "forestplan.definitions.rounds": "ColouringRounds rounds_text",
+}
+
+__dir__ = __all__.copy
+
+
+if not TYPE_CHECKING:
+    __getattr__ = finder(__name__, MODULES)

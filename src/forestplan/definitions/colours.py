@@ -32,7 +32,7 @@ def forests_text(net: Network) -> bytes:
 
 
 def plan_text(net: Network) -> bytes:
-    """The plan text: the channel of a vertex is its colour plus one.
+    """The text of the plan of a network `net`, in bytes: the channel of a vertex is its colour plus one.
 
     >>> print(plan_text(Network(2, [(1, 2)])).decode(), end="")
     plan

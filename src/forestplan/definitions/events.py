@@ -9,7 +9,12 @@ from functools import cache
 
 
 class Kind(Enum):
-    """The kinds of events, each with its word."""
+    """The kinds of events, each with its word: a node makes a pulse, or another step of its own; it puts a message on a
+    link; or it takes one from there.
+
+    >>> [kind.value for kind in Kind]
+    ['pulse', 'act', 'put', 'take']
+    """
 
     PULSE = "pulse"
     ACT = "act"
@@ -29,7 +34,11 @@ TAKE = Kind.TAKE
 
 @dataclass(frozen=True, slots=True)
 class Message:
-    """A word of small letters, and then numbers from 0 or such words."""
+    """What nodes send each other: a `word` of small letters, and then its `fields`, numbers from 0 or such words.
+
+    >>> str(Message("payload", (3, "hello", 7)))
+    'payload 3 hello 7'
+    """
 
     word: str
     fields: tuple[int | str, ...] = ()
@@ -44,7 +53,7 @@ CLOSE = Message("close")
 
 @cache
 def ack(pulse: int) -> Message:
-    """The wire that acknowledges the payload of a pulse, from 0; of each pulse there is one, which many links hold.
+    """The wire that acknowledges the payload of a `pulse`, from 0; of each pulse there is one, which many links hold.
 
     >>> str(ack(3))
     'ack 3'
@@ -54,7 +63,7 @@ def ack(pulse: int) -> Message:
 
 @cache
 def safe(pulse: int) -> Message:
-    """The wire that says that all payloads of a pulse, from 0, have been acknowledged.
+    """The wire that says that all payloads of a `pulse`, from 0, have been acknowledged.
 
     >>> str(safe(3))
     'safe 3'
@@ -64,9 +73,13 @@ def safe(pulse: int) -> Message:
 
 @dataclass(frozen=True, slots=True)
 class Event:
-    """What the node `node` does: it makes its next pulse, or another step of its own (`act`), and then `port` is None;
-    or it puts a message on its link by a port, or takes one from there. `message` is that message, where it is said. A
-    take may overtake `place` messages, if links don't keep their order."""
+    """What the node `node` does, by its `kind`: it makes its next pulse, or another step of its own (`act`), and then
+    `port` is None; or it puts a message on its link by a port, or takes one from there. `message` is that message,
+    where it is said. A take may overtake `place` messages, if links don't keep their order.
+
+    >>> str(Event(Kind.PUT, node=3, port=0)), str(Event(Kind.PULSE, node=3))
+    ('put 3 0', 'pulse 3')
+    """
 
     kind: Kind
     node: int
@@ -83,9 +96,14 @@ class Event:
 
 @dataclass(frozen=True, slots=True)
 class Entry:
-    """What a transcript says of an event, in one line: `what` is the number of the node's own step, or the message that
-    is put or taken, and `neighbour` the node at the other end of its link; a step of its own has none. Edition 1 has no
-    `stamp`, until an order is found."""
+    """What a transcript says of an event, in its line of the number `line`: which `node`, the `kind`, and `what`, which
+    is the number of the node's own step, or the message that is put or taken; `neighbour` is the node at the other end
+    of its link, and None of a step of its own. Edition 1 has no `stamp`, until an order is found.
+
+    >>> entry = Entry(line=2, node=1, kind=Kind.PUT, neighbour=2, what=Message("close"), stamp=9)
+    >>> entry.kind.value, str(entry.what)
+    ('put', 'close')
+    """
 
     line: int
     node: int

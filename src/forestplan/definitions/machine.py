@@ -63,9 +63,19 @@ AnyNode = TypeVar("AnyNode", bound=Node, covariant=True)
 
 
 class NetState(Generic[AnyNode]):
-    """Every node at its start, as `node_of(net, v)` makes it; `link[v, port]` holds what was put on the link out of v
-    by that port and not taken. `events[kind, v, w]` are all events that there are, by the node and its neighbour, which
-    a node's own step has not."""
+    """A network `net` of nodes without a common clock, event by event: every node at its start, as `node_of(net, v)`
+    makes it; `link[v, port]` holds what was put on the link out of v by that port and not taken. `events[kind, v, w]`
+    are all events that there are, by the node and its neighbour, which is None of a node's own step.
+
+    >>> from forestplan.definitions.nodes import alpha_start
+    >>> state = alpha_start(Network(2, [(1, 2)]))
+    >>> [str(event) for event in state.possible()]
+    ['put 1 0', 'put 2 0']
+    >>> str(state.step(state.events[PUT, 1, 2])), len(state.link[1, 0])
+    ('payload 0 hello 1', 1)
+
+    Its methods raise `Refused` of an event that isn't possible.
+    """
 
     neighbours: dict[int, list[int]]
     port_to: dict[tuple[int, int], int]

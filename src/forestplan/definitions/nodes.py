@@ -1,5 +1,6 @@
 """The rounds of the colouring at one node, and a node under synchroniser alpha, by their definitions
-(docs/claim/DEFINITIONS.md), slow and plain. A wire that is refused, which a caller may only do wrong, raises `NotPossible`.
+(docs/claim/DEFINITIONS.md), slow and plain. A wire that is refused, which a caller may only do wrong, raises
+`NotPossible`.
 
 The node under alpha is of any program (src/forestplan/definitions/program.py, which says what vertices, ports, pulses
 and payloads are; src/forestplan/definitions/programs.py has all programs). Wires are as in
@@ -26,7 +27,7 @@ DROPPED = {8: 5, 10: 4, 12: 3}
 
 
 def last_pulse(net: Network) -> int:
-    """The last pulse R of every node of the colouring; the pulses are 0 to R.
+    """The last pulse R of every node of the colouring on a network `net`; the pulses are 0 to R.
 
     >>> last_pulse(Network(2, [(1, 2)]))
     18
@@ -350,7 +351,7 @@ def text_of_wire(wire: Message) -> str:
 
 
 def alpha_start(net: Network, program: Program = COLOURING) -> NetState[AlphaNode]:
-    """The machine at its start, whose nodes run a program under the synchroniser.
+    """The event machine of a network `net` at its start, whose nodes run a `program` under synchroniser alpha.
 
     >>> state = alpha_start(Network(2, [(1, 2)]))
     >>> [str(event) for event in state.possible()]

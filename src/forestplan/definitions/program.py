@@ -13,7 +13,11 @@ from forestplan.network import Network
 
 @dataclass(frozen=True, slots=True)
 class Payload:
-    """What a node sends by a port in a pulse: a word of small letters, and a number from 0."""
+    """What a node sends by a port in a pulse: a `word` of small letters, and a `number` from 0.
+
+    >>> str(Payload("hello", 7))
+    'hello 7'
+    """
 
     word: str
     number: int
@@ -28,7 +32,16 @@ Slot = Payload | None
 
 
 class RoundsNode(Protocol):
-    """A node of a program, in the rounds."""
+    """A node of a program, in the rounds: it is greeted once, and then asked pulse by pulse. Ports count from 0, in the
+    order of the neighbours' numbers.
+
+    >>> from forestplan.definitions.leader import LEADER
+    >>> node = LEADER.node(Network(3, [(1, 2), (1, 3)]), 1)
+    >>> [str(slot) for slot in node.greet()]
+    ['leader 1', 'leader 1']
+    >>> [str(slot) for slot in node.next(1, [Payload("leader", 2), None])], node.result()
+    (['leader 2', 'leader 2'], 'leader 2')
+    """
 
     def greet(self) -> list[Slot]:
         """What it sends at pulse 0, by port."""
@@ -63,12 +76,16 @@ class ProgramFile:
 
 @dataclass(frozen=True)
 class Program:
-    """A program of nodes that make rounds: `node(net, v)` is the node of a vertex before pulse 0, and `last_pulse(net)`
-    the last pulse R of every node.
+    """A program of nodes that make rounds, called `name`: `node(net, v)` is the node of a vertex before pulse 0, and
+    `last_pulse(net)` the last pulse R of every node. `PROGRAMS` has six, and `program_at` those with options.
 
     Its options are `root`, the vertex that is the root of layers, if it isn't the node of identifier 1; `passes`, how
     often recolouring chooses anew; `file`, that of a program of one's own; and `without`, the rules that its nodes
     leave out. `reads_bars` says whether its nodes look at the channels that are barred at them.
+
+    >>> from forestplan.definitions.programs import PROGRAMS
+    >>> PROGRAMS["leader"].last_pulse(Network(3, [(1, 2), (2, 3)]))
+    3
     """
 
     name: str
@@ -105,8 +122,9 @@ def pulses_of(
 def synchronous_pulses(
     net: Network, program: Program, order: Iterable[int] = ()
 ) -> Iterator[tuple[int, dict[int, RoundsNode], Slots, Slots]]:
-    """(pulse, nodes, inboxes, sent) of each pulse, from 0 to the last, of the nodes of a program. They are made and
-    called in an order, by default that of the network.
+    """(pulse, nodes, inboxes, sent) of each pulse, from 0 to the last, of the nodes of a `program` on a network `net`:
+    the nodes after it, what each has read in it, and what each sends at each port. They are made and called in an
+    `order` of the vertices, by default that of the network.
 
     >>> from forestplan.definitions.leader import LEADER
     >>> for pulse, nodes, inboxes, sent in synchronous_pulses(Network(2, [(1, 2)]), LEADER):
@@ -120,11 +138,14 @@ def synchronous_pulses(
 
 
 def synchronous_run(net: Network, program: Program) -> dict[int, RoundsNode]:
-    """The nodes of a program, by vertex, after the last pulse of the synchronous run.
+    """Runs the rounds of a `program` on a network `net`; returns its nodes, by vertex, after the last pulse.
 
-    >>> from forestplan.definitions.leader import LEADER
-    >>> {v: node.result() for v, node in synchronous_run(Network(2, [(1, 2)]), LEADER).items()}
+    >>> from forestplan.definitions.programs import PROGRAMS
+    >>> nodes = synchronous_run(Network(2, [(1, 2)]), PROGRAMS["leader"])
+    >>> {v: node.result() for v, node in nodes.items()}
     {1: 'leader 2', 2: 'leader 2'}
+
+    Raises `Fault` if a program of one's own fails, or sends what is no payload.
     """
     nodes: dict[int, RoundsNode] = {}
     for _, nodes, _, _ in synchronous_pulses(net, program):

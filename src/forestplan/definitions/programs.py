@@ -42,11 +42,12 @@ HELP = f"what the nodes run: {', '.join(PROGRAMS)}, or a file of your own, as NA
 
 
 def program_at(name: str, lots: str = "1", **options: int | None) -> Program:
-    """The program by rounds of a name, or of a file whose name ends in `.py`; `lots` is the seed of its nodes' chance,
-    `root` the vertex that is the root of the layers, `passes` how often recolouring chooses anew.
+    """The program by rounds of a `name`, one of `PROGRAMS`, or of a file whose name ends in `.py`; `lots` is the seed
+    of its nodes' chance. Its `options` are those of two programs: of layers `root`, the vertex that is the root, and of
+    recolouring `passes`, how often it chooses anew.
 
-    >>> program_at("layers", root=3).root
-    3
+    >>> program_at("layers", root=3).root, program_at("recolouring", passes=8).passes
+    (3, 8)
 
     Raises `Fault` of a name that no program has, of an option of another program, and of what is wrong with a file.
     """

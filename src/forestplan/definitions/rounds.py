@@ -23,7 +23,8 @@ WORK_NAMES = ["step"] * 4 + ["shift", "drop"] * 3
 
 
 def rounds_text(net: Network) -> bytes:
-    """The text of the rounds of a network; its identifiers may be any numbers that differ.
+    """The text of the rounds of the colouring on a network `net`, in bytes; its identifiers may be any numbers that
+    differ.
 
     >>> rounds_text(Network(2, [(1, 2)])).splitlines()[:3]
     [b'rounds 1 2 1 1 18', b'pulse 0 greet', b'1 put 2 payload 0 hello 1']
@@ -107,7 +108,8 @@ class Pulse:
 
 
 class ColouringRounds:
-    """The synchronous run of the colouring, played once it is asked for: `pulses` are those from 0 to `last`.
+    """The synchronous run of the colouring on a `network`, played once it is asked for: `pulses` are those from 0 to
+    `last`.
     `parents[v, f]` is v's parent in forest f, and `forest_of[v, w]` the forest of an edge. `colours[f][p]` are the
     colours in forest f after pulse p, 2 to 12, and `merged[f]` the merged colours once the forests below f are merged;
     `first`, which is `merged[0]`, are the least colours that aren't barred. `turns[f, v]` is the pulse of the merge of
@@ -126,14 +128,17 @@ class ColouringRounds:
 
     @cached_property
     def parents(self) -> dict[tuple[int, int], int]:
+        """The parent of v in forest f, by (v, f)."""
         return {(v, f): w for v, ws in self.network.higher.items() for f, w in enumerate(ws)}
 
     @cached_property
     def forest_of(self) -> dict[Edge, int]:
+        """The forest of each edge, in both directions."""
         return {pair: f for (v, f), w in self.parents.items() for pair in ((v, w), (w, v))}
 
     @cached_property
     def pulses(self) -> list[Pulse]:
+        """All pulses, from 0 to the last."""
         nodes = {v: Colouring(self.network, v) for v in self.network.vertices}
         return [
             self.pulse(p, nodes, puts_of(self.network, sent))
@@ -153,6 +158,7 @@ class ColouringRounds:
 
     @cached_property
     def colours(self) -> list[dict[int, Colours]]:
+        """The colours in each forest, by pulse."""
         found: list[dict[int, Colours]] = [{} for _ in range(self.forests)]
         for pulse in self.pulses:
             for (v, f), colour in pulse.colours.items():
@@ -161,6 +167,7 @@ class ColouringRounds:
 
     @cached_property
     def turns(self) -> dict[tuple[int, int], int]:
+        """The pulse in which v chooses in the merge of forest f, by (f, v)."""
         return {
             (pulse.turn()[0], v): pulse.number
             for pulse in self.pulses[FIRST_MERGE:]
@@ -169,6 +176,7 @@ class ColouringRounds:
 
     @cached_property
     def merged(self) -> list[Colours]:
+        """The merged colours, by how many forests are merged."""
         found = [{v: Colouring(self.network, v).merged for v in self.network.vertices}]
         for f in range(self.forests):
             first = FIRST_MERGE + 3 * self.width * f
@@ -180,6 +188,7 @@ class ColouringRounds:
 
     @property
     def first(self) -> Colours:
+        """The merged colours before the first merge."""
         return self.merged[0]
 
     def lines(self) -> Iterator[str]:

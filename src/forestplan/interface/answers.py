@@ -8,7 +8,11 @@ from forestplan.interface.programs import lab_called
 
 
 class Message(NamedTuple):
-    """A message of `sender` to `receiver` in a pulse: a `word`, such as hello, and its `value`."""
+    """A message of `sender` to `receiver` in a pulse: a `word`, such as hello, and its `value`.
+
+    >>> Message("Ulm", "Hof", "hello", 7).word
+    'hello'
+    """
 
     sender: Node
     receiver: Node
@@ -17,7 +21,11 @@ class Message(NamedTuple):
 
 
 class Pulse(NamedTuple):
-    """A round: its number, the name of its phase, its messages, and `states`, pairs (node, words)."""
+    """A round: its `number` from 0, the name of its `phase`, its `messages`, and `states`, pairs (node, words).
+
+    >>> Pulse(0, "greet", [Message("Ulm", "Hof", "hello", 7)], []).messages[0].receiver
+    'Hof'
+    """
 
     number: int
     phase: str
@@ -26,8 +34,13 @@ class Pulse(NamedTuple):
 
 
 class Entry(NamedTuple):
-    """An event of a run: `kind` is pulse, put or take; `wire` has the words of the message that was put or taken;
-    `other` is the neighbour, or, if the kind is pulse, the number of the pulse."""
+    """An event of a run, with its `stamp` of Lamport's clock, of a `node`: `kind` is pulse, put or take; `wire` has the
+    words of the message that was put or taken; `other` is the neighbour, or, if the kind is pulse, the number of the
+    pulse.
+
+    >>> Entry(stamp=1, node="Ulm", kind="put", other="Hof", wire="ack 0").wire
+    'ack 0'
+    """
 
     stamp: int
     node: Node
@@ -40,7 +53,11 @@ class Refused(ValueError):
     """A program refused a graph or a plan. The text says what is wrong and what to do. `code` is the fault's code,
     such as C4, and `nodes` are the nodes that the fault names. If a plan takes more channels than the licence has,
     `code` is licence, `nodes` are the nodes whose channel the licence lacks, and `plan` is the plan, with channels
-    from 1."""
+    from 1.
+
+    >>> Refused("the plan takes 3 channels, and the licence has 2", code="licence").code
+    'licence'
+    """
 
     def __init__(
         self, message: str, code: str = "", nodes: Iterable[Node] = (), plan: "Plan | None" = None
@@ -70,7 +87,11 @@ class _Answer:
 
 
 class Plan(_Answer, dict[Node, int]):
-    """{node: channel}, in the order of the graph."""
+    """{node: channel}, in the order of the graph. A notebook shows its picture.
+
+    >>> Plan({"Ulm": 1, "Hof": 2})["Hof"]
+    2
+    """
 
     option = "--plan"
     kind = "plan"
@@ -79,11 +100,13 @@ class Plan(_Answer, dict[Node, int]):
 
     @property
     def text(self) -> str:
+        """The plan as the programs read it."""
         known = [(v, node) for v, node in enumerate(self.order, 1) if node in self]
         return "plan\n" + "".join(f"{v} {self.number(node)}\n" for v, node in known)
 
     @property
     def title(self) -> str:
+        """What its picture is called: the channels of the licence that differ from those of the programs."""
         used = sorted({(self.number(node), channel) for node, channel in self.items()})
         return "graph" + "".join(f", {k} is {real}" for k, real in used if k != real)
 
@@ -104,13 +127,23 @@ class Plan(_Answer, dict[Node, int]):
 
 
 class Rounds(_Answer, list[Pulse]):
-    """The pulses from 0 on. Colours count from 0: they are the indices of the licence's channels."""
+    """A list of the `Pulse`s from 0 on. Colours count from 0: they are the indices of the licence's channels. A
+    notebook shows its picture.
+
+    >>> Rounds([Pulse(0, "greet", [], [])])[0].phase
+    'greet'
+    """
 
     kind = "rounds"
 
 
 class Transcript(_Answer, list[Entry]):
-    """The events of a run, in an order in which they were possible."""
+    """A list of an `Entry` for each event of a run, in an order in which they were possible. A notebook shows its
+    picture.
+
+    >>> Transcript([Entry(1, "Ulm", "pulse", 1, "")])[0].other
+    1
+    """
 
     option = "--transcript"
     kind = "run"
@@ -119,7 +152,11 @@ class Transcript(_Answer, list[Entry]):
 def colour_map(channels: int = 8) -> Any:
     """A ListedColormap of matplotlib with the colours of channels 1 to `channels`, as `Plan.colours` has them.
 
-    Raises ImportError if matplotlib isn't installed."""
+    >>> colour_map(3).colors  # doctest: +SKIP
+    ['#0072B2', '#E69F00', '#009E73']
+
+    Raises ImportError if matplotlib isn't installed.
+    """
     from matplotlib.colors import ListedColormap
 
     from forestplan.pictures import palette

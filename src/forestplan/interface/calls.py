@@ -17,7 +17,7 @@ def plan(
     workers: int | None = None,
     passes: int = 0,
 ) -> Plan:
-    """A plan, in which neighbours have different channels.
+    """A plan of a graph G, in which neighbours have different channels.
 
     `bars` is a dict with the channels that are barred at a node. `licence` has the channels that all nodes may use, in
     order of preference; without a licence channels count from 1. In each of the `passes` all nodes choose their
@@ -48,7 +48,8 @@ def plan(
 
 
 def check(G: Graph, plan: Mapping[Any, int], bars: Bars = None, licence: Channels = None) -> int:
-    """Has the proved program judge a plan, yours or ours, and returns its greatest channel, counted from 1.
+    """Has the proved program judge a `plan` of a graph G, yours or ours, and returns its greatest channel, counted from
+    1. `bars` and `licence` are as `forestplan.plan` has them.
 
     >>> check({"Ulm": ["Aue"], "Aue": []}, {"Ulm": 2, "Aue": 1})
     2
@@ -72,8 +73,8 @@ def check(G: Graph, plan: Mapping[Any, int], bars: Bars = None, licence: Channel
 
 
 def rounds(G: Graph, bars: Bars = None, licence: Channels = None) -> Rounds:
-    """The rounds of the algorithm, in which all nodes step together: a list with a `Pulse` for each round. For a large
-    graph the list is long.
+    """The rounds of the algorithm on a graph G, in which all nodes step together: a list with a `Pulse` for each round.
+    For a large graph the list is long. `bars` and `licence` are as `forestplan.plan` has them.
 
     >>> [pulse.phase for pulse in rounds({"Ulm": []})][:2]
     ['greet', 'orient']
@@ -95,9 +96,10 @@ def rounds(G: Graph, bars: Bars = None, licence: Channels = None) -> Rounds:
 def transcript(
     G: Graph, bars: Bars = None, workers: int = 2, licence: Channels = None
 ) -> Transcript:
-    """A run without a clock, by worker threads: a list with an `Entry` for each event, in an order in which the events
-    were possible. There are as many threads as `workers` says, 1 to 64, but no more than this process may use
-    processors. Two calls give different lists, as two runs differ, unless there is one worker.
+    """A run on a graph G without a clock, by worker threads: a list with an `Entry` for each event, in an order in
+    which the events were possible. There are as many threads as `workers` says, 1 to 64, but no more than this process
+    may use processors. Two calls give different lists, as two runs differ, unless there is one worker. `bars` and
+    `licence` are as `forestplan.plan` has them.
 
     >>> transcript({"Ulm": ["Aue"], "Aue": []}, workers=1)[0]
     Entry(stamp=1, node='Ulm', kind='put', other='Aue', wire='payload 0 hello 1')

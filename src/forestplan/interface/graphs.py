@@ -64,8 +64,12 @@ class Licence:
 
 
 class Sites(dict[Node, list[Node]]):
-    """{site: [the sites within its reach]}, as `sites` makes it: a graph that all functions take. `places` has where a
-    site is on a map in kilometres, (x, y) with y growing downwards."""
+    """{site: [the sites within its reach]}, as `sites` makes it of their `names`: a graph that all functions take.
+    `places` has where a site is on a map in kilometres, (x, y) with y growing downwards.
+
+    >>> Sites(["Ulm", "Hof"])
+    {'Ulm': [], 'Hof': []}
+    """
 
     def __init__(self, names: Iterable[Node] = ()) -> None:
         super().__init__((name, []) for name in names)
@@ -73,8 +77,15 @@ class Sites(dict[Node, list[Node]]):
 
 
 def text_of(G: Graph, bars: Bars = None, licence: Channels = None) -> tuple[str, list[Node]]:
-    """The graph as the programs read it, and its nodes in the order of their numbers. Raises TypeError and ValueError,
-    as `plan` does."""
+    """A graph G as the programs read it, with its `bars` and `licence`, as `forestplan.plan` has them, and its nodes in
+    the order of their numbers.
+
+    >>> text, order = text_of({"Ulm": ["Hof"], "Hof": []})
+    >>> text.splitlines()[-1], order
+    ('e 1 2', ['Ulm', 'Hof'])
+
+    Raises TypeError and ValueError, as `forestplan.plan` does.
+    """
     pairs = edge_pairs(G)
     given = list(dict.fromkeys([*G, *(node for pair in pairs for node in pair)]))
     order = order_of_nodes(given, pairs)

@@ -13,7 +13,11 @@ def home() -> str:
     """The folder with the programs: what pip has installed below this package, or else the tree or the installed folder
     that the package is in.
 
-    Raises FileNotFoundError if there is none."""
+    >>> os.path.isdir(os.path.join(home(), "bin"))
+    True
+
+    Raises FileNotFoundError if there is none.
+    """
     if not os.path.isdir(os.path.join(TOP, "bin")):
         raise FileNotFoundError("there is no folder of forestplan that is installed or built")
     return TOP

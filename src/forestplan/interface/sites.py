@@ -15,8 +15,8 @@ UNITS = {"degrees": (1, (-90, 90), (-180, 360)), "km": (1, FAR, FAR), "m": (0.00
 def sites(places: Mapping[Any, Any], reach: float, unit: str = "degrees") -> Sites:
     """The graph of the sites that are less than `reach` kilometres apart.
 
-    `places` is a dict with the place of each site: its latitude and longitude in degrees, or with the unit km or m how
-    far east and how far north it is. A site whose place is None has no neighbour.
+    `places` is a dict with the place of each site: its latitude and longitude in degrees, or with the `unit` km or m
+    how far east and how far north it is. A site whose place is None has no neighbour.
 
     >>> sites({"Ulm": (48.4, 9.98), "Bonn": (50.73, 7.1), "Hof": None}, reach=400)
     {'Ulm': ['Bonn'], 'Bonn': ['Ulm'], 'Hof': []}

@@ -1,4 +1,18 @@
-"""Networks: made, read in other forms, numbered, and described. The modules:
+"""Networks: made, read in other forms, numbered, and described.
+
+Make a network of a kind, or of your own edges, and write it as a text; a text can be read, and a name means a file, an
+example or a kind with its size:
+
+>>> from forestplan.networks import Network, dimacs_text, network_at, read_network, star
+>>> star(4).edges, star(4).greatest_degree, star(4).channels
+([(1, 4), (2, 4), (3, 4)], 3, 4)
+>>> text = dimacs_text(Network(3, [(1, 2), (2, 3)]))
+>>> text.splitlines()
+['p edge 3 2', 'e 1 2', 'e 2 3']
+>>> read_network(text, "my network").neighbours == network_at("path3").neighbours
+True
+
+No network has more nodes, edges or neighbours of one than ``help("forestplan.limits")`` says. The modules:
 
     sources             the network of a name: an example, a kind with its size, a file
     kinds               kinds of networks: path, ring, star, complete, grid, queen, tree, disk, random
@@ -29,14 +43,73 @@
     networkx_graph      what is asked of a graph of networkx
     command_line        the command line of `forestlab network`
     network             the command `forestlab network`
-
-Make a network, say what it is, and write it:
-
->>> from forestplan.networks.kinds import KINDS
->>> from forestplan.networks.texts import dimacs_text
->>> star = KINDS["star"].make(4)
->>> star.edges, star.greatest_degree, star.channels
-([(1, 4), (2, 4), (3, 4)], 3, 4)
->>> dimacs_text(KINDS["path"].make(2)).splitlines()[-1]
-'e 1 2'
 """
+
+from typing import TYPE_CHECKING
+
+from forestplan.public_names import finder
+
+# For checkers of types and editors alone.
+if TYPE_CHECKING:
+    from forestplan.network import Network
+    from forestplan.networks.description import most_payloads
+    from forestplan.networks.kinds import (
+        KINDS,
+        NetworkKind,
+        complete,
+        disk,
+        grid,
+        path,
+        queen,
+        random_network,
+        ring,
+        star,
+        tree,
+    )
+    from forestplan.networks.network_text import read_network
+    from forestplan.networks.numbering import renumbered
+    from forestplan.networks.plan_text import clashes, read_plan
+    from forestplan.networks.reductions import smaller
+    from forestplan.networks.sources import network_at
+    from forestplan.networks.texts import dimacs_text
+
+__all__ = [
+    "KINDS",
+    "Network",
+    "NetworkKind",
+    "clashes",
+    "complete",
+    "dimacs_text",
+    "disk",
+    "grid",
+    "most_payloads",
+    "network_at",
+    "path",
+    "queen",
+    "random_network",
+    "read_network",
+    "read_plan",
+    "renumbered",
+    "ring",
+    "smaller",
+    "star",
+    "tree",
+]
+# The module of each of these names.
+MODULES = {
+    "forestplan.network": "Network",
+    "forestplan.networks.description": "most_payloads",
+    "forestplan.networks.kinds": "KINDS NetworkKind complete disk grid path queen random_network ring star tree",
+    "forestplan.networks.network_text": "read_network",
+    "forestplan.networks.numbering": "renumbered",
+    "forestplan.networks.plan_text": "clashes read_plan",
+    "forestplan.networks.reductions": "smaller",
+    "forestplan.networks.sources": "network_at",
+    "forestplan.networks.texts": "dimacs_text",
+}
+
+__dir__ = __all__.copy
+
+
+if not TYPE_CHECKING:
+    __getattr__ = finder(__name__, MODULES)

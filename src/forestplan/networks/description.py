@@ -65,7 +65,7 @@ def rounds_here(network: Network) -> "ColouringRounds | None":
 
 
 def most_payloads(network: Network) -> int:
-    """The most messages that the rounds of a network can have: a greeting both ways, a label and ten colours of each
+    """The most messages that the rounds of a `network` can have: a greeting both ways, a label and ten colours of each
     edge; and in each merge both ends of each edge choose. No run sends more: clause `by_forest` of the law
     `colouring_is_bounded` (crates/bound_laws).
 

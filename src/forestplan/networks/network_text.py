@@ -210,7 +210,7 @@ def checked_network(network: Network, path: str) -> Network:
 
 
 def read_network(text: str, path: str) -> Network:
-    """The network of a text in the DIMACS format. `path` is what a fault calls it.
+    """The network of a `text` in the DIMACS format. `path` is what a fault calls it.
 
     >>> read_network("p edge 3 2\\ne 1 2\\ne 2 3\\n", "path.col").neighbours
     {1: [2], 2: [1, 3], 3: [2]}

@@ -39,8 +39,8 @@ def network_in_order(
 
 
 def renumbered(network: Network, seed: str | int) -> Network:
-    """The network with its vertices in a random order, which comes from the seed. An identifier that a line gives
-    stays; another one is the new number.
+    """The same `network` with its vertices in a random order, which comes from the `seed`. An identifier that was
+    given stays; another one is the new number. Each node is named by its old number, if it has no name.
 
     >>> sorted(renumbered(Network(3, [(1, 2)]), "seed").names.values())
     ['1', '2', '3']

@@ -45,7 +45,8 @@ def fields_by_line(text: str) -> Iterator[tuple[int, list[str]]]:
 
 
 def read_plan(text: str, name: str, network: Network) -> dict[int, int]:
-    """{vertex: channel} of a plan of a network. Neighbours may share a channel: a picture shows that.
+    """{vertex: channel} of a `text` of a plan of a `network`, which a fault calls by this `name`. Channels count from
+    1. Neighbours may share a channel: `clashes` finds them, and a picture shows that.
 
     >>> read_plan("plan\\n1 2\\n2 1\\n", "the plan", Network(2, [(1, 2)]))
     {1: 2, 2: 1}
@@ -78,7 +79,8 @@ def read_plan(text: str, name: str, network: Network) -> dict[int, int]:
 
 
 def clashes(network: Network, plan: dict[int, int]) -> list[Edge]:
-    """The edges whose two vertices share a channel.
+    """The edges of a `network` whose two vertices share a channel in a `plan`, {vertex: channel}. A plan without any is
+    proper.
 
     >>> clashes(Network(3, [(1, 2), (2, 3)]), {1: 1, 2: 1, 3: 2})
     [(1, 2)]

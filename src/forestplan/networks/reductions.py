@@ -13,7 +13,7 @@ def without_vertex(network: Network, gone: int) -> tuple[Network, list[int]]:
 
 
 def smaller(network: Network) -> Iterator[tuple[Network, list[int]]]:
-    """The networks without one of the nodes, without one of the edges, or without the bars of one node; and the one
+    """The networks that lack one of the nodes of this `network`, one of its edges, or the bars of one node; and the one
     with small identifiers in the same order. With each comes which vertices its own were before.
 
     >>> [(less.nodes, less.edges, before) for less, before in smaller(Network(2, [(1, 2)]))]

@@ -74,10 +74,13 @@ def network_bytes(name: str) -> bytes:
 
 
 def network_at(name: str) -> Network:
-    """The network of a name, with the name that it has in what is printed.
+    """The network that a `name` means: an example, a kind with its size, a file in the DIMACS format, or `-`, which is
+    standard input. An example and a kind are meant in any folder; `./ring5` is the file.
 
     >>> network_at("grid2x2").edges
     [(1, 2), (1, 3), (2, 4), (3, 4)]
+    >>> network_at("petersen").nodes
+    10
 
     Raises `Fault` of a name that means none, and of the first fault of its text.
     """

@@ -35,7 +35,8 @@ def plain_text(network: Network) -> str:
 
 
 def dimacs_text(network: Network, head: Iterable[str] = ()) -> str:
-    """The same after the comment lines: those of `head`, places and names.
+    """A `network` as a text in the DIMACS format, which `read_network` and all commands read. First come comment lines:
+    those of `head`, the places and the names.
 
     >>> print(dimacs_text(Network(1, [], names={1: "Ulm"}), ["Two sites"]), end="")
     c Two sites

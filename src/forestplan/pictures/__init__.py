@@ -1,4 +1,22 @@
-"""Pictures of what the programs computed, as SVG, and pages, as HTML. The modules:
+"""Pictures of what the programs computed, as SVG, and pages, as HTML.
+
+Draw the plan of a triangle, what the nodes of a program find, and the run of two nodes without a clock. What is
+returned is the text of a file:
+
+>>> from forestplan.definitions import PROGRAMS
+>>> from forestplan.networks import network_at, path
+>>> from forestplan.pictures import KINDS, drawing
+>>> triangle = network_at("triangle")
+>>> drawing("plan", triangle)[:4], drawing("results", triangle, program=PROGRAMS["matching"])[:4]
+('<svg', '<svg')
+>>> drawing("run", path(2), pulses=(3, 5))[:4]
+'<svg'
+>>> KINDS["film"].does
+'The rounds of the colouring as a picture that plays by itself: messages move.'
+>>> KINDS["why"].options
+['vertex', 'in_words']
+
+The modules:
 
     picture             a picture of any kind: `drawing`, `KINDS`; the command `forestlab picture`
     map_picture         the network alone
@@ -29,20 +47,26 @@
     svg                 a drawing as SVG text
     pages               pages that stand alone
     page_data           what pages get as JSON
-
-Draw the plan of a triangle, and the run of two nodes without a clock:
-
->>> from forestplan.definitions.colours import plan_text
->>> from forestplan.networks.sources import network_at
->>> from forestplan.pictures.picture import KINDS, Source, Text, drawing
->>> from forestplan.schedules.simulate import played, text_of_run
->>> triangle, edge = network_at("triangle"), network_at("path2")
->>> plan = Text("triangle", plan_text(triangle).decode())
->>> drawing("plan", Source(triangle, texts=[plan]))[:4]
-'<svg'
->>> run = Text("path2", text_of_run(2, played(edge)))
->>> drawing("run", Source(edge, texts=[run]), pulses=(3, 5))[:4]
-'<svg'
->>> KINDS["film"].does
-'The rounds of the colouring as a picture that plays by itself: messages move.'
 """
+
+from typing import TYPE_CHECKING
+
+from forestplan.public_names import finder
+
+# For checkers of types and editors alone.
+if TYPE_CHECKING:
+    from forestplan.pictures.palette import channel_hue
+    from forestplan.pictures.picture import KINDS, PictureKind, drawing
+
+__all__ = ["KINDS", "PictureKind", "channel_hue", "drawing"]
+# The module of each of these names.
+MODULES = {
+    "forestplan.pictures.palette": "channel_hue",
+    "forestplan.pictures.picture": "KINDS PictureKind drawing",
+}
+
+__dir__ = __all__.copy
+
+
+if not TYPE_CHECKING:
+    __getattr__ = finder(__name__, MODULES)

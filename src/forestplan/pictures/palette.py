@@ -57,7 +57,7 @@ def text_on(fill: str) -> str:
 
 
 def channel_hue(channel: int) -> str:
-    """The colour of a channel, from 1; channels 9 to 16 have those of 1 to 8, and so on.
+    """The colour of a `channel`, from 1, as `#0072B2`; channels 9 to 16 have those of 1 to 8, and so on.
 
     >>> channel_hue(1), channel_hue(9) == channel_hue(1)
     ('#0072B2', True)

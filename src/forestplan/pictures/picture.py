@@ -89,7 +89,7 @@ class Source:
     network: Any = None
     program: Program = COLOURING
     texts: Sequence[Text] = ()
-    written: Callable[[str], str] | None = None
+    written: "Callable[[Source, str], str] | None" = None
     title: str | None = None
     progress: Callable[[int, int], None] | None = None
 
@@ -98,7 +98,7 @@ class Source:
             return self.texts[0]
         if not self.written:
             raise Fault(Code.NO_TEXT_TO_DRAW, form=form)
-        return Text(self.network.name, self.written(form))
+        return Text(self.network.name, self.written(self, form))
 
     def plan(self) -> dict[int, int]:
         text = self.text("plan")
@@ -166,14 +166,23 @@ def draw_watch(of: Source, pulses: tuple[int, int] | None) -> str:
     )
 
 
-def draw_schedules(of: Source, without: tuple[str, ...], columns: tuple[int, int] | None) -> str:
-    space = schedules_space.space_of(of.network, without, of.program, of.progress)
+def draw_schedules(
+    of: Source, without: tuple[str, ...] | None, columns: tuple[int, int] | None
+) -> str:
+    space = schedules_space.space_of(of.network, without or (), of.program, of.progress)
     return schedules_picture.schedules_svg(of.network, space, columns)
 
 
 class PictureKind(NamedTuple):
-    """A kind of picture: a line of help, more of it, and examples; how it is drawn; its most nodes and the kind to use
-    above; and whether it draws any program."""
+    """A kind of picture, one of `KINDS`: what it `does`, `more` of that, and an `example` of a command line; `draw`,
+    the function that draws it; the `most` nodes that it draws, and the kind to use above; and whether it draws any
+    program (`of_programs`).
+
+    >>> KINDS["results"].does, KINDS["results"].most[0], KINDS["results"].options
+    ('What the nodes of any program have found at their last pulse, on the map.', 400, [])
+    >>> KINDS["why"].options
+    ['vertex', 'in_words']
+    """
 
     does: str
     more: str
@@ -181,6 +190,12 @@ class PictureKind(NamedTuple):
     draw: Callable[..., str]
     most: tuple[int, str] | None = None
     of_programs: bool = False
+
+    @property
+    def options(self) -> list[str]:
+        """What `draw` is told besides of its source."""
+        _, *names = signature(self.draw).parameters
+        return names
 
 
 KINDS = {
@@ -432,11 +447,49 @@ def command_line() -> Parser:
     return parser
 
 
-def drawing(kind: str, of: Source, **options: object) -> str:
+def drawing(
+    kind: str, network: Network | None, *texts: str, program: Program = COLOURING, **options: object
+) -> str:
+    """Draws a picture of a `kind`, one of `KINDS`, of a `network` whose nodes run a `program`; returns SVG, of player
+    and watch a page in HTML, and of why in words if it is asked for with `in_words=True`.
+
+    `texts` are what is drawn: a plan's text of plan, and a transcript of run; watch draws one or two. Without them they
+    are worked out by the definitions, and the run is one by chance. `options` are those of the kind: pairs `pulses`,
+    `forests` and `columns`, a `forest`, a `vertex`, and `without`, the rules that schedules and broken leave out.
+    Broken looks for a smallest network if it is None.
+
+    >>> from forestplan.networks.sources import network_at
+    >>> ring = network_at("ring5")
+    >>> drawing("plan", ring).partition(" ")[0], drawing("run", ring, pulses=(3, 5)).partition(" ")[0]
+    ('<svg', '<svg')
+    >>> print(drawing("why", ring, vertex=2, in_words=True).splitlines()[0])
+    why node 2 of ring5 has channel 3
+
+    Raises `Fault` if the network is too large for the kind, or a text is wrong; ValueError if there is no such kind,
+    and TypeError of an option that the kind doesn't have.
+    """
+    if kind not in KINDS:
+        raise ValueError(f"no picture is called {kind!r}; these are: {', '.join(KINDS)}")
+    if unknown := options.keys() - {*KINDS[kind].options}:
+        has = ", ".join(KINDS[kind].options) or "none"
+        raise TypeError(f"{kind} has no option {min(unknown)!r}; its options: {has}")
+    named = [Text("the text", text) for text in texts]
+    return drawing_of(kind, Source(network, program, named, written_by_definition), **options)
+
+
+def written_by_definition(of: Source, form: str) -> str:
+    """A text that is drawn and that nobody has given: of the definitions alone."""
+    if form == "plan":
+        return plan_by_definition(of.network).decode()
+    entries = played(of.network, program=of.program)
+    return text_of_run(of.network.nodes, entries, of.program)
+
+
+def drawing_of(kind: str, of: Source, **options: object) -> str:
     """The picture of a kind: SVG, a page or words, of a source, with those of these options that the kind has. No file
     is read, and nothing said: a fault raises `Fault`.
 
-    >>> drawing("map", Source(Network(2, [(1, 2)], name="edge")))[:4]
+    >>> drawing_of("map", Source(Network(2, [(1, 2)], name="edge")))[:4]
     '<svg'
     """
     if of.network is not None:
@@ -446,8 +499,7 @@ def drawing(kind: str, of: Source, **options: object) -> str:
         if most:
             limit, instead = most
             at_most(kind, of.network.nodes, "nodes", limit, instead)
-    _, *names = signature(KINDS[kind].draw).parameters
-    return KINDS[kind].draw(of, *(options.get(name) for name in names))
+    return KINDS[kind].draw(of, *(options.get(name) for name in KINDS[kind].options))
 
 
 # From the command line.
@@ -519,7 +571,7 @@ def drawn(given: Namespace) -> str:
     of = Source(title=given.title, progress=progress if sys.stderr.isatty() else None)
     if given.network is None:
         of.program = program_asked("picture", given)
-        return drawing(**vars(given), of=of)
+        return drawing_of(**vars(given), of=of)
     data = network_bytes(given.network)
     of.network = network = network_in_bytes(data, text_name(given.network))
     network.name = given.title or ("this network" if given.network == "-" else network.name)
@@ -528,12 +580,12 @@ def drawn(given: Namespace) -> str:
         return reacting_run(given, network, program)
     of.program = by_rounds(program)
     of.texts = [Text(text_name(path), text_at(path, MOST_OF_TRANSCRIPT)) for path in stored]
-    of.written = lambda form: (
+    of.written = lambda _, form: (
         plan_to_draw(network, data)
         if form == "plan"
         else run_text(given.kind, network, data, of.program)
     )
-    picture = drawing(**vars(given), of=of)
+    picture = drawing_of(**vars(given), of=of)
     if said := unused_places(network):
         note(said)
     return picture

@@ -42,11 +42,19 @@ class Status(NamedTuple):
 
 
 class AlphaSpace(Space[RuledNode]):
-    """The states of a network whose nodes run a program by rounds, once `search` has found them.
+    """Every schedule of a tiny network `net` whose nodes run a `program` by rounds, once `search` has found them: its
+    states, the steps between them, and what goes wrong. Four nodes are many, for six programs.
+
+    Rules of the synchroniser can be left out: `without` has some of `schedules.rules.OF_SCHEDULES`. A search ends at
+    its first fault, and at more than `limit` states, and then `is_cut` is true. With `reduce` it leaves most states
+    out, and finds the same ends and faults.
 
     >>> space = AlphaSpace(Network(1, []), reduce=True).search()
     >>> space.count, space.depth[space.ends[0]], space.results(space.ends[0])
     (13, 12, {1: 'channel 1'})
+    >>> wrong = AlphaSpace(Network(2, [(1, 2)]), without=["safes"]).search()
+    >>> [str(event) for event in wrong.path_to_fault()][-1], len(wrong.faults) > 0
+    ('pulse 2', True)
     """
 
     rounds: InboxRounds
@@ -66,6 +74,7 @@ class AlphaSpace(Space[RuledNode]):
         self.last = program.last_pulse(net)
 
     def search(self, progress: Progress | None = None) -> "AlphaSpace":
+        """Finds all states; `progress` is told now and then how many states and events there are. Returns the space."""
         self.rounds = synchronous_rounds(self.net, self.program)
         super().search(progress)
         return self
@@ -108,11 +117,13 @@ class AlphaSpace(Space[RuledNode]):
         return "" if self.is_whole(self.states[s]) else self.stuck_words(s)
 
     def is_whole(self, state: State) -> bool:
+        """Whether all nodes are through, and all links empty."""
         return all(
             self.locals[a][state[a]].drained() for a in range(len(self.vertices))
         ) and not any(state[len(self.vertices) :])
 
     def stuck_words(self, s: int) -> str:
+        """That nothing is possible in a state before the end, and who waits for what."""
         waiting = [
             f"node {v} waits for {' and '.join(f'{wire} from {w}' for wire, w in node.waits)}"
             for v, node in self.nodes(s).items()
@@ -124,12 +135,14 @@ class AlphaSpace(Space[RuledNode]):
     # What is read off.
 
     def nodes(self, s: int) -> dict[int, Status]:
+        """Where each node is in a state, by its vertex."""
         return {
             v: self.status_of(v, self.locals[a][self.states[s][a]])
             for a, v in enumerate(self.vertices)
         }
 
     def status_of(self, v: int, node: RuledNode) -> Status:
+        """Where a node is."""
         simulated = node.simulated
         colour = simulated.merged if isinstance(simulated, Colouring) else None
         stage, waits = self.stage_of(v, node)
@@ -150,6 +163,7 @@ class AlphaSpace(Space[RuledNode]):
 
     @property
     def farthest(self) -> int:
+        """The most pulses that two neighbours are apart in any state."""
         places = [(self.vertices.index(v), self.vertices.index(w)) for v, w in self.links if v < w]
         pulses = [[node.pulse_number for node in nodes] for nodes in self.locals]
         return max(
@@ -163,6 +177,7 @@ class AlphaSpace(Space[RuledNode]):
 
     @property
     def schedules(self) -> int | None:
+        """How many lists of events lead from the start to an end; None if they have different numbers of events."""
         if self.expanded < self.count:
             return None
         ways, found = [0] * self.count, 0

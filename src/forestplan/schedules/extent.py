@@ -13,8 +13,12 @@ NOT_YET = 2**32 - 1
 
 @dataclass(frozen=True)
 class Extent:
-    """How many schedules there are, and how many messages and how many steps of their own of nodes each of them has, at
-    least and at most."""
+    """How many `schedules` there are, and how many `messages` each of them has and how many steps of their own its
+    nodes make in it (`acts`), at least and at most.
+
+    >>> Extent(schedules=2, messages=(3, 3), acts=(0, 1)).messages
+    (3, 3)
+    """
 
     schedules: int
     messages: Span
@@ -41,7 +45,14 @@ class Bounds:
 
 
 def extent_of(space: Space[AnySearched]) -> Extent | None:
-    """The extent of a space without a fault; None if some schedules never end."""
+    """The extent of a `space` without a fault, whose search is over; None if some schedules never end.
+
+    >>> from forestplan.definitions.leader import LEADER
+    >>> from forestplan.network import Network
+    >>> from forestplan.schedules.alpha_space import AlphaSpace
+    >>> extent_of(AlphaSpace(Network(2, [(1, 2)]), program=LEADER).search()).acts
+    (4, 4)
+    """
     ways, done = [0] * space.count, 0
     ways[0] = 1
     left = array("I", bytes(4 * space.count))

@@ -20,12 +20,16 @@ from forestplan.network import Edge
 
 @dataclass
 class Step:
-    """One step that is possible now.
+    """One step that is possible now, of a `kind`.
 
     `node` makes it, from 1; `neighbour` is the other end of a take's or put's link, and
     0 of a pulse. `wire` is the kind of the wire: payload, ack, safe or close, and empty of a pulse. `since` says when
     the step became possible, so of a take when its wire was put: a number that grows over the run. `latest` says of a
-    take when the newest wire of its link was put; of other steps it is `since`."""
+    take when the newest wire of its link was put; of other steps it is `since`.
+
+    >>> Step(TAKE, node=2, neighbour=1, wire="ack").link
+    (1, 2)
+    """
 
     kind: Kind
     node: int
@@ -76,13 +80,16 @@ Thing = TypeVar("Thing")
 
 
 class Policy:
-    """Chooses steps by one of the POLICIES. `vertices` and `edges` (pairs, the lower vertex first) are the network's;
-    `chosen` is the edge or the node that waits or comes first, or None. Whatever the policy is, what goes over a `slow`
-    edge and what a `lazy` node does waits until no other step is possible.
+    """Chooses steps by the policy of a `name` of POLICIES, and all chance comes from the `seed`. `vertices` and `edges`
+    (pairs, the lower vertex first) are the network's; `chosen` is the edge or the node that waits or comes first, or
+    None. Whatever the policy is, what goes over a `slow` edge and what a `lazy` node does waits until no other step is
+    possible.
 
     >>> steps = [Step(TAKE, 2, 1, since=5, latest=5), Step(TAKE, 1, 2, since=3, latest=7)]
     >>> [Policy(name, [1, 2], [(1, 2)], seed="1").choose(steps).node for name in ("oldest", "newest")]
     [1, 1]
+
+    Raises ValueError if no policy has this name.
     """
 
     def __init__(
@@ -90,10 +97,12 @@ class Policy:
         name: str,
         vertices: Collection[int],
         edges: Collection[tuple[int, int]],
-        seed: str,
+        seed: str | int,
         slow: Collection[Edge] = (),
         lazy: Collection[int] = (),
     ) -> None:
+        if name not in POLICIES:
+            raise ValueError(f"no policy is called {name!r}; these are: {', '.join(POLICIES)}")
         self.name = name
         # Of a seed's generator only random() gives the same numbers in all versions of Python.
         self.source = random.Random(f"{seed} {name}")
@@ -105,6 +114,7 @@ class Policy:
         self.lazy = set(lazy)
 
     def any_of(self, things: Sequence[Thing]) -> Thing:
+        """One of these things, each as likely as any other."""
         return things[int(self.source.random() * len(things))]
 
     def choose(self, steps: Sequence[Step]) -> Step:
@@ -142,6 +152,7 @@ class Policy:
         return self.last.link if self.last else None
 
     def next_in_turn(self, steps: Sequence[Step]) -> Step:
+        """The step whose link comes next after that of the last one."""
         last = self.last.turn if self.last else ((0, 0), "")
         after = [step for step in steps if step.turn > last]
         return min(after or steps, key=lambda step: step.turn)

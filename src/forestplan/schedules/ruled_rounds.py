@@ -295,7 +295,14 @@ class RuledSequel:
 
 
 def ruled(program: Program, net: Network, without: Collection[str]) -> RuledRounds | RuledSequel:
-    """The rounds of a program on a network without rules."""
+    """The rounds of a `program` on a network `net` `without` some of its rules, which `schedules.rules.OF_PROGRAMS`
+    names. Their `sentence` says what goes wrong, and is empty if nothing does.
+
+    >>> ruled(COLOURING, Network(3, [(1, 2), (2, 3)]), ["digit"]).sentence().partition("\\n")[0]
+    'after pulse 3 node 1 and its parent 2 in forest 0 both have colour 0'
+    >>> ruled(COLOURING, Network(2, [(1, 2)]), []).sentence()
+    ''
+    """
     if program == COLOURING:
         return RuledRounds(net, without).work_out()
     return RuledSequel(net, without, program)

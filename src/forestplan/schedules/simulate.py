@@ -197,21 +197,30 @@ def start_without(net: Network, program: Program, without: Collection[str]) -> N
 def played(
     net: Network,
     policy: str = "random",
-    seed: str = "1",
+    seed: str | int = "1",
     slow: Collection[Edge] = (),
     lazy: Collection[int] = (),
     player: Player[Node] | None = None,
     program: AnyProgram = COLOURING,
 ) -> list[Entry]:
-    """The entries of a run of a program on a network, in the order in which they were made; `player` may be on its
-    way. A policy of `policies.POLICIES` and a seed choose what happens next; what goes over the `slow` edges, and what
-    the `lazy` nodes do, waits.
+    """Plays a run of a `program` on a network `net` without a clock; returns its entries, in the order in which they
+    were made, each with its stamp. `text_of_run` writes them as a transcript.
 
-    >>> [str(entry.what) for entry in played(Network(2, [(1, 2)]), policy="oldest")[:3]]
+    A `policy` of `POLICIES` and a `seed` choose what happens next, so the same ones give the same run. What goes over
+    the `slow` edges, pairs of neighbours, and what the `lazy` nodes do, waits until nothing else is possible. A
+    `player` that is on its way goes on from where it is.
+
+    >>> edge = Network(2, [(1, 2)])
+    >>> [str(entry.what) for entry in played(edge, policy="oldest")[:3]]
     ['payload 0 hello 1', 'payload 0 hello 2', 'payload 0 hello 1']
+    >>> entries = played(edge, policy="slow-node", seed=7, slow=[(1, 2)])
+    >>> entries[-1].node, entries[-1].kind.value
+    (1, 'take')
 
-    Raises `Fault` if a run of nodes that react to messages doesn't end.
+    Raises `Fault` if the network has no such slow edge or lazy node, and if a run of nodes that react to messages
+    doesn't end; ValueError if no policy has this name.
     """
+    check_names(net, slow, lazy)
     player = player or player_of(net, program)
     entries = player.entries(Policy(policy, net.vertices, net.edges, seed, slow, lazy))
     if isinstance(program, Reacting):
@@ -235,9 +244,15 @@ def player_of(net: Network, program: AnyProgram) -> Player[Node]:
 def events_of(
     text: str, name: str, overtakes: bool = False, own: Kind = PULSE
 ) -> Iterator[tuple[int, Event]]:
-    """(line, event) of each event of a list; a note after a colon, as `forestlab explore` writes
-    it, is passed over. If links don't keep their order, a take may overtake `place` wires; else that is refused. `own`
-    is the kind of the nodes' own steps."""
+    """(line, event) of each event of a list, a `text` that is called `name`; a note after a colon, as `forestlab
+    explore` writes it, is passed over. If links don't keep their order (`overtakes`), a take may overtake `place`
+    wires; else that is refused. `own` is the kind of the nodes' own steps.
+
+    >>> [str(event) for line, event in events_of("put 1 0\\npulse 2: the first one\\n", "the list")]
+    ['put 1 0', 'pulse 2']
+
+    Raises `Fault` of the first line that is no event.
+    """
     for line, raw in enumerate(text.split("\n"), 1):
         event, _, note = raw.partition(":")
         fields = event.split()
@@ -261,7 +276,8 @@ def events_of(
 
 
 def text_of_run(nodes: int, entries: Iterable[Entry], program: AnyProgram = COLOURING) -> str:
-    """The transcript with stamps of a program: its lines by stamp, and lines of one stamp by node.
+    """The transcript of a run of a `program`, with stamps: how many `nodes` there are, and a line for each of the
+    `entries`, as `played` returns them, by stamp, and lines of one stamp by node.
 
     >>> print(text_of_run(2, played(Network(2, [(1, 2)]), policy="oldest")[:2]), end="")
     transcript 2 2
@@ -328,12 +344,12 @@ def command_line() -> ArgumentParser:
     return parser
 
 
-def check_names(net: Network, given: Namespace) -> None:
+def check_names(net: Network, slow: Collection[Edge], lazy: Collection[int]) -> None:
     """Refuses edges and nodes that the network hasn't."""
-    for v, w in given.slow:
+    for v, w in slow:
         if frozenset((v, w)) not in net.number:
             raise Fault(Code.NO_EDGE, name=net.name, v=v, w=w)
-    for v in given.lazy:
+    for v in lazy:
         if v not in net.neighbours:
             raise Fault(Code.NO_NODE, name=net.name, v=v, nodes=net.nodes)
 
@@ -372,7 +388,7 @@ def main(arguments: list[str]) -> int:
     if given.network == given.events == "-":
         line.error("standard input is one file, not two")
     net = network_at(given.network)
-    check_names(net, given)
+    check_names(net, given.slow, given.lazy)
     program = any_program_asked("simulate", given, net)
     player = run_asked(net, given, program)
     write_output(given, text_of_run(net.nodes, player.made, program))

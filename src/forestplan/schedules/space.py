@@ -319,6 +319,7 @@ class Space(Generic[AnySearched]):
         return sorted(found, key=placed_among)
 
     def reached(self, state: State, s: int, e: int) -> int:
+        """The number of a state to which event e leads from state s."""
         t = self.states.number(state)
         if t == len(self.depth):
             self.depth.append(self.depth[s] + 1)
@@ -334,6 +335,7 @@ class Space(Generic[AnySearched]):
 
     @property
     def is_cut(self) -> bool:
+        """Whether there are more states than the search may find."""
         return self.count > self.limit or self.is_full
 
     @property
@@ -342,6 +344,7 @@ class Space(Generic[AnySearched]):
         return False
 
     def steps(self, s: int) -> list[tuple[Event, int | None]]:
+        """The events that are possible in a state, each with the state after it, or None if it is refused."""
         if s >= self.expanded:
             return []
         return [
@@ -355,11 +358,13 @@ class Space(Generic[AnySearched]):
 
     @property
     def most_wires(self) -> int:
+        """The most messages that any link holds in any state."""
         return max(map(len, self.contents))
 
     # Lists of events.
 
     def path(self, s: int) -> list[Event]:
+        """A shortest list of events from the start to a state."""
         events = []
         while s:
             events.append(self.events[self.from_event[s]])
@@ -371,6 +376,7 @@ class Space(Generic[AnySearched]):
         return min(self.faults, key=lambda fault: self.depth[fault[0]] + (fault[1] is not None))
 
     def path_to_fault(self) -> list[Event]:
+        """A shortest list of events that ends with the first fault."""
         s, e = self.first_fault()
         return self.path(s) + ([] if e is None else [self.events[self.event_of[self.first[s] + e]]])
 

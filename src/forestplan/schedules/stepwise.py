@@ -51,6 +51,7 @@ class ByHand(Player[AnyNode]):
         raise NotImplementedError
 
     def put_all(self, v: int) -> None:
+        """Makes all puts of a node that are possible."""
         for w, port in zip(self.state.neighbours[v], self.state.nodes[v].ports):
             while port.out:
                 event = self.state.events[PUT, v, w]
@@ -79,6 +80,7 @@ class ByHand(Player[AnyNode]):
         return found
 
     def follow(self, steps: Iterable[str]) -> None:
+        """Makes these steps; raises `Fault` of the first one that isn't possible."""
         for number, step in enumerate(filter(None, steps), 1):
             fields = re.fullmatch("([0-9]{1,5})(?:-([0-9]{1,5}))?(?:-([0-9]{1,5}))?", step)
             v, w, place = (int(field or 0) for field in fields.groups()) if fields else (0, 0, 0)
@@ -167,7 +169,10 @@ class ByHand(Player[AnyNode]):
 
 
 class Stepwise(ByHand[AlphaNode]):
-    """Such a run under the synchroniser, whose list of events `forestplay events` reads.
+    """A run under the synchroniser of a `program` on a network `net`, which someone makes step by step. Puts make
+    themselves. A step `3` is node 3's next pulse, and `2-1` has node 2 take the next message from node 1; `possible`
+    lists those that can come next, and `follow` makes some. Rules of the synchroniser can be left out: `without` has
+    some of `schedules.rules.OF_SCHEDULES`. `lines` is the list of events so far, which `forestplay events` reads.
 
     >>> run = Stepwise(Network(2, [(1, 2)]))
     >>> run.follow(["2-1"])
@@ -226,4 +231,5 @@ class Stepwise(ByHand[AlphaNode]):
             self.step((takes or behind)[0])
 
     def lowest(self) -> int:
+        """The least pulse that any node has made."""
         return min(node.pulse_number for node in self.state.nodes.values())

@@ -13,7 +13,7 @@ from forestplan.networks.verdicts import Verdict
 from forestplan.pictures import broken_picture, player_page, reacting_picture, why_picture
 from forestplan.pictures.page_data import RoundsFound
 from forestplan.pictures.pages import net_of
-from forestplan.pictures.picture import KINDS as KINDS_OF_PICTURES, Source, Text, drawing
+from forestplan.pictures.picture import KINDS as KINDS_OF_PICTURES, Source, Text, drawing_of
 from forestplan.pictures.program_rounds import ProgramRounds, program_rounds
 from forestplan.pictures.transcripts import stamp_of
 from forestplan.schedules.reacting_stepwise import ReactingStepwise
@@ -161,7 +161,7 @@ def picture(call: PictureCall, session: Session, _tell: Tell) -> str:
         vertex_asked(call, network)
     if len(call.pulses) not in (0, 2):
         raise Fault(Code.NO_TWO_PULSES)
-    return drawing(
+    return drawing_of(
         call.kind,
         Source(network, program_of_call(call, network, session), texts, title=network.name),
         forest=call.forest,

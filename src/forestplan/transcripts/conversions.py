@@ -15,8 +15,17 @@ Made = list[tuple[Entry, Entry | None]]
 MOST_CLOCKS = 5_000_000
 
 
-def entries_of(text: bytes) -> tuple[Head, Made]:
-    """The first line; and (entry, the entry of its put if it is a take), in the order of the text."""
+def entries_of(text: str | bytes) -> tuple[Head, Made]:
+    """The first line of a transcript's `text`, which has stamps; and (entry, the entry of its put if it is a take), in
+    the order of the text. `json_lines`, `as_shiviz` and `as_rounds` write them in other forms.
+
+    >>> head, entries = entries_of("transcript 2 2\\n1 1 put 2 close\\n2 2 take 1 close\\n")
+    >>> head.nodes, [put.line if put else None for entry, put in entries]
+    (2, [None, 2])
+
+    Raises `WrongEntry` of the first line that is wrong, of a transcript without stamps, and of a take of a message that
+    hasn't been put.
+    """
     head, entries = transcript_read(text, None)
     if not head.is_stamped:
         raise WrongEntry(head.line, Code.NO_ORDER_OF_ENTRIES)
@@ -37,6 +46,12 @@ def entries_of(text: bytes) -> tuple[Head, Made]:
 
 
 def json_lines(head: Head, entries: Made) -> Iterator[str]:
+    """The lines of a transcript as JSON, an object in each: the first line has what its `head` says, and each of the
+    `entries` follows, as `entries_of` returns them.
+
+    >>> list(json_lines(*entries_of("transcript 2 1\\n1 1 pulse 1\\n")))[1]
+    '{"line": 2, "stamp": 1, "node": 1, "kind": "pulse", "pulse": 1}'
+    """
     named = {"program": head.program} if head.program else {}
     yield json.dumps({"edition": head.edition, "nodes": head.nodes} | named)
     for entry, put in entries:
@@ -59,8 +74,15 @@ def json_lines(head: Head, entries: Made) -> Iterator[str]:
         yield json.dumps(row)
 
 
-def as_shiviz(_: Head, entries: Made) -> Iterator[str]:
-    """Two lines an entry: the node with its vector clock, and what it did."""
+def as_shiviz(head: Head, entries: Made) -> Iterator[str]:
+    """The lines of a transcript for ShiViz, of its `entries`, as `entries_of` returns them: two lines an entry, the
+    node with its vector clock, and what it did. Nothing of its `head` is in them.
+
+    >>> list(as_shiviz(*entries_of("transcript 2 1\\n1 1 pulse 1\\n")))
+    ['node1 {"node1": 1}', 'pulse 1']
+
+    Raises `Fault` if the clocks grow too large.
+    """
     clocks: dict[int, dict[int, int]] = {}
     carried: dict[int | None, dict[int, int]] = {}
     written = 0
@@ -91,8 +113,16 @@ ROUNDS = "rounds"
 
 
 def as_rounds(head: Head, entries: Made, program: str) -> Iterator[str]:
-    """A run of nodes that react as the synchroniser does, edition 4, as a run of the rounds of a program that has a
-    name: its acts are pulses, and its messages have to be wires of that program."""
+    """A run of nodes that react as the synchroniser does, edition 4, as a run of the rounds of the `program` of this
+    name: its acts are pulses, and its messages have to be wires of that program. `head` and `entries` are as
+    `entries_of` returns them; what is returned are the lines of a transcript.
+
+    >>> own = "transcript 4 alpha 1\\n1 1 act 1\\n"
+    >>> list(as_rounds(*entries_of(own), "leader"))
+    ['transcript 3 leader 1', '1 1 pulse 1']
+
+    Raises `WrongEntry` of another edition, and of a message that is no wire.
+    """
     if head.own is not ACT:
         raise WrongEntry(head.line, Code.HAS_PULSES, edition=head.edition)
     yield first_line(head.nodes, program)

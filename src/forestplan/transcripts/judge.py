@@ -5,6 +5,7 @@ between nodes. This program looks for an order of all entries that is a run, and
 of edition 2, 3 or 4 has an order, and stamps."""
 from collections import deque
 from dataclasses import replace
+from typing import NamedTuple
 
 from forestplan.definitions.events import ACT, PUT, Entry, Message
 from forestplan.definitions.machine import NotPossible, make
@@ -15,7 +16,7 @@ from forestplan.definitions.reacting_program import AnyProgram, Reacting, result
 from forestplan.fault_codes import Code
 from forestplan.network import Network
 from forestplan.transcripts.fields import fields_in_bytes
-from forestplan.transcripts.reading import Head, WrongEntry, read_to_fault
+from forestplan.transcripts.reading import Head, WrongEntry, bytes_of, read_to_fault
 from forestplan.transcripts.stamps import Clock, check_whole, refusal, unfinished
 
 
@@ -123,12 +124,24 @@ def check_form(head: Head, program: AnyProgram) -> None:
         raise WrongEntry(head.line, Code.EDITION_OF_REACTIONS, program=program.name)
 
 
-def whole_run(net: Network, text: bytes, program: AnyProgram = COLOURING) -> tuple[list[int], str]:
-    """The lines of the entries in an order that is a run, and the verdict on a transcript of a program on a network. A
-    network of one node makes its pulses alone.
+class WholeRun(NamedTuple):
+    """What is found of a transcript that is right: the `lines` of its entries, in an order that is a run, and the
+    `verdict` in words.
+
+    >>> WholeRun([2, 3], "whole run of 1 nodes, 2 entries").lines
+    [2, 3]
+    """
+
+    lines: list[int]
+    verdict: str
+
+
+def whole_run(net: Network, text: str | bytes, program: AnyProgram = COLOURING) -> WholeRun:
+    """Judges the `text` of a transcript of a `program` on a network `net`: returns the verdict, and the lines of the
+    entries in an order that is a run. Here a network of one node makes its pulses alone.
 
     >>> pulses = "".join(f"1 pulse {p}\\n" for p in range(1, 13))
-    >>> whole_run(Network(1, []), f"transcript 1 1\\n{pulses}".encode())[1]
+    >>> whole_run(Network(1, []), "transcript 1 1\\n" + pulses).verdict
     'whole run of 1 nodes, 12 entries, 0 payloads, 0 wires'
 
     Raises `WrongEntry` of the first entry that isn't possible, of a run that isn't whole, and of nodes that react to
@@ -146,7 +159,7 @@ def whole_run(net: Network, text: bytes, program: AnyProgram = COLOURING) -> tup
     if isinstance(program, Reacting):
         if why := what_is_wrong(net, program.file, results_in(found.state)):
             raise not_right(said, why)
-    return [entry.line for entry in found.made], said
+    return WholeRun([entry.line for entry in found.made], said)
 
 
 def not_right(said: str, why: str) -> WrongEntry:
@@ -166,8 +179,13 @@ def verdict(net: Network, entries: list[Entry], head: Head) -> str:
     return f"{whole}, {payloads} payloads, {len(puts)} wires"
 
 
-def transcript_in_order(made: list[int], text: bytes) -> bytes:
-    """The transcript with the entries of these lines in this order, as bytes."""
-    lines = text.split(b"\n")
+def transcript_in_order(made: list[int], text: str | bytes) -> bytes:
+    """The `text` of a transcript with the entries of the lines `made` in this order, as `whole_run` has found them, in
+    bytes.
+
+    >>> transcript_in_order([3, 2], "transcript 1 2\\n1 pulse 1\\n2 pulse 1\\n")
+    b'transcript 1 2\\n2 pulse 1\\n1 pulse 1\\n'
+    """
+    lines = bytes_of(text).split(b"\n")
     head = next(line for line in lines if fields_in_bytes(line))
     return b"".join(line + b"\n" for line in [head] + [lines[line - 1] for line in made])

@@ -24,7 +24,12 @@ OF_WIRES = {b"put": PUT, b"take": TAKE}
 
 
 class Head(NamedTuple):
-    """The first line: where it is, and what it says; `program` is the name that editions 3 and 4 have."""
+    """The first line of a transcript: in which `line` it is, and what it says: its `edition`, 1 to 4, how many `nodes`
+    there are, and the name of the `program` that editions 3 and 4 have.
+
+    >>> Head(line=1, edition=3, nodes=5, program="leader").own.value
+    'pulse'
+    """
 
     line: int
     edition: int
@@ -33,6 +38,7 @@ class Head(NamedTuple):
 
     @property
     def is_stamped(self) -> bool:
+        """Whether each entry has a stamp."""
         return self.edition > 1
 
     @property
@@ -42,8 +48,15 @@ class Head(NamedTuple):
 
 
 class WrongEntry(Fault):
-    """Why a text isn't the transcript of a whole run that is right: its `line`, if it is one line's fault, and the word
-    of docs/claim/FORMATS.md for it."""
+    """Why a text isn't the transcript of a whole run that is right: its `line`, if it is one line's fault, and the
+    `word` of docs/claim/FORMATS.md for it.
+
+    >>> try:
+    ...     transcript_read("transcript 2 2\\n1 1 putt 2\\n")
+    ... except WrongEntry as wrong:
+    ...     print(wrong.line, wrong.word)
+    2 X1
+    """
 
     def __init__(self, line: int | None, code: Code, **subject: object) -> None:
         super().__init__(code, None if line is None else InText("", line), **subject)
@@ -78,11 +91,12 @@ def entry_of(line: int, fields: list[bytes], program: str, head: Head) -> Entry:
     raise NoEntry(code, words=field_words(b" ".join(own)), step=step_words, what=what)
 
 
-def transcript_read(text: bytes, program: str | None = COLOURING) -> tuple[Head, list[Entry]]:
-    """The first line, and the entries in the order of the text, with the payloads of the program of this name; without
-    one, of the program that the text names, or of the colouring.
+def transcript_read(text: str | bytes, program: str | None = COLOURING) -> tuple[Head, list[Entry]]:
+    """The first line of a transcript's `text`, and its entries in their order, with the payloads of the `program` of
+    this name; with None, of the program that the text names, or of the colouring. No network is asked whether they are
+    possible: `whole_run` judges that.
 
-    >>> head, entries = transcript_read(b"transcript 2 2\\n1 1 put 2 payload 0 hello 1\\n")
+    >>> head, entries = transcript_read("transcript 2 2\\n1 1 put 2 payload 0 hello 1\\n")
     >>> head.edition, head.nodes, str(entries[0].what)
     (2, 2, 'payload 0 hello 1')
 
@@ -94,11 +108,16 @@ def transcript_read(text: bytes, program: str | None = COLOURING) -> tuple[Head,
     return head, entries
 
 
+def bytes_of(text: str | bytes) -> bytes:
+    """A text as a file has it."""
+    return text.encode() if isinstance(text, str) else text
+
+
 def read_to_fault(
-    text: bytes, program: str | None = COLOURING
+    text: str | bytes, program: str | None = COLOURING
 ) -> tuple[Head, list[Entry], WrongEntry | None]:
     """The first line, the entries before the first line that isn't one, and that line's fault, or None."""
-    lines, entries = text.split(b"\n"), []
+    lines, entries = bytes_of(text).split(b"\n"), []
     head = head_of(lines, program)
     program = program or head.program or COLOURING
     for line, raw in enumerate(lines[head.line :], head.line + 1):
@@ -146,7 +165,7 @@ def code_of_head(field: bytes) -> Code:
 
 
 def line_of(entry: Entry) -> str:
-    """An entry as a transcript has it, without its stamp.
+    """An `entry` as a transcript has it, without its stamp.
 
     >>> line_of(Entry(line=2, node=1, kind=PULSE, neighbour=None, what=3))
     '1 pulse 3'
@@ -157,7 +176,7 @@ def line_of(entry: Entry) -> str:
 
 
 def entry_text(entry: Entry) -> str:
-    """An entry in words.
+    """An `entry` in words.
 
     >>> entry_text(Entry(line=2, node=1, kind=PULSE, neighbour=None, what=3))
     'node 1 makes pulse 3'

@@ -11,7 +11,8 @@ from forestplan.transcripts.rules import Standing, rule_of, stuck_words
 
 
 class Clock:
-    """The counter of each node, and of each link the stamps of the wires that were put and not taken.
+    """Lamport's clock: the counter of each of the `vertices`, from 0, and of each link the stamps of the wires that
+    were put and not taken.
 
     >>> clock = Clock([1, 2])
     >>> clock.next(PULSE, 1, None), clock.next(PUT, 1, 2), clock.next(TAKE, 2, 1)

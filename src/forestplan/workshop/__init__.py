@@ -35,3 +35,31 @@ What a node hears first, and what it may answer:
 >>> forms_of("alpha", "leader")
 ['put PORT WIRE', 'pulse P', 'leader IDENTIFIER']
 """
+
+from typing import TYPE_CHECKING
+
+from forestplan.public_names import finder
+
+# For checkers of types and editors alone.
+if TYPE_CHECKING:
+    from forestplan.workshop.cases import Case, cases_of
+    from forestplan.workshop.findings import Finding
+    from forestplan.workshop.options import parsed
+    from forestplan.workshop.player import CasePlayer
+    from forestplan.workshop.protocol import forms_of, own_data
+
+__all__ = ["Case", "Finding", "CasePlayer", "cases_of", "forms_of", "own_data", "parsed"]
+# The module of each of these names.
+MODULES = {
+    "forestplan.workshop.cases": "Case cases_of",
+    "forestplan.workshop.findings": "Finding",
+    "forestplan.workshop.options": "parsed",
+    "forestplan.workshop.player": "CasePlayer",
+    "forestplan.workshop.protocol": "forms_of own_data",
+}
+
+__dir__ = __all__.copy
+
+
+if not TYPE_CHECKING:
+    __getattr__ = finder(__name__, MODULES)

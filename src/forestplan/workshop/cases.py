@@ -26,9 +26,15 @@ WITH_BARS = (COLOURING, "independent-set", "recolouring")
 
 @dataclass
 class Case:
-    """One run. `number` counts the runs of a seed; `owners`, by vertex from 1 on, the numbers of the commands that run
-    there; `finding` is None if it was right; `run` is what was played, and `league` what a right run of an own
-    algorithm took; `is_part`, whether its network is what was left of a greater one."""
+    """One run of an assignment on a `network`, under a `policy` and a `seed`. `number` counts the runs of a seed;
+    `owners`, by vertex from 1 on, the numbers of the commands that run there; `finding` is None if it was right; `run`
+    is what was played, and `league` what a right run of an own algorithm took; `is_part`, whether its network is what
+    was left of a greater one.
+
+    >>> case = Case(number=0, network=network_at("triangle"), policy="newest", seed="1 0")
+    >>> case.finding is None, case.network.nodes
+    (True, 3)
+    """
 
     number: int
     network: Network
@@ -116,9 +122,18 @@ def moved_identifiers(own: list[int], chance: Random) -> list[int]:
 
 
 def cases_of(options: Namespace) -> list[Case]:
-    """All runs, or that of --case. Each network has its own identifiers in the first run, and varied ones later. The
-    policies change from network to network, and for each network from run to run: so a hundred runs play all ten, and
-    ten for each network play each on it once. Smaller networks come first."""
+    """All runs that the `options` of a command line ask for, as `parsed` returns them, or that of --case. Each network
+    has its own identifiers in the first run, and varied ones later. The policies change from network to network, and
+    for each network from run to run: so a hundred runs play all ten, and ten for each network play each on it once.
+    Smaller networks come first.
+
+    >>> from forestplan.workshop.options import parsed
+    >>> cases = cases_of(parsed(["alpha", "--runs", "100", "--", "./my_node"]))
+    >>> len(cases), cases[0].network.name, len({case.policy for case in cases})
+    (100, 'path1', 10)
+
+    Raises `Fault` of a network that can't be read.
+    """
     cases = []
     names = options.networks
     policies = options.policies

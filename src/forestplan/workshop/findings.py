@@ -22,6 +22,10 @@ class NoAnswer(Exception):
 class Finding:
     """The first thing in a run that isn't right.
 
+    >>> found = Finding("wrong-put", node=2, pulse=3, lines=[("wrong", "node 2 puts nothing")])
+    >>> found.text()
+    ['wrong  node 2 puts nothing']
+
     `kind` is a word of docs/learn/PROTOCOL.md, "What is wrong"; `node` and `pulse` say whose it is and when,
     `lines` explain it, each with a label. `entry` is the index of the wrong entry of a run without a clock. `way` says
     in a few words what is wrong, without numbers: two findings of one kind and way may have the same cause. `owner` is
@@ -39,9 +43,11 @@ class Finding:
     is_by_signal: bool = False
 
     def is_like(self, other: "Finding") -> bool:
+        """Whether another finding may have the same cause."""
         return (self.kind, self.way, self.owner) == (other.kind, other.way, other.owner)
 
     def text(self) -> list[str]:
+        """Its lines, each after its label."""
         return [f"{label:6} {text}" for label, text in self.lines]
 
 

@@ -123,7 +123,15 @@ def seconds(text: str) -> float:
 
 
 def parsed(arguments: list[str]) -> argparse.Namespace:
-    """The options, with `commands`, `program`, `policies` and `runs` as the runs need them."""
+    """The options of the `arguments` of a command line, as `forestlab workshop --help` has them, with `commands`,
+    `program`, `policies` and `runs` as the runs need them.
+
+    >>> options = parsed(["rounds", "triangle", "--", "python3", "my_node.py"])
+    >>> options.commands, options.program, options.networks, options.runs
+    ([['python3', 'my_node.py']], 'colouring', ['triangle'], 1)
+
+    A command line that is refused ends the process, as `argparse` does: SystemExit with the status 2.
+    """
     at = arguments.index("--") if "--" in arguments else len(arguments)
     line = command_line()
     options = line.parse_intermixed_args(arguments[:at])

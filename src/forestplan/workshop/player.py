@@ -25,8 +25,17 @@ UNPLAYED = "no other run is played, since nothing answered its first message in 
 
 
 class CasePlayer:
-    """Plays what the options of the command line ask for, until the time is over; if it is shown, it says on standard
-    error how far it is."""
+    """Plays what the `options` of a command line ask for, as `parsed` returns them, until the time is `over`, by
+    `time.monotonic()`; a `guard` says as whom the programs run, and what they may use. If it is shown (`is_shown`), it
+    says on standard error how far it is.
+
+    >>> from forestplan.workshop.cases import cases_of
+    >>> from forestplan.workshop.options import parsed
+    >>> options = parsed(["open", "path2", "--", "true"])
+    >>> cases, wrong, seconds = CasePlayer(options).played(cases_of(options))
+    >>> len(cases), wrong.finding.kind, wrong.finding.node
+    (1, 'ended', 1)
+    """
 
     def __init__(
         self,
@@ -43,11 +52,13 @@ class CasePlayer:
         self.last_line_at = time.monotonic()
 
     def say(self, text: str) -> None:
+        """Says now and then how far it is."""
         if self.is_shown and time.monotonic() - self.last_line_at > PROGRESS_SECONDS:
             self.last_line_at = time.monotonic()
             print(f"workshop: {text}", file=sys.stderr, flush=True)
 
     def nodes(self, case: Case) -> Nodes:
+        """The programs at the nodes of a case, which run within `with`."""
         programs = len(self.commands) if self.options.one_process else case.network.nodes
         limits = Limits(self.options.timeout, self.options.memory, programs, self.over)
         return Nodes(case.owners, self.commands, limits, self.guard, self.options.one_process)
@@ -73,6 +84,7 @@ class CasePlayer:
         return found is None
 
     def run_of(self, case: Case) -> ClockRun | AlphaRun:
+        """A run of a case that hasn't begun; the right rounds come from the proved programs."""
         if self.options.assignment == "open":
             return OpenRun(case.network)
         rounds = RightRounds(case.network, self.options.program).work_out()

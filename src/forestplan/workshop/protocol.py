@@ -43,7 +43,13 @@ NUMBER = "0{0,40}([0-9]{1,39})"
 def own_data(
     network: Network, v: int, assignment: str, of_rounds: dict[str, int | None]
 ) -> list[str]:
-    """The lines before `end`; some are of the right rounds, which an own algorithm hasn't."""
+    """The lines before `end` of the first message of an `assignment` to the node v of a `network`; some are
+    `of_rounds`, those that are right, which an own algorithm hasn't.
+
+    >>> edge = Network(2, [(1, 2)])
+    >>> own_data(edge, 1, "rounds", {"last": 18})[:3], own_data(edge, 1, "rounds", {"last": 18})[-2]
+    (['workshop 1 rounds', 'identifier 1', 'degree 1'], 'last 18')
+    """
     barred = network.bars.get(v, [])
     numbers: dict[str, int | None] = {
         "identifier": network.identifiers[v],
@@ -75,7 +81,11 @@ def start_of_output(got: str | bytes | bytearray, most: int = 80) -> str:
 
 @cache
 def forms_of(assignment: str, program: str) -> list[str]:
-    """The forms of the lines of an answer."""
+    """The forms of the lines of an answer in an `assignment` (rounds, alpha, open) of a `program` of this name.
+
+    >>> forms_of("alpha", "leader")
+    ['put PORT WIRE', 'pulse P', 'leader IDENTIFIER']
+    """
     of_colouring = OF_COLOURING * ((assignment, program) == ("rounds", COLOURING))
     return [*LINES[assignment], *of_colouring, *FOUND[program]]
 
