@@ -83,6 +83,11 @@ class Look(Page):
         # A message that another one comes before, or whose link waits, is dashed.
         self.go_and_wait("example=two&tab=adversary&slow=1-2")
         self.same("held", self.value(NAMED), ["await_ack", "held", "later", "payload", "pulse"])
+        # Beside the file of a program there is less room.
+        self.go_and_wait("example=two&tab=adversary&program=snapshot&steps=1_1&slow=1-2&node=2")
+        named = ["held", "later", "message", "reacting", "ring_edge", "ring_good"]
+        self.same("marks of messages", self.value(NAMED), named)
+        self.reads("all is seen", "legend.scrollHeight <= legend.clientHeight", True)
         # Its height stays, so that the network stays where it is.
         heights = set()
         for at in (0, 5, 13, 48):

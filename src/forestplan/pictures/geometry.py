@@ -37,6 +37,10 @@ PIECES = 16
 # The most pairs of an edge and a node, or of two nodes, that are looked at: of more no edge is bent, since that would
 # take seconds.
 MOST_LOOKED_AT = 1_000_000
+# Of more pairs than these each edge is bent in one way only, to either side.
+CROWD = 20_000
+# How far around a label there is looked for room, in distances of the label from its node.
+LOOKS = 3.0
 # The most columns and rows of a grid.
 MOST_CELLS = 256
 # A text of about this half width is as near to its vertex at the side as above it; a wider one is moved aside.
@@ -195,18 +199,25 @@ def least_to(points: Sequence[Point], others: Sequence[Point], enough: float) ->
     """How far the nearest of other places is from a line through points; a nearer one isn't looked for than is near
     enough."""
     least = inf
-    for other in others:
+    bound = enough * enough
+    for x, y in others:
         for k in range(len(points) - 1):
-            far = to_piece(other, points[k], points[k + 1])
+            x1, y1 = points[k]
+            x2, y2 = points[k + 1]
+            dx, dy = x2 - x1, y2 - y1
+            part = ((x - x1) * dx + (y - y1) * dy) / max(1e-12, dx * dx + dy * dy)
+            part = max(0.0, min(1.0, part))
+            across, up = x - x1 - part * dx, y - y1 - part * dy
+            far = across * across + up * up
             if far < least:
                 least = far
-        if least <= enough:
-            return least
-    return least
+        if least <= bound:
+            return sqrt(least)
+    return sqrt(least)
 
 
 def bend_between(
-    begin: Point, end: Point, others: Sequence[Point], clear: float, room: Room
+    begin: Point, end: Point, others: Sequence[Point], clear: float, room: Room, tries: int
 ) -> Point | None:
     """How far the point is moved aside towards which an edge is drawn, so that it passes all other nodes at a distance:
     as little as that needs, and rather to the left, seen from its beginning. It stays in the room if it can. None if
@@ -218,14 +229,14 @@ def bend_between(
     if length < 1e-6:
         return None
     middle = ((x1 + x2) / 2, (y1 + y2) / 2)
-    most = most_bent(length, clear)
+    most = most_bent(length, clear, tries)
     near = [other for other in others if to_piece(other, begin, end) < clear + most]
     if least_to([begin, end], near, 0.0) >= clear:
         return None
     best = (0.0, 0.0)
     widest = -inf
     by = clear + BENT * length
-    for _ in range(TRIES):
+    for _ in range(tries):
         for side in (1, -1):
             x, y = 2 * by * side * dy / length, -2 * by * side * dx / length
             towards = (middle[0] + x, middle[1] + y)
@@ -243,11 +254,18 @@ def bend_between(
     return best
 
 
+def is_crowd(nodes: int, edges: int) -> bool:
+    """Whether there are so many pairs of an edge and a node that each edge is bent as far as usual or not at all."""
+    return nodes * max(nodes, edges) > CROWD
+
+
 def radius_passed(
     places: Sequence[Point], edges: Sequence[tuple[int, int]], radius: float, room: Room
 ) -> float:
     """The radius, or a smaller one if an edge would run through a circle else: not below a small one."""
     passed = radius
+    if is_crowd(len(places), len(edges)):
+        return passed
     for _ in range(SHRINKS):
         if passed <= SMALL_RADIUS or all_pass(places, edges, passed, room):
             return passed
@@ -271,8 +289,10 @@ def all_pass(
     return True
 
 
-def most_bent(length: float, clear: float) -> float:
+def most_bent(length: float, clear: float, tries: int) -> float:
     """How far the middle of an edge of this length is moved aside at most."""
+    if tries == 1:
+        return clear + BENT * length
     return MOST_BENT * length + MOST_PASSED * clear
 
 
@@ -289,10 +309,11 @@ def bends_of(
     if len(places) * max(len(places), len(edges)) > MOST_LOOKED_AT:
         return [None for _ in edges]
     clear = radius + max(LEAST_PASSING, PASSING * radius)
+    tries = 1 if is_crowd(len(places), len(edges)) else TRIES
     found: list[Point | None] = []
     for v, w in edges:
         begin, end = places[v - 1], places[w - 1]
-        far = clear + most_bent(apart_by(begin[0] - end[0], begin[1] - end[1]), clear)
+        far = clear + most_bent(apart_by(begin[0] - end[0], begin[1] - end[1]), clear, tries)
         left, right = min(begin[0], end[0]) - far, max(begin[0], end[0]) + far
         top, bottom = min(begin[1], end[1]) - far, max(begin[1], end[1]) + far
         others: list[Point] = []
@@ -303,7 +324,7 @@ def bends_of(
                 others.append(places[u])
                 if not is_near:
                     is_near = to_piece(places[u], begin, end) < clear
-        found.append(bend_between(begin, end, others, clear, room) if is_near else None)
+        found.append(bend_between(begin, end, others, clear, room, tries) if is_near else None)
     return found
 
 
@@ -428,7 +449,7 @@ def labels_at(
         for half_wide, half_high in own:
             distance = max(distance, radius + USUALLY + half_high)
             reach = max(reach, half_wide)
-    near = 5 * distance
+    near = LOOKS * distance
     vertices = grid_of(places, near)
     lines = grid_of(points_of(places, edges, bends), near)
     written = [box for box in taken]

@@ -3,6 +3,7 @@ geometry.py is written in, and no other one. What has no translation is refused,
 
 >>> print(translated("def twice(a: float) -> float:\\n    return 2 * a\\n"), end="")
 export function twice(a) {
+let $;
 return (2 * a);
 }
 """
@@ -37,6 +38,8 @@ OPERATORS: dict[type[ast.AST], str] = {
     ast.USub: "-",
     ast.Not: "!",
 }
+# What is taken apart.
+ITEM = "$"
 CONSTANTS = {None: "null", True: "true", False: "false"}
 GIVEN = {"inf": "Infinity"}
 
@@ -92,8 +95,7 @@ def function(statement: ast.FunctionDef) -> Iterator[str]:
     body = statement.body[1:] if ast.get_docstring(statement) else statement.body
     yield f"function {camel(statement.name)}({', '.join(given)}) {{"
     names = sorted(names_set(body) - set(given))
-    if names:
-        yield f"let {', '.join(names)};"
+    yield f"let {', '.join([ITEM, *names])};"
     yield from block(body)
     yield "}"
 
@@ -120,7 +122,19 @@ def done(statement: ast.stmt) -> Iterator[str]:
 
 @done.register
 def _(statement: ast.Assign) -> Iterator[str]:
-    yield f"{spoken(statement.targets[0])} = {spoken(statement.value)};"
+    target, value = statement.targets[0], statement.value
+    if isinstance(target, ast.Tuple) and not isinstance(value, ast.Tuple):
+        yield f"{ITEM} = {spoken(value)};"
+        yield from taken_apart(target)
+    else:
+        yield f"{spoken(target)} = {spoken(value)};"
+
+
+def taken_apart(target: ast.Tuple) -> Iterator[str]:
+    """Names for the parts of an item; browsers do this faster than `[x, y] = item`."""
+    for place, one in enumerate(target.elts):
+        if spoken(one) != "_":
+            yield f"{spoken(one)} = {ITEM}[{place}];"
 
 
 @done.register
@@ -172,7 +186,9 @@ def _(statement: ast.For) -> Iterator[str]:
         first, end = ends_of(of)
         yield f"for ({name} = {first}; {name} < {end}; {name}++) {{"
     else:
-        yield f"for ({name} of {spoken(of)}) {{"
+        parts = [*taken_apart(statement.target)] if isinstance(statement.target, ast.Tuple) else []
+        yield f"for ({ITEM if parts else name} of {spoken(of)}) {{"
+        yield from parts
     yield from block(statement.body)
     yield "}"
 

@@ -1,5 +1,5 @@
 // A picture of a network: where things are on the screen, what is drawn, and what is under the pointer.
-import {CORNER, along, bendsOf, fitted, labelHalf, labelSize, labelsAt, largestIn, leastApart, marginsOf, onLink, radiusIn,
+import {CORNER, along, bendsOf, fitted, isCrowd, labelHalf, labelSize, labelsAt, largestIn, leastApart, marginsOf, onLink, radiusIn,
   radiusPassed, towardsOf} from "./geometry.js";
 import {HEAD, MOST_BARS, NEXT_RING, OUTER_RING, RING_GAP} from "./hues.js";
 import {HALO, barMark, mark, patch, textMark} from "./marks.js";
@@ -34,8 +34,11 @@ export class Stage {
     this.spots = [];
     /** @type {Label[][]} */
     this.texts = [];
+    // The places of nodes now, and when labels were placed.
     /** @type {Point[]} */
     this.places = [];
+    /** @type {Point[]} */
+    this.measured = [];
     // What a drawing depended on, by which it is seen what stays.
     /** @type {string[]} */
     this.drawn = [];
@@ -172,6 +175,8 @@ export class Stage {
     const now = JSON.stringify([places, edges, texts, radius, wide, high, isBelow, bars]);
     if (now === this.key) return;
     this.still = [];
+    // In a crowd bends and labels stay while a node is dragged, but for its own label.
+    if (this.isDragged() && isCrowd(nodes.length, edges.length)) return this.carryLabel();
     this.key = now;
     this.close = nodes.map(() => []);
     edges.forEach(([v, w]) => { this.close[v - 1].push(w); this.close[w - 1].push(v); });
@@ -179,7 +184,13 @@ export class Stage {
     const bends = bendsOf(places, edges, radius, this.room());
     this.bends = new Map(edges.map(([a, b], k) => [a + " " + b, bends[k]]));
     const boxes = texts.map(own => own.map(({said, size}) => /** @type {Point} */ ([labelHalf(said.length, size), 0.55 * size])));
+    this.measured = places.slice();
     this.spots = labelsAt(places, edges, bends, radius, CORNER * radius, boxes, this.taken(isBelow, isBarred), wide, high);
+  }
+  carryLabel() {
+    const v = this.dragged, [text, side, x, y] = this.spots[v - 1], [toX, toY] = this.places[v - 1], [fromX, fromY] = this.measured[v - 1];
+    this.spots[v - 1] = [text, side, x + toX - fromX, y + toY - fromY];
+    this.measured[v - 1] = [toX, toY];
   }
   // Where something else is written: below nodes, and their barred channels.
   /** @param {boolean} isBelow @param {boolean} isBarred @returns {Box[]} */
