@@ -54,12 +54,14 @@ SEEN_AT = """(v => { const b = document.querySelector(`#net [data-node="${v}"] c
   return [b.x + b.width / 2, b.y + b.height / 2]; })"""
 # The keys that the tests press, with their numbers.
 KEYS = {"Enter": 13, " ": 32, "Tab": 9, "End": 35, "PageDown": 34}
-# How much is seen of what has the answer to a question; and a text of the card, outside of code, that has marks of its
-# source.
+# How much is seen of what has the answer to a question; and the texts beside the network, outside of code, that have
+# marks of their source.
 TELLS = "Array.from(document.querySelectorAll('.tells')).filter(one => one.getClientRects().length).length"
-MARKS = """Array.from(lesson.querySelectorAll('.instruction :is(p, label, button, summary, li)'),
-  one => { const copy = one.cloneNode(true); copy.querySelectorAll('code').forEach(code => code.remove()); return copy.textContent; })
-  .filter(said => /[`*]|\\]\\(/.test(said)).join(' | ')"""
+MARKS = """(() => { const walk = document.createTreeWalker(side, NodeFilter.SHOW_TEXT), found = [];
+  for (let one = walk.nextNode(); one; one = walk.nextNode()) {
+    if (/[`*]|\\]\\(/.test(one.data) && !one.parentElement.closest('code, pre, textarea')) found.push(one.data);
+  }
+  return found.join(' | '); })()"""
 TICKED = (
     "lesson.querySelector('.judged') && lesson.querySelector('.judged').textContent.startsWith('☑')"
 )

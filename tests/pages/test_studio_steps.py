@@ -99,6 +99,8 @@ class Steps(Page):
                 time.sleep(0.4)
                 for place, name in enumerate(names):
                     count += 1
+                    there = f"document.getElementById('{name}').getBoundingClientRect().height"
+                    self.page.until(there, 20)
                     button = f"lesson.querySelectorAll('.pointer')[{place}]"
                     self.value(f"{button}.scrollIntoView({{block: 'center'}}); {button}.click()")
                     self.sees(f"{wide}: {name} of {number}.{k}", f"{IN_SIGHT}('{name}')", 10)
@@ -142,7 +144,7 @@ class Steps(Page):
         self.reads(
             "and spoken",
             "document.querySelector('#net [data-node=\"2\"]').getAttribute('aria-label')",
-            "node 2, pulse 2",
+            "node 2: pulse 2",
         )
         self.sees("in red", "legend.querySelector('[data-kind-of-mark=ring_wrong]')")
 

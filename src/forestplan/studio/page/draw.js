@@ -86,7 +86,7 @@ export function inspect() {
     return place.replaceChildren(html("h2", `Edge ${seen.edge.join(" – ")}`),
       html("p", "Delete removes it.", {class: "soft"}));
   }
-  if (!v) return place.replaceChildren();
+  if (!v) return place.replaceChildren(net.nodes.length ? html("p", "No node is chosen.", {class: "soft"}) : "");
   const node = net.nodes[v - 1], box = html("div", null, {class: "grid"});
   const on = fieldsOf(place).findIndex(one => one === document.activeElement);
   /** @type {<Given>(said: string, value: string, use: (given: Given) => void, more: Attributes, parse: (said: string) => Given | null, refusal?: string) => void} */
