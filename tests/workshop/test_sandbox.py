@@ -268,6 +268,19 @@ class Sandboxed(Contained):
             str(why.exception), "can't start here .*no-such-word.*docker run --privileged"
         )
 
+    def test_where_it_isnt_installed(self):
+        """One sentence, even if the PATH has a folder that the submission's user can't enter, as root's own is."""
+        guard, _ = self.guards()
+        empty = os.path.join(self.folder, "empty")
+        root = os.path.join(self.folder, "root", "bin")
+        for folder in (empty, root):
+            os.makedirs(folder)
+        os.chmod(os.path.dirname(root), 0o700)
+        for path in (empty, f"{root}:{empty}"):
+            with mock.patch.dict(os.environ, PATH=path), self.assertRaises(Fault) as why:
+                guard.try_out()
+            self.note(path, "apt install bubblewrap" in str(why.exception), why.exception)
+
     def test_folders_that_its_user_cant_reach(self):
         """What lies below them can't be shown; an ordinary user reaches all that is its own."""
         shut = os.path.join(self.folder, "shut")

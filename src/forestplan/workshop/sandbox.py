@@ -172,7 +172,8 @@ class Sandbox(Guard):
                 text=True,
                 **self.start(Limits(1, 2048, 1), self.tasks()),
             )
-        except FileNotFoundError:
+        # The second one comes if it is in no folder of the PATH that the programs' user can enter.
+        except (FileNotFoundError, PermissionError):
             raise Fault(Code.NO_BUBBLEWRAP, instead=INSTEAD) from None
         if done.returncode:
             raise Fault(Code.BUBBLEWRAP_REFUSES, why=done.stderr.strip(), instead=INSTEAD)
