@@ -16,8 +16,12 @@ gzip -9n "$pages/changelog" "$share"/man/man1/*.1
   echo "/usr/share/common-licenses/Apache-2.0)."
   echo
   cat "$home/LICENSE-MIT"
+  echo
+  cat "$home/LICENSE-THIRD-PARTY"
 } >"$pages/copyright"
-for name in docs examples LICENSE-MIT LICENSE-APACHE; do ln -s "../../../lib/forestplan/$name" "$pages"; done
+for name in docs examples LICENSE-MIT LICENSE-APACHE LICENSE-THIRD-PARTY; do
+  ln -s "../../../lib/forestplan/$name" "$pages"
+done
 for name in forestplan forestplay forestlab; do ln -s "../lib/forestplan/bin/$name" "$2/bin"; done
 for name in forestplan forestplay; do ln -s forestlab "$share/bash-completion/completions/$name"; done
 [ -z "${3-}" ] || { mkdir -p "$2/$3" && ln -sr "$home/src/forestplan" "$2/$3"; }

@@ -4,6 +4,7 @@ import re
 import shutil
 import subprocess
 import sys
+from collections.abc import Callable
 
 from build import kit, program
 from build.completion import COMMANDS, completion, manual
@@ -20,7 +21,14 @@ from forestplan.workshop.class_files import (
 
 # What is copied, each at the path that it has here.
 FOLDERS = ("examples", "docs", "src")
-FILES = ("CHANGELOG.md", "LICENSE-MIT", "LICENSE-APACHE", "bin/forestlab", "pyproject.toml")
+FILES = (
+    "CHANGELOG.md",
+    "LICENSE-MIT",
+    "LICENSE-APACHE",
+    "LICENSE-THIRD-PARTY",
+    "bin/forestlab",
+    "pyproject.toml",
+)
 # Where shells look for what completes words, below share/.
 OF_SHELLS = ("bash-completion/completions/forestlab", "zsh/site-functions/_forestlab")
 
@@ -106,13 +114,28 @@ def readme(section: str) -> str:
     return re.sub(OF_THE_REPOSITORY, r"\1", text)
 
 
-def make(room: str, section: str = SECTION) -> None:
-    """Makes all that is installed in an empty folder."""
-    os.makedirs(os.path.join(room, "lib"))
+def copy_built(folder: str) -> None:
+    """Copies the programs that this tree has built, without the names of their functions."""
     for name in PROGRAMS:
-        to = shutil.copy(program.program_at(name), os.path.join(room, "lib"))
+        to = shutil.copy(program.program_at(name), folder)
         if shutil.which("strip"):
             subprocess.run(["strip", to], check=True)
+
+
+def version_here() -> str:
+    """What VERSION says of this tree. The sources name several kits, so it says which one is here."""
+    return version.version_text() + (f"built where rt is of {kit.found()}\n" if kit.command() else "")
+
+
+def make(
+    room: str,
+    section: str = SECTION,
+    copy_programs: Callable[[str], None] = copy_built,
+    version_text: str | None = None,
+) -> None:
+    """Makes all that is installed in an empty folder."""
+    os.makedirs(os.path.join(room, "lib"))
+    copy_programs(os.path.join(room, "lib"))
     for folder in FOLDERS:
         shutil.copytree(
             os.path.join(TOP, folder),
@@ -129,19 +152,21 @@ def make(room: str, section: str = SECTION) -> None:
         write_file(os.path.join(share, "man", "man1", f"{name}.1"), manual(commands, name))
     for path in OF_SHELLS:
         write_file(os.path.join(share, path), completion(commands))
-    # The sources name several kits, so the folder says which one is here.
-    here = f"built where rt is of {kit.found()}\n" if kit.command() else ""
-    write_file(os.path.join(room, "VERSION"), version.version_text() + here)
+    write_file(os.path.join(room, "VERSION"), version_text or version_here())
     write_sums(room)
     subprocess.run(["chmod", "-R", "u=rwX,go=rX", room], check=True)
 
 
 def make_below(room: str, python: str) -> None:
     """Makes all that is installed below a prefix, in an empty folder, with a folder of Python's, if it is named."""
-    os.mkdir(room)
     make(f"{room}.folder", SECTION_OF_SYSTEM)
-    below = os.path.join(TOP, "build", "below.sh")
-    subprocess.run([below, f"{room}.folder", room, python], check=True)
+    lay_out(f"{room}.folder", room, python)
+
+
+def lay_out(made: str, room: str, python: str) -> None:
+    """Lays out a folder that is made as it is below a prefix, in another folder that is new."""
+    os.makedirs(room)
+    subprocess.run([os.path.join(TOP, "build", "below.sh"), made, room, python], check=True)
 
 
 def main() -> int:

@@ -1,11 +1,15 @@
 """What pip calls to install the package `forestplan`. Of an installed folder it gets a wheel of the package, with the
 programs below it, wherever pip puts packages, and of the commands. Of a tree `pip install -e` gets a wheel
-that says where the package is. It needs pip alone, no other package and no network."""
+that says where the package is. It needs pip alone, no other package and no network.
+
+The members of a wheel are sorted and have one time, the one of SOURCE_DATE_EPOCH or the earliest that a zip file can
+say: so its bytes depend only on what is in it."""
 import ast
 import base64
 import hashlib
 import os
 import sysconfig
+import time
 import zipfile
 from collections.abc import Iterator, Mapping
 
@@ -16,7 +20,9 @@ PACKAGE = os.path.join("src", "forestplan")
 # What the package and the commands call.
 FOLDERS = ("bin", "lib", "examples")
 COMMANDS = ("forestlab", "forestplan", "forestplay")
-LICENSES = ("LICENSE-APACHE", "LICENSE-MIT")
+LICENSES = ("LICENSE-APACHE", "LICENSE-MIT", "LICENSE-THIRD-PARTY")
+# 1 January 1980, before which a zip file has no time.
+EARLIEST = 315532800
 # The scripts of bin/ find the package where an installed folder has it; pip has it elsewhere.
 DOOR = {
     "forestplan/installed/src/forestplan/launcher.sh": 'source "${BASH_SOURCE[0]%/*}/../../../launcher.sh"\n'
@@ -52,15 +58,14 @@ def write_wheel(
     info = f"forestplan-{version}.dist-info"
     said = ast.get_docstring(ast.parse(text_in(PACKAGE, "__init__.py"))) or ""
     summary = said.partition("\n")[0]
+    licenses = "".join(f"License-File: {one}\n" for one in LICENSES)
     metadata = f"""\
 Metadata-Version: 2.1
 Name: forestplan
 Version: {version}
 Summary: {summary}
 License: MIT OR Apache-2.0
-License-File: LICENSE-APACHE
-License-File: LICENSE-MIT
-Platform: {sysconfig.get_platform()}
+{licenses}Platform: {sysconfig.get_platform()}
 Requires-Python: >=3.10
 Description-Content-Type: text/plain
 
@@ -76,14 +81,27 @@ Description-Content-Type: text/plain
     }
     paths = {**copied, **{f"{info}/{one}": one for one in LICENSES}}
     path = os.path.join(folder, name)
-    with zipfile.ZipFile(path, "w", zipfile.ZIP_DEFLATED, strict_timestamps=False) as wheel:
+    with zipfile.ZipFile(path, "w", zipfile.ZIP_DEFLATED) as wheel:
         for there, here in sorted(paths.items()):
-            wheel.write(os.path.join(TOP, here), there)
+            full = os.path.join(TOP, here)
+            with open(full, "rb") as file:
+                wheel.writestr(member(there, os.access(full, os.X_OK)), file.read())
         for there, text in texts.items():
-            wheel.writestr(there, text)
+            wheel.writestr(member(there), text)
         rows = [row(there, wheel.read(there)) for there in wheel.namelist()]
-        wheel.writestr(f"{info}/RECORD", "".join(rows) + f"{info}/RECORD,,\n")
+        wheel.writestr(member(f"{info}/RECORD"), "".join(rows) + f"{info}/RECORD,,\n")
     return name
+
+
+def member(path: str, is_run: bool = False) -> zipfile.ZipInfo:
+    """What a wheel says of a file, which may be one to run."""
+    since = max(int(os.environ.get("SOURCE_DATE_EPOCH", "0")), EARLIEST)
+    info = zipfile.ZipInfo(path, time.gmtime(since)[:6])
+    info.external_attr = (0o100755 if is_run else 0o100644) << 16
+    info.compress_type = zipfile.ZIP_DEFLATED
+    # What zipfile says of the system that wrote it differs by system.
+    info.create_system = 3
+    return info
 
 
 def text_in(*parts: str) -> str:
@@ -92,6 +110,9 @@ def text_in(*parts: str) -> str:
 
 
 def version_number() -> str:
+    """What VERSION says in an installed folder, which may be more than the sources say, as `0.6.0+unproved`."""
+    if os.path.isfile(os.path.join(TOP, "VERSION")):
+        return text_in("VERSION").split()[1]
     return text_in(PACKAGE, "__init__.py").partition('__version__ = "')[2].partition('"')[0]
 
 

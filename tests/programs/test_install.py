@@ -21,6 +21,7 @@ from tests.tools import need, needs
 # Seconds; a busy machine takes long for the many calls of help that the manual pages are made of.
 LIMIT = 600
 NAMES = [*PROGRAMS, "forestlab"]
+LICENCES = (b"LICENSE-APACHE", b"LICENSE-MIT", b"LICENSE-THIRD-PARTY")
 # Stored pictures that version 0.5 drew, of kinds that there are no more.
 OF_NO_KIND = {"petersen-automaton.svg", "petersen-tally.svg", "four_cycle-forests.svg"}
 BUILD = [sys.executable, "-B", os.path.join(TOP, "build")]
@@ -341,7 +342,7 @@ class Install(FolderCase):
             "forestplan.check({1: []}, {})"
         )
         got = run([*python, "-c", code], cwd=self.elsewhere, env=env)
-        wanted = b"{1: 1, 2: 2} #0072B2 True {1: []} LICENSE-APACHE LICENSE-MIT\n"
+        wanted = b"{1: 1, 2: 2} #0072B2 True {1: []} " + b" ".join(LICENCES) + b"\n"
         self.assertEqual(got[:2], (1, wanted), got)
         self.assertIn(b"forestplan.Refused: C1, a fault of a plan: 1 has no line", got[2])
         command = [*python[:-1], os.path.join(room, "bin", "forestplan"), "plain"]
@@ -352,7 +353,7 @@ class Install(FolderCase):
         """`pip install -e` of a tree has Python import the package where it is, and puts the commands on the PATH. A
         tree that isn't installed so is refused, with what to call."""
         tree, room = (os.path.join(self.folder, name) for name in ("its tree", "its environment"))
-        copied(tree, "bin", "build", "src", "pyproject.toml", "LICENSE-MIT", "LICENSE-APACHE")
+        copied(tree, "bin", "build", "src", "pyproject.toml", *map(bytes.decode, LICENCES))
         system = "/usr/bin/python3"
         need(self, system)
         run([system, "-m", "venv", "--without-pip", "--system-site-packages", room])

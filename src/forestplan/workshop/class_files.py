@@ -18,6 +18,7 @@ from forestplan.proved_programs import SCRIPT, program_file
 COPIED = (
     "LICENSE-MIT",
     "LICENSE-APACHE",
+    "LICENSE-THIRD-PARTY",
     "bin/forestlab",
     "docs/learn/TUTORIAL.md",
     *(f"docs/learn/LESSON_{number}.md" for number in range(1, 9)),
