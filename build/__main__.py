@@ -8,11 +8,13 @@ MODULES = {
     "command-table": "command_table",
     "completion": "completion",
     "crate-tables": "crate_tables",
+    "gate-record": "gate_record",
     "help-texts": "help_texts",
     "install": "install",
     "new-program": "new_program",
     "page-types": "page_types",
     "program": "program",
+    "release": "release",
     "wrong-bodies": "wrong_bodies",
 }
 HELP = f"""\
