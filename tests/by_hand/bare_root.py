@@ -62,6 +62,11 @@ exec env -i PATH="$INSIDE" HOME=/root LANG=C.UTF-8 bash -c "$1"
 class Roots:
     """The roots of a folder."""
 
+    # Of this machine's folders, those that each root has, too.
+    bound: tuple[str, ...] = KIT
+    # Where a root looks for commands.
+    path = PATH
+
     def __init__(self, folder: str, built: str | None) -> None:
         self.folder, self.built = os.path.abspath(folder), built
 
@@ -104,8 +109,8 @@ class Roots:
             "NEW": new,
             "WORK": self.fresh("work"),
             "TREE": self.at("tree"),
-            "BOUND": " ".join(filter(os.path.isdir, KIT)),
-            "INSIDE": PATH,
+            "BOUND": " ".join(filter(os.path.isdir, self.bound)),
+            "INSIDE": self.path,
         }
         arguments = [
             "unshare",
