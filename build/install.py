@@ -124,7 +124,9 @@ def copy_built(folder: str) -> None:
 
 def version_here() -> str:
     """What VERSION says of this tree. The sources name several kits, so it says which one is here."""
-    return version.version_text() + (f"built where rt is of {kit.found()}\n" if kit.command() else "")
+    return version.version_text() + (
+        f"built where rt is of {kit.found()}\n" if kit.command() else ""
+    )
 
 
 def make(

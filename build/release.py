@@ -20,7 +20,7 @@ from build import archives, gate_record, install, program
 from build.crate_lists import PROGRAMS, TOP
 from forestplan import __version__, version
 from forestplan.parsers import parser_of
-from forestplan.workshop.class_files import is_free, make_folder, write, write_sums
+from forestplan.workshop.class_files import is_free, make_folder, write_file, write_sums
 
 # The status if nothing vouches for the programs.
 NOT_PROVED = 70
@@ -85,7 +85,7 @@ class Release:
         return __version__ if self.record else f"{__version__}+unproved"
 
     def version_text(self) -> str:
-        lines = version.text().split("\n")[1:-1]
+        lines = version.version_text().split("\n")[1:-1]
         more = (
             f"built by {self.record.kit}"
             if self.record
@@ -149,7 +149,7 @@ class Release:
             write_bytes(os.path.join(room, f"{name}.tar.gz"), packed)
             write_wheel(folder, room, self.time)
             root = os.path.join(work, "root")
-            write(
+            write_file(
                 os.path.join(folder, "README.md"),
                 install.readme(with_systems(install.SECTION_OF_SYSTEM)),
             )
@@ -158,7 +158,7 @@ class Release:
             number = self.number.replace("+", "~")
             package = archives.debian_package(control(number, systems, root), root, self.time)
             write_bytes(os.path.join(room, f"forestplan_{number}_{systems.of_debian}.deb"), package)
-        write(os.path.join(room, "PROOF.txt"), self.proof())
+        write_file(os.path.join(room, "PROOF.txt"), self.proof())
         if self.record:
             log = archives.compressed(contents(gate_record.log_at()))
             write_bytes(os.path.join(room, "gate.log.gz"), log)
