@@ -30,7 +30,7 @@ PUBLIC = {
         "synchronous_run"
     ),
     "transcripts": (
-        "Clock Head WholeRun WrongEntry json_lines as_rounds as_shiviz entries_of entry_text transcript_in_order "
+        "Clock Head JudgedRun WrongEntry json_lines as_rounds as_shiviz entries_of entry_text transcript_in_order "
         "line_of transcript_read whole_run"
     ),
     "schedules": (

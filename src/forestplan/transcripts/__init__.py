@@ -32,7 +32,7 @@ from forestplan.public_names import finder
 # For checkers of types and editors alone.
 if TYPE_CHECKING:
     from forestplan.transcripts.conversions import as_rounds, as_shiviz, entries_of, json_lines
-    from forestplan.transcripts.judge import WholeRun, transcript_in_order, whole_run
+    from forestplan.transcripts.judge import JudgedRun, transcript_in_order, whole_run
     from forestplan.transcripts.reading import (
         Head,
         WrongEntry,
@@ -45,7 +45,7 @@ if TYPE_CHECKING:
 __all__ = [
     "Clock",
     "Head",
-    "WholeRun",
+    "JudgedRun",
     "WrongEntry",
     "as_rounds",
     "as_shiviz",
@@ -60,7 +60,7 @@ __all__ = [
 # The module of each of these names.
 MODULES = {
     "forestplan.transcripts.conversions": "json_lines as_rounds as_shiviz entries_of",
-    "forestplan.transcripts.judge": "WholeRun transcript_in_order whole_run",
+    "forestplan.transcripts.judge": "JudgedRun transcript_in_order whole_run",
     "forestplan.transcripts.reading": "Head WrongEntry entry_text line_of transcript_read",
     "forestplan.transcripts.stamps": "Clock",
 }

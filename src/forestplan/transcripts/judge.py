@@ -124,11 +124,11 @@ def check_form(head: Head, program: AnyProgram) -> None:
         raise WrongEntry(head.line, Code.EDITION_OF_REACTIONS, program=program.name)
 
 
-class WholeRun(NamedTuple):
+class JudgedRun(NamedTuple):
     """What is found of a transcript that is right: the `lines` of its entries, in an order that is a run, and the
     `verdict` in words.
 
-    >>> WholeRun([2, 3], "whole run of 1 nodes, 2 entries").lines
+    >>> JudgedRun([2, 3], "whole run of 1 nodes, 2 entries").lines
     [2, 3]
     """
 
@@ -136,7 +136,7 @@ class WholeRun(NamedTuple):
     verdict: str
 
 
-def whole_run(net: Network, text: str | bytes, program: AnyProgram = COLOURING) -> WholeRun:
+def whole_run(net: Network, text: str | bytes, program: AnyProgram = COLOURING) -> JudgedRun:
     """Judges the `text` of a transcript of a `program` on a network `net`: returns the verdict, and the lines of the
     entries in an order that is a run. Here a network of one node makes its pulses alone.
 
@@ -159,7 +159,7 @@ def whole_run(net: Network, text: str | bytes, program: AnyProgram = COLOURING) 
     if isinstance(program, Reacting):
         if why := what_is_wrong(net, program.file, results_in(found.state)):
             raise not_right(said, why)
-    return WholeRun([entry.line for entry in found.made], said)
+    return JudgedRun([entry.line for entry in found.made], said)
 
 
 def not_right(said: str, why: str) -> WrongEntry:
