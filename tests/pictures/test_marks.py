@@ -7,7 +7,14 @@ import shutil
 from collections.abc import Callable, Sequence
 
 from forestplan.pictures import pages
-from forestplan.pictures.marks import bar_row, channel_circle, colour_square
+from forestplan.pictures.marks import (
+    bar_row,
+    blank_circle,
+    channel_circle,
+    colour_square,
+    message_pill,
+)
+from forestplan.pictures.palette import INK, PALE, PAPER, WIRES, WRONG
 from forestplan.pictures.svg import Svg
 from tests.cases import Case, called
 from tests.pictures.marks import SVG, number, parsed
@@ -17,14 +24,18 @@ from tests.tools import need
 RADIUS = 40.0
 CHANNELS = [*range(1, 44), 99, 100, 999, 1000, 2048]
 COLOURS = range(6)
+# Messages, and words of them.
+PILLS = [(kind, said) for kind in WIRES for said in ("1", "17", "safe 12")]
 NUMBERS = [0, 9, 10, 99, 100, 999, 1000, *(2**n for n in (10, 15, 16, 17, 19, 20, 21, 64, 127))]
 DRAW = """\
 import {readFileSync} from "node:fs";
-import {barMark, channelCircle, colourSquare} from "./marks.mjs";
-const {r, channels, colours, numbers} = JSON.parse(readFileSync(0));
+import {barMark, blank, channelCircle, colourSquare, pill} from "./marks.mjs";
+const {r, channels, colours, numbers, pills} = JSON.parse(readFileSync(0));
 const flat = list => list.filter(Boolean).map(({name, attributes, inside}) => ({name, ...attributes, inside}));
 console.log(JSON.stringify({channels: channels.map(one => flat(channelCircle(0, 0, r, one))),
   bars: channels.map(one => flat(barMark(0, 0, r, one))),
+  blanks: colours.map(one => flat(blank(0, 0, r, one))),
+  pills: pills.map(([kind, said]) => flat(pill(0, 0, said, kind, 12))),
   colours: colours.map(one => flat(colourSquare(0, 0, r, one, true))),
   numbers: numbers.map(one => flat(colourSquare(0, 0, r, one, false)))}));
 """
@@ -61,7 +72,13 @@ class Marks(Case):
         for name, code in {**made, "marks": pages.page_file_text("marks.js")}.items():
             self.file(f"{name}.mjs", re.sub(r'from "\./(\w+)\.js"', r'from "./\1.mjs"', code))
         numbers = [str(one) for one in NUMBERS]
-        asked = {"r": RADIUS, "channels": CHANNELS, "colours": list(COLOURS), "numbers": numbers}
+        asked = {
+            "r": RADIUS,
+            "channels": CHANNELS,
+            "colours": list(COLOURS),
+            "numbers": numbers,
+            "pills": PILLS,
+        }
         program, node = self.file("draw.mjs", DRAW), shutil.which("node")
         status, out, errors = called(node, program, data=json.dumps(asked).encode())
         self.assertEqual((status, errors), (0, b""))
@@ -85,3 +102,57 @@ class Marks(Case):
                 draw(svg, value)
                 with self.subTest(f"{kind} {value}"):
                     self.assertEqual(of_page(parts), of_picture(svg))
+
+    def test_messages_and_nodes_without_a_channel(self) -> None:
+        """Shapes with their attributes, and words with their size and ink. The page names its colours."""
+        drawn = self.drawn()
+        names = {"var(--paper)": PAPER, "var(--ink)": INK}
+        for value, parts in zip(COLOURS, drawn["blanks"], strict=True):
+            svg = Svg(100, 100, "")
+            blank_circle(svg, 0, 0, RADIUS, value)
+            self.same(f"node {value}", shapes(parts, names), shapes(of_svg(svg), names))
+        for (kind, said), parts in zip(PILLS, drawn["pills"], strict=True):
+            svg = Svg(100, 100, "")
+            message_pill(svg, 0, 0, said, kind, 12)
+            self.same(f"{kind} {said}", shapes(parts, names), shapes(of_svg(svg), names))
+
+    def test_colours_of_the_page(self) -> None:
+        """The named colours in the light, and those of messages, are those of the palette."""
+        style = pages.page_file_text("page.css")
+        named = dict(re.findall(r"--(\w+):(#\w+)", style.partition("}")[0]))
+        ours = {"ink": INK, "paper": PAPER, "wrong": WRONG}
+        self.same("named", {name: named[name] for name in ours}, ours)
+        for kind, rim in WIRES.items():
+            found = re.findall(
+                rf"^\.{kind}\{{border-color:(#\w+);background:(#\w+)\}}", style, re.M
+            )
+            self.same(kind, found, [(rim, PALE[kind])])
+
+
+def of_svg(svg: Svg) -> list[dict]:
+    """The marks of a picture as a page has them."""
+    root = parsed(f"<g>{''.join(svg.parts)}</g>")
+    return [
+        {"name": one.tag.removeprefix(SVG), **one.attrib, "inside": one.text}
+        for one in root.iter()
+        if one.tag != f"{SVG}g"
+    ]
+
+
+KEPT = ("fill", "stroke", "stroke-width", "width", "height", "rx", "r", "font-size", "inside")
+
+
+def shapes(parts: list[dict], names: dict[str, str]) -> list[dict]:
+    """What is seen of marks, numbers with one decimal place."""
+    found = []
+    for part in parts:
+        seen = {key: names.get(part[key], part[key]) for key in KEPT if part.get(key) is not None}
+        found.append({"name": part["name"], **{key: rounded(one) for key, one in seen.items()}})
+    return found
+
+
+def rounded(value: object) -> object:
+    try:
+        return round(float(str(value)), 1)
+    except ValueError:
+        return value

@@ -9,10 +9,10 @@ from forestplan.faults import Fault, InText
 from forestplan.network import Network
 from forestplan.pictures.geometry import Point
 from forestplan.pictures.map_picture import EDGE, Vertex, begun, draw_map
-from forestplan.pictures.marks import Map, short_name
-from forestplan.pictures.palette import INK, PAPER, WIRES
+from forestplan.pictures.marks import Map, message_pill, short_name
+from forestplan.pictures.palette import INK
 from forestplan.pictures.player_page import caption
-from forestplan.pictures.svg import Svg, text_width, wrapped
+from forestplan.pictures.svg import Svg, wrapped
 from forestplan.wording import counted
 
 # Seconds of a round, and of the end; the part of a round after which its messages have arrived.
@@ -160,11 +160,9 @@ def draw_message(
     """A message, at its sender: its number in a pill."""
     sender, receiver, word, number = put
     (x, y), (to_x, to_y) = drawn.places[sender], drawn.places[receiver]
-    width = 10 + text_width(number, MESSAGE)
     with svg.group(
         style,
         f"round {pulse.number}: {word} {number} from {sender} to {receiver}",
         style=f"--x:{to_x - x:.0f}px;--y:{to_y - y:.0f}px",
     ):
-        svg.rect(x - width / 2, y - 7, width, 14, PAPER, WIRES["payload"], 1.5, 7)
-        svg.label(x, y + 3.3, number, MESSAGE, WIRES["payload"])
+        message_pill(svg, x, y, str(number), "payload", MESSAGE)

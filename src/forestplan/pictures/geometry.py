@@ -68,6 +68,8 @@ AROUND, LABEL_HIGH, WORDS_BELOW, WORDS_HALF, LEAST_LABEL = 8.0, 14.0, 18.0, 46.0
 SHRINK, SHRINKS = 0.88, 6
 # On a page circles are never smaller; and up to this radius they may be so near to each other, in radii.
 LEAST_RADIUS, SMALL_RADIUS, NEAREST = 5.0, 8.0, 2.4
+# Half the width of an arrow's head, in its lengths.
+HEAD = 0.42
 # A message's pill: what is to the left and to the right of its words together, and above and below them.
 PILL_WIDE, PILL_HIGH = 10.0, 5.0
 
@@ -587,6 +589,15 @@ def room_at(
     room = min(least_gap(middle, points, near), to_texts - 0.45 * distance, near)
     own = apart_by(box[0] - place[0], box[1] - place[1])
     return room - 3 * max(0.0, CLEARLY * own - to_others)
+
+
+def head_of(tip: Point, direction: Point, size: float) -> list[Point]:
+    """The three corners of an arrow's head, the tip first, of which the back is a size away from the tip."""
+    x, y = tip
+    length = apart_by(direction[0], direction[1])
+    dx, dy = (0.0, 0.0) if length <= 0 else (direction[0] / length, direction[1] / length)
+    back_x, back_y, half = x - dx * size, y - dy * size, size * HEAD
+    return [tip, (back_x - dy * half, back_y + dx * half), (back_x + dy * half, back_y - dx * half)]
 
 
 def on_link(

@@ -9,17 +9,18 @@ from forestplan.pictures.marks import (
     Map,
     bar_row,
     bars_width,
+    blank_circle,
     by_size,
     channel_circle,
     short_name,
     width_of_map,
 )
-from forestplan.pictures.palette import INK, PAPER, SOFT, text_on
+from forestplan.pictures.palette import BAR_RADIUS, INK, PAPER, SOFT
 from forestplan.pictures.places import box_height, places_of
 from forestplan.pictures.svg import Svg, text_width
 from forestplan.wording import counted
 
-MARGIN, BAR, GAP = 48, 9, 3
+MARGIN, GAP = 48, 3
 # The colour and the width of an edge.
 EDGE = SOFT, 1.4
 
@@ -47,7 +48,7 @@ class Vertex:
     def room(self) -> float:
         """How wide its words and bars are."""
         return text_width(self.label, self.size) + (
-            GAP + bars_width(self.bars, BAR) if self.bars else 0
+            GAP + bars_width(self.bars, BAR_RADIUS) if self.bars else 0
         )
 
     def draw(self, svg: Svg, x: float, y: float, radius: float, spot: Point) -> None:
@@ -60,9 +61,7 @@ class Vertex:
             svg.circle(x, y, radius + 1.6, PAPER)
             channel_circle(svg, x, y, radius, self.channel)
         else:
-            mark = "blank" if self.fill == PAPER else "filled"
-            svg.circle(x, y, radius, self.fill, INK, 1.6, mark=mark)
-            svg.label(x, y + 0.36 * radius, self.v, round(0.95 * radius, 1), text_on(self.fill))
+            blank_circle(svg, x, y, radius, self.v, self.fill)
 
     def draw_beside(self, svg: Svg, spot: Point) -> None:
         """Its words, and its barred channels."""
@@ -78,7 +77,7 @@ class Vertex:
                 halo=3,
                 mark=self.mark,
             )
-        bar_row(svg, left + width + GAP, spot[1], self.bars, BAR)
+        bar_row(svg, left + width + GAP, spot[1], self.bars, BAR_RADIUS)
 
 
 def map_svg(network: Network) -> str:
@@ -136,7 +135,10 @@ def draw_map(
     if draw_more:
         draw_more(drawn)
     drawn.label(
-        {v: (one.room() / 2, BAR if one.bars else 0.45 * one.size) for v, one in vertices.items()}
+        {
+            v: (one.room() / 2, BAR_RADIUS if one.bars else 0.45 * one.size)
+            for v, one in vertices.items()
+        }
     )
     for v, (x, y) in sorted(drawn.places.items()):
         vertices[v].draw(svg, x, y, drawn.radius, drawn.labels[v])

@@ -6,13 +6,26 @@ from math import inf, sqrt
 from typing import TypeVar
 
 from forestplan.network import Edge, Network
-from forestplan.pictures.geometry import Point, bends_of, labels_at, radius_passed, towards_of
+from forestplan.pictures.geometry import (
+    Point,
+    bends_of,
+    labels_at,
+    pill_high,
+    pill_wide,
+    radius_passed,
+    towards_of,
+)
 from forestplan.pictures.palette import (
+    BAR_GAP,
     BAR_SIZES,
+    BLANK_RIM,
+    BLANK_SIZE,
     FOREST_COLOURS,
     INK,
     MOST_BARS,
+    PALE,
     PAPER,
+    PILL_RIM,
     SQUARE_SIZES,
     WIRES,
     WRONG,
@@ -60,10 +73,27 @@ def channel_circle(
     svg.label(x, y + size * 0.36, channel, round(size, 1), look.ink)
 
 
+def blank_circle(
+    svg: Svg, x: float, y: float, radius: float, said: int | str, fill: str = PAPER
+) -> None:
+    """A vertex without a channel, or one that is filled: its number."""
+    mark, size = "blank" if fill == PAPER else "filled", radius * BLANK_SIZE
+    svg.circle(x, y, radius, fill, INK, BLANK_RIM, mark=mark)
+    svg.label(x, y + 0.36 * size, said, round(size, 1), text_on(fill) if fill != PAPER else INK)
+
+
+def message_pill(svg: Svg, x: float, y: float, said: str, kind: str, size: float) -> None:
+    """A message on its way: its words in a pill."""
+    wide, high = pill_wide(len(said), size), pill_high(size)
+    left, top = x - wide / 2, y - high / 2
+    svg.rect(left, top, wide, high, PALE[kind], WIRES[kind], PILL_RIM, high / 2)
+    svg.text(x, y + 0.36 * size, said, size, INK, "middle")
+
+
 def bars_width(channels: Collection[int], radius: float) -> float:
     """How much room a row of barred channels takes."""
     return (
-        min(len(channels), MOST_BARS) * (2 * radius + 2)
+        min(len(channels), MOST_BARS) * (2 * radius + BAR_GAP)
         + (len(channels) > MOST_BARS) * 1.5 * radius
     )
 
@@ -72,7 +102,7 @@ def bar_row(svg: Svg, x: float, y: float, channels: Collection[int], radius: flo
     """The barred channels of a vertex, lowest first, to the right of a place: each in a ring of its hue, crossed out.
     An ellipsis stands for those that have no room."""
     for at, channel in enumerate(list(channels)[:MOST_BARS]):
-        middle_x = x + radius + at * (2 * radius + 2)
+        middle_x = x + radius + at * (2 * radius + BAR_GAP)
         svg.circle(middle_x, y, radius, PAPER, channel_hue(channel), 1, mark="bar")
         size = round(radius * size_in(BAR_SIZES, str(channel)), 1)
         svg.label(middle_x, y + size * 0.36, channel, size)
@@ -87,7 +117,7 @@ def bar_row(svg: Svg, x: float, y: float, channels: Collection[int], radius: flo
         )
     if len(channels) > MOST_BARS:
         svg.note(
-            x + MOST_BARS * (2 * radius + 2),
+            x + MOST_BARS * (2 * radius + BAR_GAP),
             y + 0.4 * radius,
             "…",
             1.5 * radius,

@@ -39,8 +39,11 @@ CHANNEL_SIZES, SQUARE_SIZES, BAR_SIZES = (1.12, 0.92), (1.1, 1.1, 0.8), (1.2, 1.
 IN_RING = 0.85
 # How wide a ring is: in radii, and at least.
 RING_WIDTH, LEAST_RING = 0.25, 2
-# Half the width of an arrow's head, in its lengths.
-HEAD = 0.42
+# How wide the rim of a node without a channel is, and that of a message; and how large the number of such a node is, in
+# radii.
+BLANK_RIM, PILL_RIM, BLANK_SIZE = 1.6, 1.6, 0.9
+# The radius of a barred channel beside a node, and what is between two of them.
+BAR_RADIUS, BAR_GAP = 9, 2
 # A ring around a node: how wide it is, what is between it and the node, and how much farther out the next one is.
 OUTER_RING, RING_GAP, NEXT_RING = 3.5, 1.5, 4.5
 # The most barred channels of a node that are drawn.
@@ -151,7 +154,11 @@ def page_marks() -> dict[str, object]:
         "LEAST_RING": LEAST_RING,
         "SQUARE_SIZES": SQUARE_SIZES,
         "BAR_SIZES": BAR_SIZES,
-        "HEAD": HEAD,
+        "BLANK_RIM": BLANK_RIM,
+        "PILL_RIM": PILL_RIM,
+        "BLANK_SIZE": BLANK_SIZE,
+        "BAR_RADIUS": BAR_RADIUS,
+        "BAR_GAP": BAR_GAP,
         "OUTER_RING": OUTER_RING,
         "RING_GAP": RING_GAP,
         "NEXT_RING": NEXT_RING,

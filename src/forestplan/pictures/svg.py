@@ -5,7 +5,8 @@ from contextlib import contextmanager
 from math import sqrt
 from textwrap import wrap
 
-from forestplan.pictures.palette import FONT, HEAD, INK, PAPER, SOFT
+from forestplan.pictures.geometry import head_of, text_wide
+from forestplan.pictures.palette import FONT, INK, PAPER, SOFT
 
 
 def written(number: str | float) -> str:
@@ -56,7 +57,7 @@ def attribute_text(text: str) -> str:
 
 def text_width(text: str | int, size: float) -> float:
     """About how wide a text is: DejaVu Sans takes six tenths of its size for a letter, or a little less."""
-    return 0.6 * size * len(str(text))
+    return text_wide(len(str(text)), size)
 
 
 def wrapped(text: str, width: float, size: float = 11.5) -> list[str]:
@@ -264,25 +265,9 @@ class Svg:
         hollow: bool = False,
     ) -> None:
         """An arrow's head with its tip at x, y, pointing along dx, dy."""
-        length = sqrt(dx * dx + dy * dy) or 1
-        dx, dy = dx / length, dy / length
-        back_x, back_y, half = x - dx * size, y - dy * size, size * HEAD
+        (x1, y1), (x2, y2), (x3, y3) = head_of((x, y), (dx, dy), size)
         self.path(
-            [
-                "M",
-                x,
-                y,
-                "L",
-                back_x - dy * half,
-                back_y + dx * half,
-                "L",
-                back_x + dy * half,
-                back_y - dx * half,
-                "Z",
-            ],
-            colour,
-            1,
-            PAPER if hollow else colour,
+            ["M", x1, y1, "L", x2, y2, "L", x3, y3, "Z"], colour, 1, PAPER if hollow else colour
         )
 
     def arrow(

@@ -21,5 +21,10 @@ export const MOST_DIGITS: number;
 export const OUTER_RING: number;
 export const RING_GAP: number;
 export const NEXT_RING: number;
-// Half the width of an arrow's head, in its lengths.
-export const HEAD: number;
+// The rims of a node without a channel and of a message, and the size of the number of such a node, in radii.
+export const BLANK_RIM: number;
+export const PILL_RIM: number;
+export const BLANK_SIZE: number;
+// The radius of a barred channel beside a node, and what is between two of them.
+export const BAR_RADIUS: number;
+export const BAR_GAP: number;

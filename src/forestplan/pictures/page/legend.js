@@ -51,7 +51,7 @@ const KINDS = {
   partner: [() => line({stroke: "var(--ink)", "stroke-width": 4}), "partners, or the way back"],
   bar: [() => [mark("circle", {cx: X, cy: Y, r: R, fill: "none", stroke: "var(--edge)"}),
     mark("line", {x1: X - 6, y1: Y + 6, x2: X + 6, y2: Y - 6, stroke: "var(--wrong)", "stroke-width": 1.5})], "a barred channel"],
-  held: [() => line({stroke: "#0072B2", "stroke-width": 4, "stroke-dasharray": "2 5"}), "a link that waits"],
+  held: [() => line({stroke: WIRES.payload, "stroke-width": 4, "stroke-dasharray": "2 5"}), "a link that waits"],
   clash: [() => line({stroke: "var(--wrong)", "stroke-width": 3, "stroke-dasharray": "5 4"}), "one channel at both ends"],
   ring_glow: [() => ring("var(--glow)"), "the chosen node"],
   ring_edge: [() => ring("var(--edge)"), "the chosen node"],

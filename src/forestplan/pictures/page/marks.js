@@ -1,7 +1,7 @@
 // The marks of the pictures, as light descriptions that `patch` makes into elements.
 import {pillHigh, pillWide, textWide} from "./geometry.js";
-import {BAR_SIZES, FORESTS, GREYS, HUES, INK, LEAST_RING, LOOKS, MOST_DIGITS, PALE, PERIOD, RING_WIDTH, SQUARE_SIZES,
-  WHITE, WIRES, WRONG} from "./hues.js";
+import {BAR_SIZES, BLANK_RIM, BLANK_SIZE, FORESTS, GREYS, HUES, INK, LEAST_RING, LOOKS, MOST_DIGITS, PALE, PERIOD, PILL_RIM,
+  RING_WIDTH, SQUARE_SIZES, WHITE, WIRES, WRONG} from "./hues.js";
 
 const SVG = "http://www.w3.org/2000/svg", LEAST_SIZE = 8, MOST_LETTERS = 13, NOTE = 11.5;
 // `inside` is a text or a list of marks.
@@ -136,8 +136,8 @@ export function colourSquare(x, y, half, colour, isColour) {
 }
 /** @param {number} x @param {number} y @param {number} r @param {string | number} [said] @returns {Marks} */
 export function blank(x, y, r, said) {
-  return [mark("circle", {cx: x, cy: y, r, fill: "var(--paper)", stroke: "var(--ink)", "stroke-width": 1.6, "data-mark": "blank"}),
-    said === undefined ? null : textMark(x, y, r * 0.9, "var(--ink)", said, BOLD)];
+  return [mark("circle", {cx: x, cy: y, r, fill: "var(--paper)", stroke: "var(--ink)", "stroke-width": BLANK_RIM, "data-mark": "blank"}),
+    said === undefined ? null : textMark(x, y, r * BLANK_SIZE, "var(--ink)", said, BOLD)];
 }
 /** @param {number} x @param {number} y @param {number} r @param {number} channel @returns {Marks} */
 export function barMark(x, y, r, channel) {
@@ -152,7 +152,7 @@ export const FADED = {fill: "var(--paper)", stroke: "var(--edge)", "stroke-dasha
 export function pill(x, y, said, kind, size, {ink = INK, ...more} = {}) {
   const wide = pillWide(said.length, size), high = pillHigh(size);
   return [mark("rect", {x: x - wide / 2, y: y - high / 2, width: wide, height: high, rx: high / 2, fill: PALE[kind],
-    stroke: WIRES[kind], "stroke-width": 1.6, "data-mark": kind, ...more}), textMark(x, y, size, ink, said)];
+    stroke: WIRES[kind], "stroke-width": PILL_RIM, "data-mark": kind, ...more}), textMark(x, y, size, ink, said)];
 }
 /** @param {string} said */
 export function noteWidth(said) { return textWide(said.length, NOTE) + 12; }

@@ -1,5 +1,5 @@
 // Nodes that react to messages, without rounds, and their messages.
-import {HUES} from "./hues.js";
+import {BLANK_RIM, BLANK_SIZE, HUES} from "./hues.js";
 import {mark, resultWords, textMark} from "./marks.js";
 
 // Each word of messages has a hue, and the ink on it, in the order in which they are first seen.
@@ -20,8 +20,8 @@ export const MESSAGES = {
 // A node, with how often it has acted, and below it what it has found.
 /** @param {Stage} stage @param {ReactedLook} is @param {number} x @param {number} y @param {number} r @returns {Marks} */
 export function reactedMarks(stage, is, x, y, r) {
-  return [mark("circle", {cx: x, cy: y, r, fill: "var(--paper)", stroke: "var(--ink)", "stroke-width": 1.6, "data-mark": "reacting"}),
-    textMark(x, y, r * 0.9, "var(--ink)", is.acts || "", {"font-weight": "bold"}),
+  return [mark("circle", {cx: x, cy: y, r, fill: "var(--paper)", stroke: "var(--ink)", "stroke-width": BLANK_RIM, "data-mark": "reacting"}),
+    textMark(x, y, r * BLANK_SIZE, "var(--ink)", is.acts || "", {"font-weight": "bold"}),
     ...resultWords(x, y + r + 14, stage.largest / 2, is.found, stage.least)];
 }
 // What a node has found, how often it has acted and whether it may, in words.

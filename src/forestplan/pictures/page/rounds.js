@@ -1,6 +1,6 @@
 // The rounds of a network, pulse by pulse, by what src/forestplan/ has worked out.
 import {pillHigh, pillWide} from "./geometry.js";
-import {WIRES} from "./hues.js";
+import {BLANK_SIZE, WIRES} from "./hues.js";
 import {FADED, HALO, blank, channelCircle, colourSquare, discOf, html, isColour, mark, pill, resultWords, short,
   textMark} from "./marks.js";
 
@@ -112,7 +112,7 @@ export class RoundsFilm {
     if (this.channels) return channelCircle(x, y, r, Number(colour) + 1);
     const [fill, ink] = discOf(colour || 0);
     const disc = colour === null ? blank(x, y, r, v) : [mark("circle", {cx: x, cy: y, r, fill,
-      stroke: "var(--ink)", class: "found-colour", "data-mark": "found"}), textMark(x, y, r * 0.9, ink, v)];
+      stroke: "var(--ink)", class: "found-colour", "data-mark": "found"}), textMark(x, y, r * BLANK_SIZE, ink, v)];
     return [...disc, ...resultWords(x, y + r + 12, Math.min(11.5, r), pulse.results[v - 1], stage.least)];
   }
   // The colour of a node in a forest after one of the pulses 2 to 12.

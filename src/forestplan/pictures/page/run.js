@@ -1,6 +1,6 @@
 // A run without a clock: rows that src/forestplan/pictures/watch_page.py has worked out of a transcript.
 import {pillHigh, pillWide} from "./geometry.js";
-import {WIRES} from "./hues.js";
+import {BLANK_RIM, BLANK_SIZE, WIRES} from "./hues.js";
 import {FADED, channelCircle, html, isColour, mark, pill, resultWords, row, textMark} from "./marks.js";
 import {nameOf} from "./stage.js";
 
@@ -51,8 +51,8 @@ export function queueMarks(stage, v, w, wires, look, of = OF_ALPHA) {
 export function alphaMarks(stage, is, v, x, y, r) {
   const [fill, kind] = stageOf(is);
   /** @type {Marks} */
-  const parts = [mark("circle", {cx: x, cy: y, r, fill, stroke: "var(--ink)", "stroke-width": 1.6, "data-mark": kind}),
-    textMark(x, y, r * 0.9, "var(--ink)", is.pulse, {"font-weight": "bold"})];
+  const parts = [mark("circle", {cx: x, cy: y, r, fill, stroke: "var(--ink)", "stroke-width": BLANK_RIM, "data-mark": kind}),
+    textMark(x, y, r * BLANK_SIZE, "var(--ink)", is.pulse, {"font-weight": "bold"})];
   parts.push(...portMarks(stage, is, v, x, y, r));
   if (typeof is.found === "string") parts.push(...resultWords(x, y + r + 10, 11, is.found, stage.least));
   else if (is.found) parts.push(...channelCircle(x + 0.95 * r, y + 0.75 * r, Math.max(6, r * 0.5), is.found));
@@ -229,6 +229,6 @@ export class RunFilm {
 // An edge whose link can be made to wait, also by a key.
 /** @param {number} v @param {number} w @param {boolean} isHeld @returns {Attributes} */
 export function heldEdge(v, w, isHeld) {
-  return {...isHeld ? {stroke: "#0072B2", "stroke-width": 5, "stroke-dasharray": "2 6", "data-mark": "held"} : {}, tabindex: 0,
+  return {...isHeld ? {stroke: WIRES.payload, "stroke-width": 5, "stroke-dasharray": "2 6", "data-mark": "held"} : {}, tabindex: 0,
     role: "button", "aria-pressed": isHeld, "aria-label": `link ${v}–${w} waits`};
 }

@@ -1,8 +1,10 @@
 // A picture of a network: where things are on the screen, what is drawn, and what is under the pointer.
-import {CORNER, along, bendsOf, fitted, isCrowd, labelHalf, labelSize, labelsAt, largestIn, leastApart, marginsOf, onLink, radiusIn,
+import {CORNER, along, bendsOf, fitted, headOf, isCrowd, labelHalf, labelSize, labelsAt, largestIn, leastApart, marginsOf, onLink, radiusIn,
   radiusPassed, towardsOf} from "./geometry.js";
-import {HEAD, MOST_BARS, NEXT_RING, OUTER_RING, RING_GAP} from "./hues.js";
+import {BAR_GAP, BAR_RADIUS, MOST_BARS, NEXT_RING, OUTER_RING, RING_GAP} from "./hues.js";
 import {HALO, barMark, mark, patch, textMark} from "./marks.js";
+
+const BAR_STEP = 2 * BAR_RADIUS + BAR_GAP;
 
 export class Stage {
   // `net` has nodes {x, y, id, name, bars, label} from 0, and edges [v, w] from 1.
@@ -201,7 +203,7 @@ export class Stage {
     this.places.forEach(([x, y], k) => {
       const bars = isBarred ? Math.min(this.net.nodes[k].bars.length, MOST_BARS + 1) : 0;
       if (isBelow) found.push([x, y + r + high, wide, high]);
-      if (bars) found.push([x + r - 1 + bars * 9.5, y + r + 5, bars * 9.5, 9]);
+      if (bars) found.push([x + r - 1 + bars * BAR_STEP / 2, y + r + 5, bars * BAR_STEP / 2, BAR_RADIUS]);
     });
     return found;
   }
@@ -236,11 +238,10 @@ export class Stage {
   /** @param {number} a @param {number} b @param {string} stroke @param {number} width @param {string} kind @returns {Mark[]} */
   arrow(a, b, stroke, width, kind = "arrow") {
     const m = this.middle(a, b), dx = this.X(b) - m[0], dy = this.Y(b) - m[1], far = Math.hypot(dx, dy) || 1;
-    const ex = dx / far, ey = dy / far, size = Math.max(6, Math.min(10, this.radius * 0.6)), half = size * HEAD;
-    const end = this.radius + this.around(b) + 2, tx = this.X(b) - ex * end, ty = this.Y(b) - ey * end;
-    const bx = tx - ex * size, by = ty - ey * size;
+    const size = Math.max(6, Math.min(10, this.radius * 0.6)), end = (this.radius + this.around(b) + 2) / far;
+    const [tip, one, other] = headOf([this.X(b) - dx * end, this.Y(b) - dy * end], [dx, dy], size);
     return [this.line(a, b, {stroke, "stroke-width": width, "data-mark": kind}), mark("path", {fill: stroke,
-      d: `M${tx} ${ty}L${bx - ey * half} ${by + ex * half}L${bx + ey * half} ${by - ex * half}Z`})];
+      d: `M${tip.join(" ")}L${one.join(" ")}L${other.join(" ")}Z`})];
   }
   // Draws all. `edge(v, w)` gives an edge's attributes, `node(v, x, y, r)` the marks of a node, `label(v)` its words;
   // `links()` and `above()` are marks; `rings(v)` are the colours of rings around it. `below` says that
@@ -311,9 +312,9 @@ export class Stage {
     const x = this.X(v), y = this.Y(v), r = this.radius, colours = rings(v), own = this.net.nodes[v - 1].bars;
     /** @type {Marks} */
     const parts = [...ringMarks(x, y, r + around(v), colours), ...node(v, x, y, r), this.labelMark(v, said, colours.length > 0)];
-    if (bars) own.slice(0, MOST_BARS).forEach((bar, n) => parts.push(...barMark(x + r + 8 + n * 19, y + r + 5, 9, bar)));
+    if (bars) own.slice(0, MOST_BARS).forEach((bar, n) => parts.push(...barMark(x + r + 8 + n * BAR_STEP, y + r + 5, BAR_RADIUS, bar)));
     const more = `+${own.length - MOST_BARS}`;
-    if (bars && own.length > MOST_BARS) parts.push(textMark(x + r + 90, y + r + 5, 11, "var(--wrong)", more, HALO));
+    if (bars && own.length > MOST_BARS) parts.push(textMark(x + r + 10 + MOST_BARS * BAR_STEP, y + r + 5, 11, "var(--wrong)", more, HALO));
     return mark("g", {class: "node", tabindex: 0, role: "button", "data-node": v, "aria-label": [`node ${said || v}`, says(v)].filter(Boolean).join(": ")},
       parts);
   }
