@@ -10,10 +10,10 @@ from tests.cases import Case, called, copied, tool_at
 TOOLS = ("bash", "dirname", "env", "grep", "sleep", "timeout", "tr")
 TEST = "#!/bin/sh\necho said by the test\necho 3 passed, 1 failed\nexit 1\n"
 # Packages whose command is called as they are, and all others.
-BY_NAME = "black flake8 mypy zsh groff eslint chromium"
+BY_NAME = "black flake8 mypy zsh groff eslint ruby chromium"
 ALL = (
     "black flake8 mypy bubblewrap zsh graphviz groff binutils default-jdk-headless nodejs "
-    "node-typescript eslint gcc libc6-dev python3-pip chromium libseccomp2 python3-networkx "
+    "node-typescript eslint gcc libc6-dev python3-pip ruby chromium libseccomp2 python3-networkx "
     "python3-scipy python3-igraph python3-pandas python3-matplotlib python3-hypothesis"
 )
 
