@@ -27,13 +27,14 @@ NAME is one of {', '.join(MODULES)}.
 
 
 def main() -> int:
-    # This file alone is read by a Python that is too old.
-    if sys.version_info < (3, 10):
-        found = sys.version.split()[0]
-        print(f"build: Python 3.10 or later is needed, and python3 is {found}", file=sys.stderr)
-        return 2
-    # Run as a folder, its own place comes first where modules are looked for; the package's is one above.
     top = os.path.dirname(os.path.dirname(os.path.realpath(__file__)))
+    # Run as a folder, its own place comes first where modules are looked for. A Python that is too old reads this file
+    # and the module of the package that says so.
+    sys.path[0] = os.path.join(top, "src", "forestplan")
+    python = importlib.import_module("_python")
+    if python.IS_TOO_OLD:
+        print(f"build: {python.NEEDED} is needed, and python3 is {python.FOUND}", file=sys.stderr)
+        return 2
     sys.path[:1] = [top, os.path.join(top, "src")]
     name = sys.argv[1] if len(sys.argv) > 1 else ""
     if name not in (*MODULES, "--version"):

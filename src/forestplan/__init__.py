@@ -88,14 +88,18 @@ What all packages share:
     progress            what is shown of a call that takes minutes
     processors          how many processors may be used
     folders             where the package is, and what belongs to it
-    _python             refuses a Python that is too old
+    _python             which Python is needed
     public_names        the public names of a package
     version             which forestplan this is
     process_exit        how a command ends, whatever happens
 """
-import forestplan._python  # noqa: F401  (first, since it refuses a Python that is too old)
-
 import importlib
+
+from forestplan import _python
+
+# First, before anything that an older Python couldn't read.
+if _python.IS_TOO_OLD:
+    raise ImportError("forestplan needs " + _python.NEEDED + ", and this is " + _python.FOUND)
 
 # For checkers of types and editors alone.
 TYPE_CHECKING = False

@@ -5,7 +5,6 @@ import os
 import sys
 from collections.abc import Callable
 
-LEAST_PYTHON = (3, 10)
 HERE = os.path.dirname(os.path.realpath(__file__))
 # The module of each command, whose `main` takes the words after the command and returns the status, and its line of
 # help; by what a reader wants, in the order of the help text.
@@ -77,13 +76,12 @@ isn't right; 2 the command line is refused; 130 stopped by Ctrl-C.
 
 
 def main() -> int:
-    if sys.version_info < LEAST_PYTHON:
-        return refused(
-            f"Python {'.'.join(map(str, LEAST_PYTHON))} or later is needed, and python3 is "
-            + sys.version.split()[0]
-        )
-    # Run as a folder, its own place comes first where modules are looked for. The package is one above, maybe among
-    # others, whose modules mustn't come before Python's own; so nothing else is looked for there.
+    # Run as a folder, its own place comes first where modules are looked for.
+    python = importlib.import_module("_python")
+    if python.IS_TOO_OLD:
+        return refused(f"{python.NEEDED} is needed, and python3 is {python.FOUND}")
+    # The package is one above, maybe among others, whose modules mustn't come before Python's own; so nothing else is
+    # looked for there.
     sys.path[0] = os.path.dirname(HERE)
     importlib.import_module("forestplan")
     del sys.path[0]

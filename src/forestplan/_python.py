@@ -1,9 +1,8 @@
-"""Refuses a Python that is too old, in one line; it is imported before what such a Python couldn't read."""
+"""Which Python is needed. The commands and `import forestplan` ask here before they read what an older one couldn't."""
 import sys
 
-LEAST = (3, 10)
-
-if sys.version_info < LEAST:
-    raise ImportError(
-        f"forestplan needs Python {'.'.join(map(str, LEAST))} or later, and this is {sys.version.split()[0]}"
-    )
+LEAST_PYTHON = (3, 10)
+# What is needed, and what is there.
+NEEDED = "Python " + ".".join(map(str, LEAST_PYTHON)) + " or later"
+FOUND = sys.version.split()[0]
+IS_TOO_OLD = sys.version_info < LEAST_PYTHON

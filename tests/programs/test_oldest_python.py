@@ -7,7 +7,7 @@ import shutil
 import subprocess
 import sys
 
-from forestplan.__main__ import LEAST_PYTHON
+from forestplan._python import LEAST_PYTHON
 from tests import TOP
 from tests.cases import Case, text_in
 
