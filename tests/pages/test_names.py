@@ -13,14 +13,10 @@ SEVERAL = {
     "main": 14,
     "command_line": 11,
     "Entry": 2,
-    "check": 2,
     "Message": 2,
     "Pulse": 2,
     "circle": 2,
-    "make": 2,
     "of_nodes": 2,
-    "plan": 2,
-    "rounds": 2,
 }
 
 

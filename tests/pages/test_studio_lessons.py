@@ -21,7 +21,7 @@ from forestplan.schedules.reacting_stepwise import ReactingStepwise
 from forestplan.schedules.stepwise import Stepwise
 from forestplan.studio import lessons as table
 from forestplan.studio.answers import ExerciseJudged
-from forestplan.studio.exercises import GOALS, exercise_judged
+from forestplan.studio.exercises import GOALS, answer_exercise
 from forestplan.studio.fields import parsed_call
 from forestplan.studio.lessons import (
     LECTURE,
@@ -118,7 +118,7 @@ def step_of(lesson: int, name: str) -> int:
 def verdict(lesson: int, name: str, **asked: object) -> ExerciseJudged:
     body = {"network": "", "lesson": lesson, "step": step_of(lesson, name)} | asked
     try:
-        return exercise_judged(parsed_call(ExerciseCall, body), SESSION, tell)
+        return answer_exercise(parsed_call(ExerciseCall, body), SESSION, tell)
     except Fault as why:
         return ExerciseJudged(False, str(why))
 
@@ -430,7 +430,7 @@ class Judged(Case):
     def test_refused(self) -> None:
         for lesson, step in ((0, 1), (9, 1), (1, 99), (3, 1), (3, 2)):
             with self.assertRaises(Fault):
-                exercise_judged(ExerciseCall(network="", lesson=lesson, step=step), SESSION, tell)
+                answer_exercise(ExerciseCall(network="", lesson=lesson, step=step), SESSION, tell)
 
 
 class Cards(Page):

@@ -27,7 +27,7 @@ from forestplan.studio.answers import PictureKind, TabName, Values
 from forestplan.studio.dares import DARES
 from forestplan.studio.links import judged_links, judged_link
 from forestplan.studio.messages import HelloCall
-from forestplan.studio.networks import hello, opened_by
+from forestplan.studio.networks import answer_hello, opened_by
 from forestplan.studio.recording import tell
 from forestplan.studio.session import SAMPLES, Session
 from tests import FORESTLAB, TOP
@@ -364,7 +364,11 @@ class Recorded(Writes):
         need(self, "node")
         shutil.copy(os.path.join(PAGE, "recorded_address.js"), self.file("reader.mjs", ""))
         examples = {name: opened_by(f"example={name}", OPEN).network for name in SHOWN}
-        asked = {"places": places, "examples": examples, "hello": hello(HelloCall(), OPEN, tell)}
+        asked = {
+            "places": places,
+            "examples": examples,
+            "hello": answer_hello(HelloCall(), OPEN, tell),
+        }
         data = json.dumps(asked, default=as_object).encode()
         status, out, errors = called(shutil.which("node"), self.file("r.mjs", READER), data=data)
         self.same("node reads them", (status, errors), (0, b""))

@@ -16,7 +16,7 @@ from forestplan.schedules.rules import OF_SCHEDULES
 from forestplan.schedules.stepwise import Stepwise
 from forestplan.studio.answers import Predicted
 from forestplan.studio.messages import PredictCall, WaitsCall
-from forestplan.studio.predictions import predict, waited, waits
+from forestplan.studio.predictions import answer_predict, waited, answer_waits
 from forestplan.studio.session import Session
 from tests.cases import Case, examples
 
@@ -169,7 +169,7 @@ class Calls(Case):
             ):
                 parent = rounds.parents.get((v, forest))
                 call = PredictCall(network=text, vertex=v, forest=forest, pulse=pulse, said="0")
-                why = predict(call, Session(), untold).why
+                why = answer_predict(call, Session(), untold).why
                 at = f"{name}: node {v} in forest {forest}, pulse {pulse}: {why}"
                 self.same(f"{at}: its parent", "its parent" in why, parent is not None)
                 named = {int(n) for n in re.findall(r"node (\d+) had", why)}
@@ -177,7 +177,7 @@ class Calls(Case):
 
     def waits(self, steps: str, said: str, rules: str) -> Predicted:
         call = WaitsCall(network=EDGE, without=rules, steps=steps, vertex=1, said=said)
-        return waits(call, Session(), untold)
+        return answer_waits(call, Session(), untold)
 
     def test_answers(self) -> None:
         """Without safes a node waits for none, so `nothing` is right as soon as its pulse is possible."""

@@ -84,7 +84,7 @@ class Building:
                 return
 
 
-def begin(_call: BuildCall, session: Session, _tell: Tell) -> Build:
+def answer_build(_call: BuildCall, session: Session, _tell: Tell) -> Build:
     """Asks for the build, and waits until it has begun."""
     log = session.log
     if shutil.which("rt") is None:
@@ -99,7 +99,7 @@ def begin(_call: BuildCall, session: Session, _tell: Tell) -> Build:
     return build_so_far(session)
 
 
-def so_far(_call: BuiltCall, session: Session, _tell: Tell) -> Build:
+def answer_built(_call: BuiltCall, session: Session, _tell: Tell) -> Build:
     return build_so_far(session)
 
 

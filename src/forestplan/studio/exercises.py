@@ -24,7 +24,7 @@ from forestplan.studio.call_values import (
 )
 from forestplan.studio.lessons import LESSONS, SaidExercise, SeenExercise
 from forestplan.studio.messages import CheckCall, ExerciseCall
-from forestplan.studio.rounds import check
+from forestplan.studio.rounds import answer_check
 from forestplan.studio.session import Session
 from forestplan.wording import counted, in_words
 
@@ -36,7 +36,7 @@ LONG, FEWEST = 100, 5
 NO_END, TRUE_HERE = "something can still happen", "`always` is true here"
 
 
-def exercise_judged(call: ExerciseCall, session: Session, tell: Tell) -> ExerciseJudged:
+def answer_exercise(call: ExerciseCall, session: Session, tell: Tell) -> ExerciseJudged:
     """Whether the exercise of a step is done."""
     if not 1 <= call.lesson <= len(LESSONS):
         raise Fault(Code.NO_LESSON, lessons=len(LESSONS))
@@ -64,7 +64,7 @@ def said_right(exercise: SaidExercise, said: str) -> ExerciseJudged:
 
 def proper(call: ExerciseCall, session: Session, tell: Tell) -> ExerciseJudged:
     """A plan that is typed in the tab Check."""
-    verdict = check(CheckCall(network=call.network, plan=call.plan), session, tell)
+    verdict = answer_check(CheckCall(network=call.network, plan=call.plan), session, tell)
     if verdict.ok:
         return ExerciseJudged(True, proper_words(len(set(call.plan))))
     left = network_asked(call).nodes - sum(map(bool, call.plan))

@@ -77,7 +77,7 @@ def drawable_net(network: Network) -> Net:
     return net_of(network)
 
 
-def hello(_call: HelloCall, session: Session, _tell: Tell) -> Hello:
+def answer_hello(_call: HelloCall, session: Session, _tell: Tell) -> Hello:
     """What there is to choose from."""
     return Hello(
         proved=session.is_proved,
@@ -115,7 +115,7 @@ def example_text(name: str) -> str:
         return file.read()
 
 
-def example(call: ExampleCall, session: Session, _tell: Tell) -> Net:
+def answer_example(call: ExampleCall, session: Session, _tell: Tell) -> Net:
     return drawable_net(read_network(example_text(call.name), call.name))
 
 
@@ -155,7 +155,7 @@ def here_of(network: Net) -> Here:
     return Here(len(network.nodes), set(network.edges))
 
 
-def address(call: AddressCall, session: Session, _tell: Tell) -> FoundAddress:
+def answer_address(call: AddressCall, session: Session, _tell: Tell) -> FoundAddress:
     """What an address says, for the page that follows it."""
     here = Here(call.nodes, set(call.edges))
     if not call.nodes and session.network:
@@ -164,7 +164,7 @@ def address(call: AddressCall, session: Session, _tell: Tell) -> FoundAddress:
     return FoundAddress(opened.network, opened.address.values, opened.address.faults())
 
 
-def file_read(call: ReadCall, session: Session, _tell: Tell) -> FileRead | FileUnsaid:
+def answer_read(call: ReadCall, session: Session, _tell: Tell) -> FileRead | FileUnsaid:
     """A file that was dropped on the page, or the page's question if something of it isn't stated."""
     name = call.name[:MOST_NAME]
     try:
@@ -206,7 +206,7 @@ def whole_number(said: str, name: str) -> int:
     return int(said)
 
 
-def make(call: MakeCall, session: Session, _tell: Tell) -> Net:
+def answer_make(call: MakeCall, session: Session, _tell: Tell) -> Net:
     kind = call.kind
     sizes = [whole_number(call.sizes.get(size, ""), size) for size in KINDS[kind].sizes]
     nodes = sizes[0] if kind == "random" else prod(sizes)
@@ -232,14 +232,14 @@ def by_shape(kind: str, nodes: int, *_: int) -> dict[int, tuple[float, float]]:
     }
 
 
-def drawing_found(call: DrawingCall, session: Session, _tell: Tell) -> DrawingFound:
+def answer_drawing(call: DrawingCall, session: Session, _tell: Tell) -> DrawingFound:
     """What is written beside the nodes of a network."""
     network = network_asked(call)
     net = net_at(network.name, plain_nodes(network, places_of(network)), network.edges)
     return DrawingFound([node.label for node in net.nodes])
 
 
-def tidy(call: TidyCall, session: Session, _tell: Tell) -> Net:
+def answer_tidy(call: TidyCall, session: Session, _tell: Tell) -> Net:
     network = network_asked(call)
     network.places = {}
     network.places = places_of(network)

@@ -38,7 +38,7 @@ NOT_NEEDED = {"acks": "acknowledgements", "safes": "safes"}
 OF_ROOT = "It has no parent in this forest, so its new colour is its own digit in the place i = 0 (bit step)."
 
 
-def predict(call: PredictCall, session: Session, _tell: Tell) -> Predicted:
+def answer_predict(call: PredictCall, session: Session, _tell: Tell) -> Predicted:
     """Whether it is right what is said of a node after a pulse; of the colouring in a forest, or in its merge."""
     network = network_asked(call, MOST_ROUNDS)
     program = program_of_call(call, network, session)
@@ -109,7 +109,7 @@ def of_program(rounds: ProgramRounds, v: int, pulse: int) -> tuple[str, str]:
     return rounds.pulses[pulse].results[v], f"It reads {in_words(read) or 'nothing'}."
 
 
-def waits(call: WaitsCall, session: Session, _tell: Tell) -> Predicted:
+def answer_waits(call: WaitsCall, session: Session, _tell: Tell) -> Predicted:
     """The same of what a node waits for after some steps, as `ack 2, safe 3`: the word, and of whom."""
     network = network_asked(call, MOST_RUN)
     v = vertex_asked(call, network)
@@ -126,7 +126,7 @@ def is_list(said: str, found: list[str]) -> bool:
     return parts == found or not found and parts == ["nothing"]
 
 
-def sends(call: SendsCall, session: Session, _tell: Tell) -> Predicted:
+def answer_sends(call: SendsCall, session: Session, _tell: Tell) -> Predicted:
     """Whether it is right what a node without rounds is said to send in a step, as `wave 2, echo 3`."""
     network = network_asked(call, MOST_RUN)
     program = either_program_asked(call, network, session)

@@ -20,7 +20,7 @@ from forestplan.studio.answers import Hello, Published
 from forestplan.studio.bundle import OWN, as_one_script
 from forestplan.studio.calls import CALLS
 from forestplan.studio.messages import HelloCall
-from forestplan.studio.networks import hello
+from forestplan.studio.networks import answer_hello
 from forestplan.studio.recording import MADE, SIZES, Recording, Spot, tell
 from forestplan.studio.session import Session
 
@@ -55,7 +55,7 @@ def json_of(value: object) -> str:
 
 def hello_of(session: Session, recording: Recording) -> Hello:
     """What there is to choose from on the page: what was recorded."""
-    whole = hello(HelloCall(), session, tell)
+    whole = answer_hello(HelloCall(), session, tell)
     commit = version.version_text().splitlines()[1].removeprefix("commit ")
     return replace(
         whole,

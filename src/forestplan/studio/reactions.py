@@ -23,7 +23,7 @@ from forestplan.studio.session import Session
 UNREAD = "unread"
 
 
-def file_text(call: FileCall, session: Session, _tell: Tell) -> FileText:
+def answer_file_text(call: FileCall, session: Session, _tell: Tell) -> FileText:
     """The text of a program of one's own, if it isn't the version that the page has."""
     path = session.own.get(call.own)
     if path is None:

@@ -45,7 +45,7 @@ from forestplan.studio.exercises import (
     Dared,
     HasResults,
     blank_words,
-    exercise_judged,
+    answer_exercise,
     first_pulse,
     first_pulse_after,
     has_words,
@@ -423,7 +423,7 @@ class Recording:
         key = f"exercise {spot.lesson} {spot.step}"
 
         def judged(said: str) -> ExerciseJudged:
-            return exercise_judged(replace(call, said=said), self.session, tell)
+            return answer_exercise(replace(call, said=said), self.session, tell)
 
         if isinstance(exercise, SaidExercise):
             self.now.said[key] = SaidJudged(

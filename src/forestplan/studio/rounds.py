@@ -44,7 +44,7 @@ from forestplan.studio.messages import (
 from forestplan.studio.session import Session
 
 
-def plan(call: PlanCall, session: Session, _tell: Tell) -> PlanFound:
+def answer_plan(call: PlanCall, session: Session, _tell: Tell) -> PlanFound:
     """The plan, and what the network comes to."""
     network = network_asked(call)
     channels = read_plan(proved_plan(network, call.network, session), "the plan", network)
@@ -58,7 +58,7 @@ def plan(call: PlanCall, session: Session, _tell: Tell) -> PlanFound:
     )
 
 
-def check(call: CheckCall, session: Session, _tell: Tell) -> GoodPlan | BadPlan:
+def answer_check(call: CheckCall, session: Session, _tell: Tell) -> GoodPlan | BadPlan:
     """The verdict on a plan, whoever made it, and what its code means."""
     network = network_asked(call)
     if len(call.plan) > network.nodes or min(call.plan, default=0) < 0:
@@ -97,17 +97,17 @@ def rounds_asked(call: OfProgram, session: Session) -> ProgramRounds | Colouring
     return proved_rounds(network, call.network, session)
 
 
-def rounds(call: RoundsCall, session: Session, _tell: Tell) -> RoundsFound:
+def answer_rounds(call: RoundsCall, session: Session, _tell: Tell) -> RoundsFound:
     """The rounds, pulse by pulse."""
     return player_page.film_of(rounds_asked(call, session))
 
 
-def rounds_page(call: RoundsPageCall, session: Session, _tell: Tell) -> str:
+def answer_rounds_page(call: RoundsPageCall, session: Session, _tell: Tell) -> str:
     """A page that plays the rounds and needs no server, as the command `picture player` draws it."""
     return player_page.player_html(rounds_asked(call, session))
 
 
-def why(call: WhyCall, session: Session, _tell: Tell) -> WhyFound:
+def answer_why(call: WhyCall, session: Session, _tell: Tell) -> WhyFound:
     """Why a node has its channel."""
     network = network_asked(call, MOST_ROUNDS)
     cone = why_picture.Cone(ColouringRounds(network), vertex_asked(call, network))
@@ -118,7 +118,7 @@ def why(call: WhyCall, session: Session, _tell: Tell) -> WhyFound:
     )
 
 
-def broken(call: BrokenCall, session: Session, _tell: Tell) -> Broken:
+def answer_broken(call: BrokenCall, session: Session, _tell: Tell) -> Broken:
     """What the rounds of this network do without a rule, in words; and a picture of it, or of a smallest network on
     which they go wrong, if there is one."""
     network = network_asked(call, MOST_ROUNDS)
@@ -139,7 +139,7 @@ def broken(call: BrokenCall, session: Session, _tell: Tell) -> Broken:
     return Broken(False, sentence.split("\n"), net_of(least.net), smallest)
 
 
-def picture(call: PictureCall, session: Session, _tell: Tell) -> str:
+def answer_picture(call: PictureCall, session: Session, _tell: Tell) -> str:
     """A picture, as the command `picture` draws it."""
     network = network_asked(call)
     if call.kind == "run" and isinstance(

@@ -136,7 +136,7 @@ def by_threads(call: RunCall, program: Program, session: Session) -> str:
     )
 
 
-def run(call: RunCall, session: Session, tell: Tell) -> WholeRun:
+def answer_run(call: RunCall, session: Session, tell: Tell) -> WholeRun:
     """A run: its transcript, the rows that the page follows, the judge's verdict, and whether its payloads are those of
     the rounds."""
     network = network_asked(call, MOST_RUN)
@@ -169,7 +169,7 @@ def run(call: RunCall, session: Session, tell: Tell) -> WholeRun:
     )
 
 
-def run_page(call: RunPageCall, session: Session, _tell: Tell) -> str:
+def answer_run_page(call: RunPageCall, session: Session, _tell: Tell) -> str:
     """The same of a run, as the command `picture watch` draws it."""
     network = network_asked(call, MOST_RUN)
     program = program_of_call(call, network, session)
@@ -200,7 +200,7 @@ def compared(
     return (same, len(pulses), sum(map(len, sent.values()))), results
 
 
-def replay(call: ReplayCall, session: Session, _tell: Tell) -> Replayed:
+def answer_replay(call: ReplayCall, session: Session, _tell: Tell) -> Replayed:
     """What the judge says of the first entries of a run: it plays them, and says where each node is. Without stamps a
     beginning of a run is no fault."""
     network = network_asked(call, MOST_RUN)
@@ -210,7 +210,7 @@ def replay(call: ReplayCall, session: Session, _tell: Tell) -> Replayed:
     )
 
 
-def judge(call: JudgeCall, session: Session, _tell: Tell) -> JudgedText:
+def answer_judge(call: JudgeCall, session: Session, _tell: Tell) -> JudgedText:
     """What is said of a transcript, whoever wrote it: in words by the definitions, and by the proved machine."""
     network, text = network_asked(call, MOST_DRAWN), call.transcript
     program = program_of_call(call, network, session)
@@ -236,7 +236,7 @@ def follow(player: ByHand[AnyNode], call: StepsCall, held: tuple[set[Edge], set[
         player.by_chance(min(call.by, MOST_BY_CHANCE), call.seed, *held)
 
 
-def steps(call: StepsCall, session: Session, _tell: Tell) -> StepsFound | ReactionsFound:
+def answer_steps(call: StepsCall, session: Session, _tell: Tell) -> StepsFound | ReactionsFound:
     """A run that is made step by step: where it is after some steps, or the events of a `list`, and what can come next.
     `by` steps more are left to chance, or up to all nodes' next pulse `in step`."""
     network = network_asked(call, MOST_RUN)
