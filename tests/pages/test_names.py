@@ -11,7 +11,7 @@ from tests.cases import Case
 # In how many modules each of them is defined.
 SEVERAL = {
     "main": 14,
-    "command_line": 11,
+    "command_line": 10,
     "Entry": 2,
     "Message": 2,
     "Pulse": 2,

@@ -168,7 +168,7 @@ def answer_read(call: ReadCall, session: Session, _tell: Tell) -> FileRead | Fil
     """A file that was dropped on the page, or the page's question if something of it isn't stated."""
     name = call.name[:MOST_NAME]
     try:
-        stated = stated_by(command_line().parse_args(list(call.stated)))
+        stated = stated_by(network_options().parse_args(list(call.stated)))
         check_text(call.data, name)
         form = form_of(name, name, stated)
         network, said = read_any(call.data, name, form, stated)
@@ -192,7 +192,7 @@ class Options(ArgumentParser):
         raise Fault(Code.OPTIONS_REFUSED, why=message)
 
 
-def command_line() -> Options:
+def network_options() -> Options:
     """The options that state what a file is."""
     options = Options(add_help=False)
     add_form(options)
