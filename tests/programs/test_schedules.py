@@ -290,7 +290,7 @@ class Schedules(Case):
             rounds = ruled_rounds.RuledRounds(net, ()).work_out()
             self.same(
                 f"the plan of {net.edges} with all rules",
-                (rounds.clash, rounds.answer_plan),
+                (rounds.clash, rounds.plan),
                 (None, colours(net)),
             )
 
