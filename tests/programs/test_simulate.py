@@ -7,7 +7,7 @@ import re
 
 from forestplan.definitions.colours import colours
 from forestplan.definitions.events import Event, Kind
-from forestplan.definitions.machine import make
+from forestplan.definitions.machine import make_entry
 from forestplan.definitions.nodes import alpha_start
 from forestplan.networks.network_text import network_in_bytes
 from forestplan.schedules.policies import POLICIES
@@ -57,7 +57,7 @@ class Waits(Case):
         ):
             state = alpha_start(net)
             for entry in itertools.takewhile(lambda it: not waits(it), entries):
-                make(state, entry)
+                make_entry(state, entry)
             self.same(name, [node.pulse_number for node in state.nodes.values()], pulses)
 
 

@@ -175,7 +175,7 @@ def entry_words(state: NetState[Node], entry: Entry, refused: NotPossible) -> st
     return f": expected {entry.kind.value} {due}" if isinstance(due, int) else f": expected {due}"
 
 
-def make(state: NetState[Node], entry: Entry) -> None:
+def make_entry(state: NetState[Node], entry: Entry) -> None:
     """The event of an entry of a transcript, if it is possible with what the entry says; otherwise nothing is
     changed."""
     state.step(event_of(state, entry), entry.what)

@@ -1,7 +1,7 @@
 """Space and time of a run of nodes that react to messages, without rounds: each message from its put to its take, each
 step of a node's own, and what a node has found, where that changes."""
 from forestplan.definitions.events import Entry
-from forestplan.definitions.machine import make
+from forestplan.definitions.machine import make_entry
 from forestplan.definitions.reacting_program import Reacting, results_in
 from forestplan.faults import at_most
 from forestplan.network import Network
@@ -94,7 +94,7 @@ def draw_results(
         v: [(window.x(0), result)] for v, result in results_in(state).items()
     }
     for entry in made:
-        make(state, entry)
+        make_entry(state, entry)
         v, x = entry.node, window.x(stamp_of(entry))
         if entry.neighbour is None:
             y = window.y(v)

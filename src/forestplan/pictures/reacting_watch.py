@@ -5,7 +5,7 @@ from collections import deque
 from collections.abc import Iterator
 
 from forestplan.definitions.events import PUT, Entry, Message
-from forestplan.definitions.machine import NetState, make
+from forestplan.definitions.machine import NetState, make_entry
 from forestplan.definitions.reacting_program import Reacting, ReactingNode
 from forestplan.faults import at_most
 from forestplan.network import Edge, Network
@@ -37,7 +37,7 @@ class Watched:
 
     def add(self, entry: Entry) -> None:
         """Makes the event of an entry, and writes its row."""
-        make(self.state, entry)
+        make_entry(self.state, entry)
         look = reacted_look(self.state.nodes[entry.node])
         said = entry_text(entry).split(" ", 2)[2]
         number = self.looks.setdefault(look, len(self.looks))

@@ -10,7 +10,7 @@ from dataclasses import replace
 from typing import NamedTuple
 
 from forestplan.definitions.events import Entry, Kind, Message
-from forestplan.definitions.machine import NetState, make
+from forestplan.definitions.machine import NetState, make_entry
 from forestplan.definitions.nodes import COLOURING, AlphaNode, Colouring, alpha_start, lacks_of
 from forestplan.definitions.program import Program
 from forestplan.definitions.rounds import FIRST_MERGE
@@ -118,7 +118,7 @@ def steps_of_text(
     state, made = alpha_start(network, program), dict.fromkeys(network.vertices, 0)
     steps = Steps(state)
     for entry in order.made:
-        make(state, entry)
+        make_entry(state, entry)
         steps.add(entry)
         if isinstance(entry.what, int):
             made[entry.node] = entry.what

@@ -4,7 +4,7 @@ built, those of the colouring have to be what `forestplay rounds` writes; no oth
 in a file is always judged by the definitions."""
 
 from forestplan.definitions.colours import plan_text
-from forestplan.definitions.machine import NotPossible, entry_words, make
+from forestplan.definitions.machine import NotPossible, entry_words, make_entry
 from forestplan.definitions.nodes import alpha_start
 from forestplan.definitions.program import Program
 from forestplan.definitions.programs import program_words
@@ -137,7 +137,7 @@ def beginning_judged(
     try:
         for entry in transcript_read(text.encode(), program.name)[1]:
             try:
-                make(state, entry)
+                make_entry(state, entry)
             except NotPossible as refused:
                 raise Fault(
                     Code.ENTRY_REFUSED,

@@ -8,7 +8,7 @@ from dataclasses import replace
 from typing import NamedTuple
 
 from forestplan.definitions.events import ACT, PUT, Entry, Message
-from forestplan.definitions.machine import NotPossible, make
+from forestplan.definitions.machine import NotPossible, make_entry
 from forestplan.definitions.nodes import COLOURING
 from forestplan.definitions.own_program import what_is_wrong
 from forestplan.definitions.program import Program
@@ -38,7 +38,7 @@ class FoundOrder:
         """Makes the next entry of a node of which none was refused, if that is possible with what it says."""
         entry = self.left[v][0]
         try:
-            make(self.state, entry)
+            make_entry(self.state, entry)
         except NotPossible as refused:
             self.refusals[v] = refused.code
             return
