@@ -38,9 +38,9 @@ PIECES = 16
 # take seconds.
 MOST_LOOKED_AT = 1_000_000
 # Of more pairs than these each edge is bent in one way only, to either side.
-CROWD = 20_000
+MANY_PAIRS = 20_000
 # How far around a label there is looked for room, in distances of the label from its node.
-LOOKS = 3.0
+SIGHT = 3.0
 # The most columns and rows of a grid.
 MOST_CELLS = 256
 # A text of about this half width is as near to its vertex at the side as above it; a wider one is moved aside.
@@ -258,7 +258,7 @@ def bend_between(
 
 def is_crowd(nodes: int, edges: int) -> bool:
     """Whether there are so many pairs of an edge and a node that each edge is bent as far as usual or not at all."""
-    return nodes * max(nodes, edges) > CROWD
+    return nodes * max(nodes, edges) > MANY_PAIRS
 
 
 def radius_passed(
@@ -451,7 +451,7 @@ def labels_at(
         for half_wide, half_high in own:
             distance = max(distance, radius + USUALLY + half_high)
             reach = max(reach, half_wide)
-    near = LOOKS * distance
+    near = SIGHT * distance
     vertices = grid_of(places, near)
     lines = grid_of(points_of(places, edges, bends), near)
     written = [box for box in taken]
