@@ -74,7 +74,7 @@ def fitted_examples() -> Iterator[tuple[str, Drawn]]:
             scale, x, y = geometry.fitted(places, wide, high, *margins)
             there = [(scale * px + x, scale * py + y) for px, py in places]
             largest = geometry.largest_in(wide, high, 22.0)
-            radius = geometry.radius_in(geometry.least_apart(there), 2.9, largest)
+            radius = geometry.radius_in(geometry.least_apart(there), 2.9, largest, 0)
             edges, room = sorted(network.edges), (0.0, 0.0, wide, high)
             radius = geometry.radius_passed(there, edges, radius, room)
             yield f"{name} {wide}", Drawn(there, edges, radius, room)

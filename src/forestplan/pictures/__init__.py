@@ -39,7 +39,9 @@ The modules:
     schedules_space     all states of a tiny network, for the next kind
     schedules_picture   every schedule as a lattice
     sheet               question sheets to print; the command `forestlab sheet`
-    places              where vertices are drawn, how edges bend, where labels are
+    places              where vertices are drawn
+    geometry            fit, radii, bends, labels and messages on links, for pictures and for pages
+    translation         geometry as JavaScript
     layout              places for the vertices of a network that names none
     marks               vertices, edges, arrows and legends
     panel               a small map

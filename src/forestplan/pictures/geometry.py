@@ -139,11 +139,24 @@ def margins_of(
     return (min(aside, wide / 6), min(above, high / 4), min(below, high / 4))
 
 
-def radius_in(least: float, apart: float, largest: float) -> float:
+def radius_in(least: float, apart: float, largest: float, below: float) -> float:
     """The radius of circles on a page of which two are at least so far from each other: so many of them between two
-    for what is on their link. Numbers have room if there is any, rather than that."""
-    room = max(least / apart, min(SMALL_RADIUS, least / NEAREST))
-    return max(LEAST_RADIUS, min(largest, room))
+    for what is on their link, and `below` for what is written below one of them. Numbers have room if there is any,
+    rather than that."""
+    room = min(least / apart, (least - below) / 2)
+    return max(LEAST_RADIUS, min(largest, max(room, min(SMALL_RADIUS, least / NEAREST))))
+
+
+def words_wide(places: Sequence[Point], place: Point, radius: float, most: float) -> float:
+    """How wide what is written below a node may be, so that it lies on no other circle."""
+    x, y = place
+    top, bottom = y + radius, y + radius + WORDS_BELOW
+    half = most / 2
+    for across, up in places:
+        off = max(0.0, top - up, up - bottom)
+        if off < radius and (across != x or up != y):
+            half = min(half, abs(across - x) - sqrt(radius * radius - off * off))
+    return max(0.0, 2 * half)
 
 
 def least_apart(places: Sequence[Point]) -> float:

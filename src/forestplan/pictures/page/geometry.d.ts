@@ -51,7 +51,8 @@ export function fitted(places: [number, number][], wide: number, high: number, a
 export function largestIn(wide: number, high: number, usual: number): number;
 export function labelSize(radius: number, usual: number): number;
 export function marginsOf(wide: number, high: number, radius: number, halfLabel: number): [number, number, number];
-export function radiusIn(least: number, apart: number, largest: number): number;
+export function radiusIn(least: number, apart: number, largest: number, below: number): number;
+export function wordsWide(places: [number, number][], place: [number, number], radius: number, most: number): number;
 export function leastApart(places: [number, number][]): number;
 export function sideOf(side: number): [number, number];
 export function toPiece(place: [number, number], begin: [number, number], end: [number, number]): number;

@@ -22,7 +22,7 @@ export const MESSAGES = {
 export function reactedMarks(stage, is, x, y, r) {
   return [mark("circle", {cx: x, cy: y, r, fill: "var(--paper)", stroke: "var(--ink)", "stroke-width": BLANK_RIM, "data-mark": "reacting"}),
     textMark(x, y, r * BLANK_SIZE, "var(--ink)", is.acts || "", {"font-weight": "bold"}),
-    ...resultWords(x, y + r + 14, stage.largest / 2, is.found, stage.least)];
+    ...resultWords(x, y + r + 14, stage.largest / 2, is.found, stage.roomBelow(x, y))];
 }
 // What a node has found, how often it has acted and whether it may, in words.
 /** @param {ReactedLook} is @param {boolean} isBrief */

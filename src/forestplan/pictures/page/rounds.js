@@ -113,7 +113,7 @@ export class RoundsFilm {
     const [fill, ink] = discOf(colour || 0);
     const disc = colour === null ? blank(x, y, r, v) : [mark("circle", {cx: x, cy: y, r, fill,
       stroke: "var(--ink)", class: "found-colour", "data-mark": "found"}), textMark(x, y, r * BLANK_SIZE, ink, v)];
-    return [...disc, ...resultWords(x, y + r + 12, Math.min(11.5, r), pulse.results[v - 1], stage.least)];
+    return [...disc, ...resultWords(x, y + r + 12, Math.min(11.5, r), pulse.results[v - 1], stage.roomBelow(x, y))];
   }
   // The colour of a node in a forest after one of the pulses 2 to 12.
   /** @param {number} p @param {number} v @param {number} forest */
@@ -178,7 +178,8 @@ export class RoundsFilm {
       : this.turnMark(p, pulse.step[0], v, x, y, r);
     stage.draw({node: (v, x, y, r) => [...this.node(stage, p, shown, v, x, y, r), ...turn(v, x, y, r)], links: () => this.arrows(stage, p, shown),
       above: () => quiet ? [] : this.messages(stage, p, at - p, forest, {why, node}),
-      below: Boolean(pulse.results && !this.channels || pulse.step && !plain),
+      // In all pulses, so that labels stay where they are.
+      words: Boolean(pulse.results && !this.channels), below: Boolean(pulse.results ? !this.channels : this.forests && !plain),
       says: v => `pulse ${p}, ${this.stateText(v, p, shown)}`,
       label: pulse.results && !this.channels ? v => this.net.nodes[v - 1].label
         : quiet ? v => stage.radius < 9 ? "" : String(v) : null,

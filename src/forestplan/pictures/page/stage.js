@@ -1,6 +1,6 @@
 // A picture of a network: where things are on the screen, what is drawn, and what is under the pointer.
-import {CORNER, along, bendsOf, fitted, headOf, isCrowd, labelHalf, labelSize, labelsAt, largestIn, leastApart, marginsOf, onLink, radiusIn,
-  radiusPassed, towardsOf} from "./geometry.js";
+import {CORNER, WORDS_BELOW, along, bendsOf, fitted, headOf, isCrowd, labelHalf, labelSize, labelsAt, largestIn, leastApart, marginsOf, onLink, radiusIn,
+  radiusPassed, towardsOf, wordsWide} from "./geometry.js";
 import {BAR_GAP, BAR_RADIUS, MOST_BARS, NEXT_RING, OUTER_RING, RING_GAP} from "./hues.js";
 import {HALO, barMark, mark, patch, textMark} from "./marks.js";
 
@@ -160,14 +160,15 @@ export class Stage {
   }
   // Where all is by the rules of geometry.js: first the circles. Their radius stays while nodes are only moved: one that
   // is dragged over another shrinks none.
-  space() {
+  /** @param {boolean} hasWords */
+  space(hasWords) {
     const {nodes, edges} = this.net, {wide, high, apart, largest} = this;
-    const sized = [nodes.length, edges.length, this.to.scale, wide, high, apart, largest].join();
+    const sized = [nodes.length, edges.length, this.to.scale, wide, high, apart, largest, hasWords].join();
     this.places = nodes.map((_, k) => this.place(k + 1));
     if (sized === this.sized) return;
     this.sized = sized;
     this.least = Math.min(1e9, leastApart(this.places));
-    this.radius = radiusPassed(this.places, edges, radiusIn(this.least, apart, largestIn(wide, high, largest)), this.room());
+    this.radius = radiusPassed(this.places, edges, radiusIn(this.least, apart, largestIn(wide, high, largest), hasWords ? WORDS_BELOW : 0), this.room());
   }
   // Then bends and labels. `isBelow` says that something is written below each node, `isBarred` that its barred channels
   // are drawn.
@@ -189,6 +190,9 @@ export class Stage {
     this.measured = places.slice();
     this.spots = labelsAt(places, edges, bends, radius, CORNER * radius, boxes, this.taken(isBelow, isBarred), wide, high);
   }
+  // How wide what is written below a node may be, whose circle is here.
+  /** @param {number} x @param {number} y */
+  roomBelow(x, y) { return wordsWide(this.places, [x, y], this.radius, this.least); }
   carryLabel() {
     const v = this.dragged, [text, side, x, y] = this.spots[v - 1], [toX, toY] = this.places[v - 1], [fromX, fromY] = this.measured[v - 1];
     this.spots[v - 1] = [text, side, x + toX - fromX, y + toY - fromY];
@@ -245,18 +249,18 @@ export class Stage {
   }
   // Draws all. `edge(v, w)` gives an edge's attributes, `node(v, x, y, r)` the marks of a node, `label(v)` its words;
   // `links()` and `above()` are marks; `rings(v)` are the colours of rings around it. `below` says that
-  // something is written below each node. `still` is all that they depend on but for what is above: as long as it is
+  // something is drawn below each node, and `words` that circles leave room for it. `still` is all that they depend on but for what is above: as long as it is
   // the same, only that is drawn anew. `says(v)` is what a node shows, in words; `around(v)` is how far what `node`
   // draws goes beyond the circle.
   /** @param {Drawing} drawing */
   draw({edge, node, label, says = () => "", rings = () => [], around = () => 0, links = () => [], above = () => [], bars = true,
-    apart = 2.9, below = false, still}) {
+    apart = 2.9, below = false, words = below, still}) {
     this.apart = apart;
     this.around = v => around(v) + ringsWide(rings(v));
     const {nodes, edges} = this.net;
     /** @type {(v: number) => string} */
     const saidOf = v => label ? label(v) : nameOf(this.net, v);
-    this.space();
+    this.space(words);
     this.texts = this.textsOf(saidOf);
     this.measure(below, bars);
     const isStill = still && still.length === this.still.length && still.every((one, k) => one === this.still[k]);

@@ -35,6 +35,7 @@ interface Drawing {
   bars?: boolean;
   apart?: number;
   below?: boolean;
+  words?: boolean;
   still?: unknown[];
 }
 // What is drawn of a node, but for its number.
