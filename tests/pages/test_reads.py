@@ -244,6 +244,8 @@ READS = {
     ("src/wheel_of_folder.py", "text_in: open"): OF_TREE,
     ("src/wheel_of_folder.py", "text_in: file.read"): OF_TREE,
     ("src/wheel_of_folder.py", "write_wheel: ast.parse"): OF_TREE,
+    ("src/wheel_of_folder.py", "write_wheel: open"): OF_TREE,
+    ("src/wheel_of_folder.py", "write_wheel: file.read"): OF_TREE,
     (
         "src/wheel_of_folder.py",
         "write_wheel: wheel.read",
