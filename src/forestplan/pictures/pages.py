@@ -1,5 +1,5 @@
 """Pages that stand alone: the modules of page/, which the studio has too, joined into one script, and the data beside
-it. Nothing in them comes from elsewhere, and they have no algorithm."""
+it. Nothing in them comes from elsewhere. What a page decides by itself, where it draws, is translated (geometry.py)."""
 import json
 import os
 import re
