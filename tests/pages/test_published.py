@@ -338,6 +338,16 @@ class Published(Cards):
         cls.page.go(cls.address)
         cls.page.until("window.studio && studio.seen.hello && studio.rounds.film", 60)
 
+    def test_bends(self) -> None:
+        """A drawing of one's own bends its edges, too, and has its numbers above: no server is asked."""
+        self.page.go(self.address + "#net=0.0_90.0_180.0_270.0~1-2_1-4_2-3_3-4&tab=draw")
+        edge = "document.querySelector('#net [data-edge=\"1-4\"]')"
+        self.page.until(f"!studio.isFollowing() && {edge}", 60)
+        drawn = self.page.value(f"{edge}.getAttribute('d')")
+        self.note("bent", "Q" in drawn, drawn)
+        beside = "[...document.querySelectorAll('#net [data-label]')].map(one => one.textContent)"
+        self.same("numbers", self.page.value(beside), ["1", "2", "3", "4"])
+
     def files(self) -> Iterator[tuple[str, bytes]]:
         for folder, _, names in sorted(os.walk(os.path.join(self.folder, "a folder", "page"))):
             for name in sorted(names):

@@ -64,6 +64,8 @@ export class Stage {
     this.wide = box.width || 1;
     this.high = box.height || 1;
     this.isZoomed = false;
+    // The radius is found anew.
+    this.sized = "";
     if (!nodes.length) { this.to = {scale: 1, x: 0, y: 0}; return; }
     const largest = largestIn(this.wide, this.high, this.largest), size = labelSize(largest, this.largest);
     const words = Math.max(...nodes.map((_, k) => nameOf(this.net, k + 1).length));
