@@ -10,10 +10,13 @@ import resource
 import shutil
 import subprocess
 import sys
+import threading
 import time
 import unittest
-from collections.abc import Iterator
+from collections import defaultdict
+from collections.abc import Collection, Iterator
 from dataclasses import dataclass
+from typing import Any
 
 from tests import TOP
 from tests.by_hand.changes import Change
@@ -22,36 +25,77 @@ from tests.settings import BUILT, NAMED
 # A test ends after so many seconds, and each of its processes after so many of a processor: a change may loop without
 # an end.
 LONGEST, MOST_BUSY = 300, 60
+# The same while it isn't known what a test enters: one that takes longer is asked after all others.
+UNKNOWN_LONGEST, UNKNOWN_BUSY = 12, 4
 # The time of the first file that is written, which an archive can keep.
 FIRST_TIME = 1_000_000_000
 # What a copy doesn't need.
 LEFT_OUT = shutil.ignore_patterns(".git", "out", "__pycache__", "shared")
+# This stands at the end of INIT, and so in each process that imports the package: it writes the file and first line of
+# each function into a pipe when the function is first entered. The line of a module is 0. It needs no right to write
+# files, but in a sandbox that hides the pipe nothing is seen. For a test of which this is known the pipe isn't there.
+INIT = "src/forestplan/__init__.py"
+WATCH = """
+def _watch(path):
+    import os, sys, threading
+    seen = {{}}
+    def note(frame, *_):
+        code = frame.f_code
+        if id(code) in seen:
+            return
+        seen[id(code)] = code
+        _, is_own, file = code.co_filename.rpartition("/forestplan/")
+        if is_own:
+            line = 0 if code.co_name == "<module>" else code.co_firstlineno
+            try:
+                to = os.open(path, os.O_WRONLY)
+                os.write(to, f"src/forestplan/{{file}}:{{line}}\\n".encode())
+                os.close(to)
+            except OSError:
+                pass
+    frame = sys._getframe()
+    while frame:
+        note(frame)
+        frame = frame.f_back
+    if os.path.exists(path):
+        threading.settrace(note)
+        sys.settrace(note)
+    return seen, note
+_watched = _watch({path!r})
+"""
 # A process sees only itself and what it starts, and all of them end with it.
 ALONE = ("unshare", "--pid", "--fork", "--kill-child", "--mount-proc")
 
 
 @dataclass
 class Row:
-    """What came out of a test, and the seconds of processors that it took."""
+    """What came out of a test, the seconds of processors that it took, and the functions that it was seen to enter."""
 
     name: str
     busy: float
     is_good: bool
     is_skipped: bool
+    entered: frozenset[str] = frozenset()
+    # Its process ended before it did.
+    is_ended: bool = False
 
 
 class Copy:
     """A copy of the tree in a room, with what is compiled and what is left over of its own."""
 
     def __init__(self, room: str):
-        self.tree, self.rows, self.tmp, self.compiled = (
-            os.path.join(room, name) for name in ("tree", "rows", "tmp", "compiled")
+        self.tree, self.rows, self.tmp, self.compiled, self.entered = (
+            os.path.join(room, name) for name in ("tree", "rows", "tmp", "compiled", "entered")
         )
         self.written = FIRST_TIME
         # What is changed, as it was before.
         self.before: dict[str, bytes] = {}
         shutil.copytree(TOP, self.tree, symlinks=True, ignore=LEFT_OUT)
         self.put_programs()
+        os.mkfifo(self.entered)
+        os.chmod(self.entered, 0o666)
+        with open(os.path.join(self.tree, INIT), "ab") as file:
+            file.write(WATCH.format(path=self.entered).encode())
 
     def put_programs(self) -> None:
         """The programs that the settings name, as if they were built from the sources."""
@@ -87,12 +131,13 @@ class Copy:
         self.before.clear()
 
     def called(
-        self, names: list[str], seconds: float, most: int = MOST_BUSY
+        self, names: list[str], seconds: float, most: int = MOST_BUSY, known: Collection[str] = ()
     ) -> tuple[list[Row], bool]:
         """The rows of tests up to the first that fails, and whether that is where the time was up: none begins after
-        so many seconds of processors, and the processes of a test end after `most`. One that ends its process has no
-        row."""
+        so many seconds of processors, and the processes of a test end after `most`. What known tests enter isn't
+        watched."""
         asked = {"names": names, "seconds": seconds, "rows": self.rows, "most": most}
+        asked |= {"pipe": self.entered, "known": [name for name in names if name in known]}
         for folder in (self.tmp, self.compiled):
             os.makedirs(folder, exist_ok=True)
             os.chmod(folder, 0o1777)
@@ -110,15 +155,45 @@ class Copy:
             stderr=subprocess.DEVNULL,
             start_new_session=True,
         )
-        try:
-            process.communicate(json.dumps(asked).encode())
-        finally:
-            process.kill()
-            process.wait()
-            shutil.rmtree(self.tmp, ignore_errors=True)
+        if os.path.exists(f"{self.entered}.off"):
+            os.rename(f"{self.entered}.off", self.entered)
+        # It is open for both ways, so it has no end before the empty line.
+        pipe = os.open(self.entered, os.O_RDWR)
+        with open(pipe, "rb") as lines:
+            said: list[bytes] = []
+            reader = threading.Thread(target=lambda: said.extend(iter(lines.readline, b"\n")))
+            reader.start()
+            try:
+                process.communicate(json.dumps(asked).encode())
+            finally:
+                process.kill()
+                process.wait()
+                os.write(pipe, b"\n")
+                reader.join()
+                shutil.rmtree(self.tmp, ignore_errors=True)
+        return self.rows_of(names, by_test(said))
+
+    def rows_of(self, names: list[str], entered: dict[str, set[str]]) -> tuple[list[Row], bool]:
+        """The rows that were written, and one of a test that ended its process; and whether the time was up."""
         with open(self.rows, encoding="utf-8") as file:
             rows = [json.loads(line) for line in file if line.endswith("\n")]
-        return [Row(**row) for row in rows if row], {} in rows
+        found = [Row(**row, entered=frozenset(entered[row["name"]])) for row in rows if row]
+        at = len(found)
+        if {} not in rows and at < len(names) and all(row.is_good for row in found):
+            found.append(Row(names[at], 0, False, False, frozenset(entered[names[at]]), True))
+        return found, {} in rows
+
+
+def by_test(lines: list[bytes]) -> dict[str, set[str]]:
+    """The functions by the test that enters them: its name stands before them, after a `=`."""
+    found: dict[str, set[str]] = defaultdict(set)
+    name = ""
+    for line in (line.decode().strip() for line in lines):
+        if line.startswith("="):
+            name = line[1:]
+        else:
+            found[name].add(line)
+    return found
 
 
 # In the process of a copy.
@@ -138,9 +213,9 @@ def processor_seconds() -> float:
     return sum(os.times()[:4])
 
 
-def row_of(name: str, most: int) -> Row:
+def row_of(name: str, most: int, longest: int) -> Row:
     """Runs a test up to its first row that fails."""
-    faulthandler.dump_traceback_later(LONGEST, exit=True)
+    faulthandler.dump_traceback_later(longest, exit=True)
     most += math.ceil(time.process_time())
     resource.setrlimit(resource.RLIMIT_CPU, (most, resource.getrlimit(resource.RLIMIT_CPU)[1]))
     busy, result = processor_seconds(), unittest.TestResult()
@@ -150,14 +225,36 @@ def row_of(name: str, most: int) -> Row:
     return Row(name, processor_seconds() - busy, result.wasSuccessful(), is_skipped)
 
 
-def run(names: list[str], seconds: float, rows: str, most: int) -> None:
-    """Runs tests, and writes a row for each, up to the first that fails, and an empty one if the time is up."""
+def watch(pipe: str, is_on: bool) -> None:
+    """Whether it is watched what this process enters, and those that begin."""
+    names = f"{pipe}.off", pipe
+    if os.path.exists(pipe) != is_on:
+        os.rename(names[not is_on], names[is_on])
+    seen, note = getattr(sys.modules.get("forestplan"), "_watched", ({}, None))
+    # What this process has entered before is entered again.
+    seen.clear()
+    hook: Any = note if is_on else None
+    threading.settrace(hook)
+    sys.settrace(hook)
+
+
+def run(
+    names: list[str], seconds: float, rows: str, most: int, pipe: str, known: list[str]
+) -> None:
+    """Runs tests, and writes a row for each, up to the first that fails, and an empty one if the time is up. The names
+    of those that aren't known go into the pipe, too."""
     with open(rows, "a", encoding="utf-8") as file:
         for name in names:
-            row = row_of(name, most)
-            file.write(json.dumps(dataclasses.asdict(row)) + "\n")
+            watch(pipe, name not in known)
+            if name not in known:
+                with open(pipe, "w", encoding="utf-8") as to:
+                    to.write(f"={name}\n")
+            limits = (most, LONGEST) if name in known else (UNKNOWN_BUSY, UNKNOWN_LONGEST)
+            row = dataclasses.asdict(row_of(name, *limits))
+            del row["entered"]
+            file.write(json.dumps(row) + "\n")
             file.flush()
-            if not row.is_good:
+            if not row["is_good"]:
                 return
             if processor_seconds() > seconds:
                 file.write("{}\n")

@@ -1,18 +1,29 @@
 """Changes the Python of the repository in one place at a time, as a mistake would (tests/by_hand/changes.py), and sees
 whether that is noticed.
 
-  python3 -m tests.by_hand.mutants nodes The right nodes of the workshop, minutes with the built programs: a change that
-  no command of the pages shows is played in many runs, and printed. There it has to be right, too. python3 -m
-  tests.by_hand.mutants package [--seed 2026] [--count 300] [--package NAME ..] [--jobs 2] [--seconds 3] [--minutes 600]
-  [--named FILE] src/forestplan/: so many changes by chance, as many of each package as its share of lines, some at a
-  time. Each is made in a copy of the tree, where tests of its package run (tests/by_hand/trials.py) up to the first
-  that fails twice and passes without the change; they may take so many seconds of processors. After so many minutes
-  none is begun. Tests that need the built programs run if TESTS_PLAN and TESTS_PLAY name them. It needs root, or
-  another user who may make namespaces of processes. Each change is printed with the test that noticed it, and last how
-  many were noticed, survived and are equal, by package: those that are equal stand in tests/by_hand/equal.txt, each as
-  it is printed, with the reason in the next line, and aren't tried. One that survived may be noticed by a test that
-  wasn't asked, if not all were: write their lines to a FILE, and try these alone with more seconds. python3 -m
-  tests.by_hand.mutants package --list The changes that it would try."""
+  python3 -m tests.by_hand.mutants nodes
+
+  The right nodes of the workshop, minutes with the built programs: a change that no command of the pages shows is
+  played in many runs, and printed. There it has to be right, too.
+
+  python3 -m tests.by_hand.mutants package [--seed 2026] [--count 300] [--package NAME ..] [--jobs 2] [--seconds 30]
+    [--minutes 600] [--named FILE] [--entered FILE]
+
+  src/forestplan/: so many changes by chance, as many of each package as its share of lines, some at a time. Each is
+  made in a copy of the tree, where tests run up to the first that fails twice and was good without the change; they
+  may take so many seconds of processors. These tests are asked (tests/by_hand/trials.py): those that enter the
+  function that is changed, the shortest first, and those of its package of which that isn't known yet. What a test
+  enters is seen when it first runs (tests/by_hand/entered.py), and kept in the second FILE for a later run on the
+  same sources. After so many minutes no change is begun. Tests that need the built programs run if TESTS_PLAN and
+  TESTS_PLAY name them. It needs root, or another user who may make namespaces of processes. Each change is printed
+  with the test that noticed it, and last how many were noticed, survived and are equal, by package: those that are
+  equal stand in tests/by_hand/equal.txt, each as it is printed, with the reason in the next line, and aren't tried.
+  One that survived may be noticed by a test that wasn't asked, if not all were: write their lines to the first FILE,
+  and try these alone with more seconds.
+
+  python3 -m tests.by_hand.mutants package --list
+
+  The changes that it would try."""
 import argparse
 import ast
 import copy
@@ -28,6 +39,7 @@ from collections.abc import Iterator
 
 from tests import TOP
 from tests.by_hand.changes import TURNED, Change, changes_of, lines_left_out, package_of
+from tests.by_hand.entered import Entered
 from tests.by_hand.trials import Outcome, Trial
 
 EQUAL = os.path.join(TOP, "tests", "by_hand", "equal.txt")
@@ -100,6 +112,7 @@ def try_package(given: argparse.Namespace) -> None:
     def tried(change: Change, outcome: Outcome) -> None:
         which = f"all {outcome.tests}" if outcome.is_whole else f"{outcome.tests}"
         how = f"by {outcome.by}" if outcome.by else f"{which} tests in {outcome.seconds:.1f} s"
+        how += "" if outcome.is_entered else ", and none was seen to enter it"
         tell(change, "noticed" if outcome.by else "survived", f", {how}")
 
     for change in changes:
@@ -107,7 +120,7 @@ def try_package(given: argparse.Namespace) -> None:
             tell(change, "equal", "")
     with tempfile.TemporaryDirectory(prefix="mutants-") as room:
         os.chmod(room, 0o755)
-        trial = Trial(room, given.jobs, until, given.seconds)
+        trial = Trial(room, given.jobs, until, given.seconds, Entered(given.entered))
         trial.run([change for change in changes if change.name not in known], tried)
     whole = sum(found.values(), Counter[str]())
     print(f"seed {given.seed}: {whole.total()} of {len(changes)} changes were tried")
@@ -196,9 +209,10 @@ def main() -> None:
     parser.add_argument("--count", type=int, default=300)
     parser.add_argument("--package", action="append", default=[])
     parser.add_argument("--jobs", type=int, default=2)
-    parser.add_argument("--seconds", type=float, default=3)
+    parser.add_argument("--seconds", type=float, default=30)
     parser.add_argument("--minutes", type=float, default=600)
     parser.add_argument("--named", metavar="FILE")
+    parser.add_argument("--entered", metavar="FILE")
     parser.add_argument("--list", action="store_true")
     given = parser.parse_args()
     # What is ended ends what it has started.
