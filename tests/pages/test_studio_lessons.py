@@ -30,6 +30,7 @@ from forestplan.studio.lessons import (
     SaidExercise,
     SeenExercise,
     TableStep,
+    exercise_of,
 )
 from forestplan.studio.messages import ExerciseCall
 from forestplan.studio.networks import opened_by
@@ -210,6 +211,15 @@ def answers_of_reactions() -> dict[tuple[int, str], int]:
 
 
 class Table(Case):
+    def test_what_the_page_has_of_an_exercise(self) -> None:
+        """Each exercise of the table is on the page, with its hint; a prediction names a node and a pulse."""
+        for n, k, step in steps():
+            found, own = exercise_of(step), step.exercise
+            pair = found and (found.name, found.hint), own and (own.name, own.hint)
+            self.same(f"lesson {n}, step {k}", *pair)
+            if found and found.kind == "predicted":
+                self.note("a node and a pulse", found.node > 0 <= found.pulse, found)
+
     def test_pages(self) -> None:
         """Each lesson's page has the title and the question of the table, and a link that opens the lesson."""
         for number, lesson in enumerate(LESSONS, 1):

@@ -70,6 +70,13 @@ class Results(PictureCase):
             row("filled", [v for v, group in groups.items() if marks(group, "filled")], filled)
             row("said", said in text, True)
 
+    def test_what_is_new(self):
+        """In pulse 0 each node finds something, and later it is drawn only where it is something else: on a row the
+        greatest number comes to node 2 first, and then to node 1."""
+        found = texts_of(parsed(self.drawn("rounds", ROW, "--program", "leader")), "found")
+        pulses = (("leader 1", "leader 2", "leader 3"), ("leader 2", "leader 3"), ("leader 3",))
+        self.same("pulse by pulse", found, [result for pulse in pulses for result in pulse])
+
     def test_the_player_names_who_finds_something(self):
         """In a star each leaf finds its layer in pulse 1, and twelve of them are named."""
         for leaves, more in ((12, ""), (13, " ..")):

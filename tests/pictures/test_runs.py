@@ -3,7 +3,9 @@ src/forestplan/definitions/nodes.py."""
 from itertools import product
 
 from forestplan.definitions.nodes import last_pulse
+from forestplan.faults import Fault
 from forestplan.networks.network_text import network_in_bytes
+from forestplan.pictures.transcripts import window_of
 from tests.cases import example
 from tests.pictures.base import PictureCase, transcript
 from tests.pictures.marks import SVG, ends, marks, parsed, title, texts_of
@@ -30,6 +32,18 @@ def ticks_of(root):
 
 
 class Runs(PictureCase):
+    def test_windows(self):
+        """Of pulses 0 to 5 those that are asked for, if they are all there, or else as many of the first as usual."""
+        for asked, wanted in (
+            *((None, (0, 2)), ((1, 4), (1, 4)), ((0, 5), (0, 5)), ((2, 2), (2, 2))),
+            *(((-1, 2), None), ((3, 2), None), ((0, 6), None)),
+        ):
+            with self.subTest(asked):
+                if wanted:
+                    self.assertEqual(window_of("two", 5, asked, 3), wanted)
+                else:
+                    self.assertRaises(Fault, window_of, "two", 5, asked, 3)
+
     def test_whole_runs(self):
         for name, seed in product(("two", "path", "chain6"), (1, 2)):
             text = transcript(example(name), seed)

@@ -204,6 +204,12 @@ class Calls(FilesCase):
         twice = self.outcome("hello", b'{"a": 1, "a": 1}').wrong
         self.same("a field twice", twice, "the call has its field a twice")
 
+    def test_a_plan_with_a_channel_below_0(self):
+        """0 stands for a node without a channel; a plan with a number below it is refused."""
+        for plan, kind in (([0, 1], "answer"), ([-1, 1], "refusal")):
+            asked = {"network": EDGE, "name": "two", "plan": plan}
+            self.same(f"{plan}", self.outcome("check", text_of(asked)).kind, kind)
+
     def test_left_out(self):
         """A field that a call needs is named; without another one it is answered, or refused with a reason."""
         for name, asked in GOOD:

@@ -10,9 +10,11 @@ import random
 import re
 
 from forestplan.definitions.nodes import last_pulse
+from forestplan.network import Network
 from forestplan.networks import network
 from forestplan.networks.description import most_payloads
 from forestplan.networks.network_text import network_in_bytes
+from forestplan.networks.reductions import smaller
 from forestplan.wording import duration
 from tests.cases import Case, called, example, forestlab, in_process
 from tests.programs import test_plain_networks
@@ -206,6 +208,20 @@ class OwnNetworks(Case):
                 self.same("each node but the first has one before it", before, [*range(2, 20001)])
         for name, kind in (("queen5_5", ("queen", 5, 5)), ("star", ("star", 9))):
             self.same(f"the example {name}", edges_of(self.written(*kind)), edges_of(example(name)))
+
+    def test_smaller(self):
+        """A network without one of its nodes, edges or bars, each once, and the one with the identifiers 1, 2, 3."""
+        net = Network(3, [(1, 2), (2, 3)], {1: 5, 2: 9, 3: 7}, {1: [2], 3: [1, 4]})
+        found = list(smaller(net))
+        nodes, edges, bars = found[:3], found[3:5], found[5:7]
+        self.same("the nodes left", [left for _, left in nodes], [[2, 3], [1, 3], [1, 2]])
+        identifiers = [[less.identifiers[v] for v in less.vertices] for less, _ in nodes]
+        self.same("their identifiers", identifiers, [[9, 7], [5, 7], [5, 9]])
+        self.same("the edges left", [list(less.edges) for less, _ in edges], [[(2, 3)], [(1, 2)]])
+        self.same("the bars left", [less.bars for less, _ in bars], [{3: [1, 4]}, {1: [2]}])
+        names = [less.identifiers for less, _ in found[7:]]
+        self.same("small identifiers", names, [{1: 1, 2: 3, 3: 2}])
+        self.same("which no one has again", len(list(smaller(found[7][0]))), 7)
 
     def test_disk(self):
         """The places are what the seed's numbers say, and two are joined just if they are less than the reach apart."""

@@ -58,6 +58,7 @@ REFUSED = (
     ("edges", "source target\na b\n", "line 1: it is a heading"),
     ("edges", "2 Mill,\n", "line 1: no name of a node: `Mill,`; a table is read --as pairs"),
     ("edges", "A\u00a0B 3\n", "line 1: no name of a node: `A\\xa0B`"),
+    ("edges", f"{'a' * 201} b\n", "line 1: no name of a node: `aaa"),
     ("adjacency", "a b\n", "line 1: b has no line of its own"),
     ("adjacency", "a b\nb\na\n", "line 3: a second line of a"),
     (

@@ -26,10 +26,14 @@ def simulate(*arguments, data=b""):
 
 class Waits(Case):
     def test_since_when(self):
-        """By hand: node 2 puts its greeting third and its acknowledgement fourth, so node 1 can take since 3, and what
-        was put on that link last is of 4."""
+        """By hand: node 2 can put its greeting from the start on, whatever it has to put after it. It puts it third and
+        its acknowledgement fourth, so node 1 can take since 3, and what was put on that link last is of 4.
+        """
         player = AlphaPlayer(network_in_bytes(example("two")))
         for kind, node in ((Kind.PUT, 1), (Kind.TAKE, 2), (Kind.PUT, 2), (Kind.PUT, 2)):
+            if len(player.made) == 2:
+                possible = [(step.kind, step.since, step.latest) for step in player.steps[2]]
+                self.same("the greeting of node 2", possible, [(Kind.PUT, 0, 0)])
             player.make(Event(kind, node, 0))
         self.assertEqual(
             [(step.kind, step.since, step.latest) for step in player.steps[1]], [(Kind.TAKE, 3, 4)]

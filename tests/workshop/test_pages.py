@@ -5,6 +5,7 @@ import os
 import re
 import tempfile
 
+from forestplan.build_hint import FIRST
 from forestplan.schedules.policies import POLICIES
 from forestplan.transcripts.fields import PAYLOADS
 from forestplan.workshop import cases, class_files, guard, options, processes, protocol
@@ -139,6 +140,12 @@ class ClassFolder(FolderCase):
             ("see [D](../claim/D.md#part).", "see D."),
         ):
             self.same(text, class_files.page_for_a_class(text, "docs/learn/A.md", paths), right)
+
+    def test_who_may_call_and_change_its_scripts(self):
+        """Everybody may call them, and nobody else than their owner may change them."""
+        for name in FIRST:
+            mode = os.stat(os.path.join(self.of_class, "bin", name)).st_mode
+            self.same(name, (mode & 0o111, mode & 0o022), (0o111, 0))
 
     def test_it_has_no_solution(self):
         for path in (
