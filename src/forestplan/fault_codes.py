@@ -1,405 +1,433 @@
 """The codes of all faults: each is what is wrong, in a few words. sentences.py has the sentence of each."""
-from enum import Enum, auto
+from collections.abc import Iterator
 
 
-class Code(Enum):
-    """What is wrong."""
+class Codes(type):
+    """Makes the code of a name once it is asked for: an `Enum` of so many would take some 8 ms of each start."""
 
-    # As `Enum` does, which looks at all codes before each one.
-    @staticmethod
-    def _generate_next_value_(name: str, start: int, count: int, last_values: list[int]) -> int:
-        return start + count
+    __annotations__: dict[str, str]
+
+    def __getattr__(cls, name: str) -> "Code":
+        if name not in cls.__annotations__:
+            raise AttributeError(f"no code of a fault is called {name!r}")
+        code = Code(name)
+        setattr(cls, name, code)
+        return code
+
+    def __getitem__(cls, name: str) -> "Code":
+        code: Code = getattr(cls, name)
+        return code
+
+    def __iter__(cls) -> Iterator["Code"]:
+        return (cls[name] for name in cls.__annotations__)
+
+
+class Code(metaclass=Codes):
+    """What is wrong. Each name below has one code: two codes are the same only if they are one object.
+
+    >>> Code.NO_PLAN.name, Code["NO_PLAN"] is Code.NO_PLAN
+    ('NO_PLAN', True)
+    """
+
+    def __init__(self, name: str) -> None:
+        self.name = name
+
+    def __repr__(self) -> str:
+        return f"Code.{self.name}"
+
+    def __reduce__(self) -> tuple[object, ...]:
+        return getattr, (Code, self.name)
 
     # texts of networks, in the DIMACS format
-    NO_LINE_OF_A_NETWORK = auto()
-    SECOND_PROBLEM_LINE = auto()
-    NO_PROBLEM_LINE = auto()
-    NODES_ABOVE_LIMIT = auto()
-    NO_SUCH_LINE = auto()
-    NO_VERTEX = auto()
-    NO_CHANNEL_TO_BAR = auto()
-    LOOP = auto()
-    SECOND_EDGE_LIMIT = auto()
-    IDENTIFIER_ABOVE_LIMIT = auto()
-    SECOND_IDENTIFIER = auto()
-    BARS_ABOVE_LIMIT = auto()
-    PROBLEM_LINE_MISSING = auto()
-    TOO_MANY_NODES = auto()
-    TOO_MANY_EDGES = auto()
-    TOO_MANY_NEIGHBOURS = auto()
-    ONE_IDENTIFIER_TWICE = auto()
-    EDGE_BEFORE_PROBLEM_LINE = auto()
-    BEFORE_PROBLEM_LINE = auto()
+    NO_LINE_OF_A_NETWORK: "Code"
+    SECOND_PROBLEM_LINE: "Code"
+    NO_PROBLEM_LINE: "Code"
+    NODES_ABOVE_LIMIT: "Code"
+    NO_SUCH_LINE: "Code"
+    NO_VERTEX: "Code"
+    NO_CHANNEL_TO_BAR: "Code"
+    LOOP: "Code"
+    SECOND_EDGE_LIMIT: "Code"
+    IDENTIFIER_ABOVE_LIMIT: "Code"
+    SECOND_IDENTIFIER: "Code"
+    BARS_ABOVE_LIMIT: "Code"
+    PROBLEM_LINE_MISSING: "Code"
+    TOO_MANY_NODES: "Code"
+    TOO_MANY_EDGES: "Code"
+    TOO_MANY_NEIGHBOURS: "Code"
+    ONE_IDENTIFIER_TWICE: "Code"
+    EDGE_BEFORE_PROBLEM_LINE: "Code"
+    BEFORE_PROBLEM_LINE: "Code"
 
     # plans
-    NO_PLAN = auto()
-    NO_LINE_OF_A_PLAN = auto()
-    PLAN_OF_OTHER_VERTEX = auto()
-    SECOND_LINE_OF_VERTEX = auto()
-    CHANNEL_ABOVE_LIMIT = auto()
-    CHANNEL_BARRED = auto()
-    VERTEX_WITHOUT_LINE = auto()
-    NO_CHANNELS = auto()
-    NO_RANGE = auto()
-    NO_NODE_WITH_CHANNEL = auto()
-    CHANNEL_TWICE = auto()
-    CHANNEL_OUTSIDE_TABLE = auto()
-    CHANNEL_ABOVE_TABLE = auto()
+    NO_PLAN: "Code"
+    NO_LINE_OF_A_PLAN: "Code"
+    PLAN_OF_OTHER_VERTEX: "Code"
+    SECOND_LINE_OF_VERTEX: "Code"
+    CHANNEL_ABOVE_LIMIT: "Code"
+    CHANNEL_BARRED: "Code"
+    VERTEX_WITHOUT_LINE: "Code"
+    NO_CHANNELS: "Code"
+    NO_RANGE: "Code"
+    NO_NODE_WITH_CHANNEL: "Code"
+    CHANNEL_TWICE: "Code"
+    CHANNEL_OUTSIDE_TABLE: "Code"
+    CHANNEL_ABOVE_TABLE: "Code"
 
     # what a file is
-    COLUMN_NOT_THERE = auto()
-    NO_TABLE = auto()
-    SPREADSHEET = auto()
-    FORM_UNSAID = auto()
-    FORM_TO_CONVERT = auto()
-    COMPRESSED = auto()
-    NO_ENCODING = auto()
-    NOT_IN_ENCODING = auto()
-    ZERO_LETTER = auto()
-    UNSAID = auto()
+    COLUMN_NOT_THERE: "Code"
+    NO_TABLE: "Code"
+    SPREADSHEET: "Code"
+    FORM_UNSAID: "Code"
+    FORM_TO_CONVERT: "Code"
+    COMPRESSED: "Code"
+    NO_ENCODING: "Code"
+    NOT_IN_ENCODING: "Code"
+    ZERO_LETTER: "Code"
+    UNSAID: "Code"
 
     # tables
-    NO_ROW_OF_A_TABLE = auto()
-    NO_ROW_BELOW_HEADING = auto()
-    SEVERAL_MARKS = auto()
-    FOR_EXCEL = auto()
-    NO_ROW = auto()
-    HEADING_IN_SPITE = auto()
-    TWO_TITLES = auto()
-    HEADING_TWICE = auto()
-    OTHER_NUMBER_OF_FIELDS = auto()
-    NO_NUMBER = auto()
-    NO_PLACE_ON_EARTH = auto()
-    NO_HEADING_WITH = auto()
-    NO_ROW_WITH = auto()
-    NO_CHANNEL_IN_FIELD = auto()
-    SECOND_SITE = auto()
-    TOO_MANY_SITES = auto()
-    NO_IDENTIFIER = auto()
-    SECOND_SITE_OF_IDENTIFIER = auto()
-    NO_DEGREES = auto()
-    NO_SITE_HAS_A_PLACE = auto()
-    TOO_MANY_NEAR_EDGES = auto()
-    NO_CHANNEL_WITHIN = auto()
-    BARS_OF_SITE_ABOVE_LIMIT = auto()
-    NOT_A_SITE_OF = auto()
-    NO_SITE = auto()
+    NO_ROW_OF_A_TABLE: "Code"
+    NO_ROW_BELOW_HEADING: "Code"
+    SEVERAL_MARKS: "Code"
+    FOR_EXCEL: "Code"
+    NO_ROW: "Code"
+    HEADING_IN_SPITE: "Code"
+    TWO_TITLES: "Code"
+    HEADING_TWICE: "Code"
+    OTHER_NUMBER_OF_FIELDS: "Code"
+    NO_NUMBER: "Code"
+    NO_PLACE_ON_EARTH: "Code"
+    NO_HEADING_WITH: "Code"
+    NO_ROW_WITH: "Code"
+    NO_CHANNEL_IN_FIELD: "Code"
+    SECOND_SITE: "Code"
+    TOO_MANY_SITES: "Code"
+    NO_IDENTIFIER: "Code"
+    SECOND_SITE_OF_IDENTIFIER: "Code"
+    NO_DEGREES: "Code"
+    NO_SITE_HAS_A_PLACE: "Code"
+    TOO_MANY_NEAR_EDGES: "Code"
+    NO_CHANNEL_WITHIN: "Code"
+    BARS_OF_SITE_ABOVE_LIMIT: "Code"
+    NOT_A_SITE_OF: "Code"
+    NO_SITE: "Code"
 
     # lists of edges and of neighbours
-    NO_NAME = auto()
-    NO_NAME_IN_LIST = auto()
-    NO_TWO_NODES = auto()
-    OTHER_NUMBER_OF_WORDS = auto()
-    HEADING_IN_LIST = auto()
-    SECOND_LINE_OF_NODE = auto()
-    NODE_WITHOUT_LINE = auto()
-    ONE_NAME_TWICE = auto()
+    NO_NAME: "Code"
+    NO_NAME_IN_LIST: "Code"
+    NO_TWO_NODES: "Code"
+    OTHER_NUMBER_OF_WORDS: "Code"
+    HEADING_IN_LIST: "Code"
+    SECOND_LINE_OF_NODE: "Code"
+    NODE_WITHOUT_LINE: "Code"
+    ONE_NAME_TWICE: "Code"
 
     # forms of other programs
-    NO_NETWORKX = auto()
-    NETWORKX_REFUSES = auto()
-    NETWORKX_READS_OTHERS = auto()
-    SECOND_NODE_OF_NAME = auto()
-    SECOND_GRAPH = auto()
-    SECOND_NODE_OF_ID = auto()
-    JOINS_BUT_NO_EDGE = auto()
-    NO_NODE_OF_ID = auto()
-    TAG_TOO_LONG = auto()
-    SPACE_TOO_LONG = auto()
-    TEXT_DEFINED = auto()
-    NO_XML = auto()
-    KEY_TWICE = auto()
-    JSON_NUMBER_TOO_LONG = auto()
-    NO_JSON = auto()
-    NO_JSON_OF_NODES = auto()
-    NO_TEXT_AND_NO_NUMBER = auto()
-    OPEN_QUOTATION = auto()
-    QUOTATION_IN_TEXT = auto()
-    SECOND_NAME_OF_NODE = auto()
-    GML_WITHOUT_END = auto()
-    NO_KEY_OF_GML = auto()
-    NO_VALUE_OF_GML = auto()
-    NO_LIST_OF_GML = auto()
-    OTHER_NUMBER_OF_LETTERS = auto()
-    EDGES_ABOVE_LIMIT = auto()
-    SECOND_GRAPH_OF_FILE = auto()
-    NO_LETTERS_OF_FORM = auto()
-    NO_LETTER_OF_FORM = auto()
-    NODES_OF_LINE_ABOVE_LIMIT = auto()
-    NUMBER_OF_NODES_CUT = auto()
+    NO_NETWORKX: "Code"
+    NETWORKX_REFUSES: "Code"
+    NETWORKX_READS_OTHERS: "Code"
+    SECOND_NODE_OF_NAME: "Code"
+    SECOND_GRAPH: "Code"
+    SECOND_NODE_OF_ID: "Code"
+    JOINS_BUT_NO_EDGE: "Code"
+    NO_NODE_OF_ID: "Code"
+    TAG_TOO_LONG: "Code"
+    SPACE_TOO_LONG: "Code"
+    TEXT_DEFINED: "Code"
+    NO_XML: "Code"
+    KEY_TWICE: "Code"
+    JSON_NUMBER_TOO_LONG: "Code"
+    NO_JSON: "Code"
+    NO_JSON_OF_NODES: "Code"
+    NO_TEXT_AND_NO_NUMBER: "Code"
+    OPEN_QUOTATION: "Code"
+    QUOTATION_IN_TEXT: "Code"
+    SECOND_NAME_OF_NODE: "Code"
+    GML_WITHOUT_END: "Code"
+    NO_KEY_OF_GML: "Code"
+    NO_VALUE_OF_GML: "Code"
+    NO_LIST_OF_GML: "Code"
+    OTHER_NUMBER_OF_LETTERS: "Code"
+    EDGES_ABOVE_LIMIT: "Code"
+    SECOND_GRAPH_OF_FILE: "Code"
+    NO_LETTERS_OF_FORM: "Code"
+    NO_LETTER_OF_FORM: "Code"
+    NODES_OF_LINE_ABOVE_LIMIT: "Code"
+    NUMBER_OF_NODES_CUT: "Code"
 
     # networks that are named or made
-    NO_FILE = auto()
-    NO_FILE_AND_NO_NETWORK = auto()
-    RADIUS = auto()
-    EDGES_OF_NODES = auto()
-    NO_NETWORK_WITH_WISHES = auto()
-    SIZE_BELOW_LEAST = auto()
-    NODES_OF_KIND_ABOVE_LIMIT = auto()
-    NOT_DIMACS = auto()
-    NETWORK_FROM_STANDARD_INPUT = auto()
-    PLAN_OF_OTHER_NETWORK = auto()
+    NO_FILE: "Code"
+    NO_FILE_AND_NO_NETWORK: "Code"
+    RADIUS: "Code"
+    EDGES_OF_NODES: "Code"
+    NO_NETWORK_WITH_WISHES: "Code"
+    SIZE_BELOW_LEAST: "Code"
+    NODES_OF_KIND_ABOVE_LIMIT: "Code"
+    NOT_DIMACS: "Code"
+    NETWORK_FROM_STANDARD_INPUT: "Code"
+    PLAN_OF_OTHER_NETWORK: "Code"
 
     # transcripts
-    NO_PAYLOAD_OF = auto()
-    NO_NUMBER_OF = auto()
-    NO_WIRE = auto()
-    NO_ENTRY_AFTER_STAMP = auto()
-    NO_KIND_OF_ENTRY = auto()
-    NO_ENTRY = auto()
-    NO_ENTRY_AT_END = auto()
-    NO_TRANSCRIPT = auto()
-    NETWORK_AND_NO_TRANSCRIPT = auto()
-    NO_TRANSCRIPT_IN_ENCODING = auto()
-    NO_ORDER_OF_ENTRIES = auto()
-    WRONG_PROGRAM = auto()
-    NODES = auto()
-    NO_SUCH = auto()
-    NOT_READY = auto()
-    NOTHING_TO_PUT = auto()
-    LINK_EMPTY = auto()
-    PUT_LATER = auto()
-    TAKEN_BEFORE_PUT = auto()
-    WRONG_WIRE = auto()
-    WRONG_STAMP = auto()
-    OUT_OF_ORDER = auto()
-    NOT_WHOLE = auto()
-    STUCK = auto()
-    NOT_RIGHT = auto()
-    NO_PROVED_PROGRAM = auto()
-    TRANSCRIPT_REFUSED = auto()
-    ENTRY_REFUSED = auto()
-    NOT_DUE = auto()
-    TWO_STANDARD_INPUTS = auto()
-    EDITION_OF_ROUNDS = auto()
-    EDITION_OF_REACTIONS = auto()
-    STEP_NOT_READY = auto()
-    HAS_PULSES = auto()
-    TOO_MANY_CLOCKS = auto()
-    NO_WIRE_OF_SYNCHRONISER = auto()
-    NO_WORD_TO_BEGIN = auto()
-    PROGRAM_FOR_ROUNDS = auto()
+    NO_PAYLOAD_OF: "Code"
+    NO_NUMBER_OF: "Code"
+    NO_WIRE: "Code"
+    NO_ENTRY_AFTER_STAMP: "Code"
+    NO_KIND_OF_ENTRY: "Code"
+    NO_ENTRY: "Code"
+    NO_ENTRY_AT_END: "Code"
+    NO_TRANSCRIPT: "Code"
+    NETWORK_AND_NO_TRANSCRIPT: "Code"
+    NO_TRANSCRIPT_IN_ENCODING: "Code"
+    NO_ORDER_OF_ENTRIES: "Code"
+    WRONG_PROGRAM: "Code"
+    NODES: "Code"
+    NO_SUCH: "Code"
+    NOT_READY: "Code"
+    NOTHING_TO_PUT: "Code"
+    LINK_EMPTY: "Code"
+    PUT_LATER: "Code"
+    TAKEN_BEFORE_PUT: "Code"
+    WRONG_WIRE: "Code"
+    WRONG_STAMP: "Code"
+    OUT_OF_ORDER: "Code"
+    NOT_WHOLE: "Code"
+    STUCK: "Code"
+    NOT_RIGHT: "Code"
+    NO_PROVED_PROGRAM: "Code"
+    TRANSCRIPT_REFUSED: "Code"
+    ENTRY_REFUSED: "Code"
+    NOT_DUE: "Code"
+    TWO_STANDARD_INPUTS: "Code"
+    EDITION_OF_ROUNDS: "Code"
+    EDITION_OF_REACTIONS: "Code"
+    STEP_NOT_READY: "Code"
+    HAS_PULSES: "Code"
+    TOO_MANY_CLOCKS: "Code"
+    NO_WIRE_OF_SYNCHRONISER: "Code"
+    NO_WORD_TO_BEGIN: "Code"
+    PROGRAM_FOR_ROUNDS: "Code"
 
     # texts and programs that are asked for
-    NOT_READ = auto()
-    TEXT_TOO_LONG = auto()
-    NOT_BUILT = auto()
-    CANT_BE_RUN = auto()
-    ENDED_BY_SIGNAL = auto()
-    ENDED_BY_ITSELF = auto()
-    CALL_NOT_ENDED = auto()
-    OPTION_OF_OTHER_PROGRAM = auto()
-    NO_NAME_OF_A_PROGRAM = auto()
-    NO_PROGRAM = auto()
-    NO_ROOT = auto()
-    NO_FOREST = auto()
-    ONE_FOREST = auto()
-    FORESTS = auto()
+    NOT_READ: "Code"
+    TEXT_TOO_LONG: "Code"
+    NOT_BUILT: "Code"
+    CANT_BE_RUN: "Code"
+    ENDED_BY_SIGNAL: "Code"
+    ENDED_BY_ITSELF: "Code"
+    CALL_NOT_ENDED: "Code"
+    OPTION_OF_OTHER_PROGRAM: "Code"
+    NO_NAME_OF_A_PROGRAM: "Code"
+    NO_PROGRAM: "Code"
+    NO_ROOT: "Code"
+    NO_FOREST: "Code"
+    ONE_FOREST: "Code"
+    FORESTS: "Code"
 
     # programs in files
-    NO_FUNCTION = auto()
-    TOO_MANY_MARKS = auto()
-    NESTED_TOO_DEEP = auto()
-    NOT_COMPILED = auto()
-    FUNCTION_GONE = auto()
-    NO_PULSE_RETURNED = auto()
-    NO_WORDS_RETURNED = auto()
-    NOTHING_TO_DRAW_RETURNED = auto()
-    NOT_REPEATED = auto()
-    VARIABLE_CHANGED = auto()
-    NO_TRUTH_RETURNED = auto()
-    NOT_PYTHON = auto()
-    RAISED = auto()
-    NOTHING_TO_SEND = auto()
-    LIST_OF_OTHER_LENGTH = auto()
-    SENDS_NO_PAYLOAD = auto()
-    SENDS_IN_LAST_PULSE = auto()
-    CANT_BE_COPIED = auto()
-    NO_ROUNDS = auto()
-    RETURNS_SOMETHING = auto()
-    MAY_ACT_NO_TRUTH = auto()
-    CHANGES_ME = auto()
-    NO_WORD_OF_MESSAGE = auto()
-    HALF_OF_OWN_STEP = auto()
-    LACKS_FUNCTIONS_OF_REACTING = auto()
-    NODE_NOT_REPEATED = auto()
+    NO_FUNCTION: "Code"
+    TOO_MANY_MARKS: "Code"
+    NESTED_TOO_DEEP: "Code"
+    NOT_COMPILED: "Code"
+    FUNCTION_GONE: "Code"
+    NO_PULSE_RETURNED: "Code"
+    NO_WORDS_RETURNED: "Code"
+    NOTHING_TO_DRAW_RETURNED: "Code"
+    NOT_REPEATED: "Code"
+    VARIABLE_CHANGED: "Code"
+    NO_TRUTH_RETURNED: "Code"
+    NOT_PYTHON: "Code"
+    RAISED: "Code"
+    NOTHING_TO_SEND: "Code"
+    LIST_OF_OTHER_LENGTH: "Code"
+    SENDS_NO_PAYLOAD: "Code"
+    SENDS_IN_LAST_PULSE: "Code"
+    CANT_BE_COPIED: "Code"
+    NO_ROUNDS: "Code"
+    RETURNS_SOMETHING: "Code"
+    MAY_ACT_NO_TRUTH: "Code"
+    CHANGES_ME: "Code"
+    NO_WORD_OF_MESSAGE: "Code"
+    HALF_OF_OWN_STEP: "Code"
+    LACKS_FUNCTIONS_OF_REACTING: "Code"
+    NODE_NOT_REPEATED: "Code"
 
     # runs and schedules
-    NO_FUNCTION_RIGHT = auto()
-    OTHER_IN_OTHER_ORDER = auto()
-    TOO_MANY_FOR_SCHEDULES = auto()
-    TOO_MANY_WITHOUT_RIGHT = auto()
-    TOO_MANY_STATES = auto()
-    TOO_MANY_STATES_LEFT = auto()
-    EVENT_REFUSED = auto()
-    OVERTAKES = auto()
-    NO_EVENT = auto()
-    NO_EDGE = auto()
-    NO_NODE = auto()
-    STEP_NOT_POSSIBLE = auto()
-    EVENT_NOT_POSSIBLE = auto()
-    RUNS_OF_ROUNDS = auto()
-    NO_SYNCHRONISER = auto()
-    NOTHING_TO_REDUCE = auto()
-    TOO_MANY_STATES_OF_REACTING = auto()
-    STATES_GROW = auto()
-    RUN_WITHOUT_END = auto()
-    RUN_NOT_ENDED = auto()
-    TOO_MANY_UNDER_WAY = auto()
+    NO_FUNCTION_RIGHT: "Code"
+    OTHER_IN_OTHER_ORDER: "Code"
+    TOO_MANY_FOR_SCHEDULES: "Code"
+    TOO_MANY_WITHOUT_RIGHT: "Code"
+    TOO_MANY_STATES: "Code"
+    TOO_MANY_STATES_LEFT: "Code"
+    EVENT_REFUSED: "Code"
+    OVERTAKES: "Code"
+    NO_EVENT: "Code"
+    NO_EDGE: "Code"
+    NO_NODE: "Code"
+    STEP_NOT_POSSIBLE: "Code"
+    EVENT_NOT_POSSIBLE: "Code"
+    RUNS_OF_ROUNDS: "Code"
+    NO_SYNCHRONISER: "Code"
+    NOTHING_TO_REDUCE: "Code"
+    TOO_MANY_STATES_OF_REACTING: "Code"
+    STATES_GROW: "Code"
+    RUN_WITHOUT_END: "Code"
+    RUN_NOT_ENDED: "Code"
+    TOO_MANY_UNDER_WAY: "Code"
 
     # pictures
-    NO_PARENT_OF_NODE = auto()
-    NO_PARENT = auto()
-    GOES_RIGHT = auto()
-    FILM_TOO_LONG = auto()
-    NO_TEXT_TO_DRAW = auto()
-    NO_FORESTS = auto()
-    NO_CHANNELS_OF_PROGRAM = auto()
-    NO_NODE_TO_DRAW = auto()
-    RUN_TOO_LONG_TO_DRAW = auto()
-    TWO_RUNS = auto()
-    TWO_RUNS_WITHOUT_ROUNDS = auto()
-    ONE_STANDARD_INPUT = auto()
-    PLAN_NOT_PROPER = auto()
-    TOO_MANY_PULSES = auto()
-    NO_NODE_BEGINS_PULSE = auto()
-    TOO_MANY_STATES_TO_DRAW = auto()
-    OUTSIDE_OF_RUN = auto()
-    NODES_OF_TRANSCRIPT = auto()
-    TOO_MANY_ENTRIES = auto()
-    NO_VERTEX_OF_NETWORK = auto()
-    NODE_IN_NO_FOREST = auto()
-    TOO_MANY_OF_KIND = auto()
-    OPTION_OF_ROUNDS = auto()
+    NO_PARENT_OF_NODE: "Code"
+    NO_PARENT: "Code"
+    GOES_RIGHT: "Code"
+    FILM_TOO_LONG: "Code"
+    NO_TEXT_TO_DRAW: "Code"
+    NO_FORESTS: "Code"
+    NO_CHANNELS_OF_PROGRAM: "Code"
+    NO_NODE_TO_DRAW: "Code"
+    RUN_TOO_LONG_TO_DRAW: "Code"
+    TWO_RUNS: "Code"
+    TWO_RUNS_WITHOUT_ROUNDS: "Code"
+    ONE_STANDARD_INPUT: "Code"
+    PLAN_NOT_PROPER: "Code"
+    TOO_MANY_PULSES: "Code"
+    NO_NODE_BEGINS_PULSE: "Code"
+    TOO_MANY_STATES_TO_DRAW: "Code"
+    OUTSIDE_OF_RUN: "Code"
+    NODES_OF_TRANSCRIPT: "Code"
+    TOO_MANY_ENTRIES: "Code"
+    NO_VERTEX_OF_NETWORK: "Code"
+    NODE_IN_NO_FOREST: "Code"
+    TOO_MANY_OF_KIND: "Code"
+    OPTION_OF_ROUNDS: "Code"
 
     # the workshop
-    NO_LIBSECCOMP = auto()
-    CALLS_NOT_WRITTEN = auto()
-    NO_BUBBLEWRAP = auto()
-    BUBBLEWRAP_REFUSES = auto()
-    CHECK_ENDS = auto()
-    PLAIN_ENDS = auto()
-    NETWORK_REFUSED = auto()
-    NOT_STARTED = auto()
-    FOLDER_NOT_READ = auto()
-    NO_SUBMISSION = auto()
-    FOLDER_IS_A_LINK = auto()
-    NO_PROGRAM_OF_ASSIGNMENT = auto()
-    PROGRAM_CANT_BE_RUN = auto()
-    COMMANDS_IS_A_LINK = auto()
-    COMMANDS_NOT_READ = auto()
-    SEVERAL_COMMANDS = auto()
-    OUTSIDE_OF_FOLDER = auto()
-    FOLDER_TOO_LARGE = auto()
-    PIPE_IN_FOLDER = auto()
-    SEVERAL_PROGRAMS = auto()
-    REPLAY_ENDS = auto()
+    NO_LIBSECCOMP: "Code"
+    CALLS_NOT_WRITTEN: "Code"
+    NO_BUBBLEWRAP: "Code"
+    BUBBLEWRAP_REFUSES: "Code"
+    CHECK_ENDS: "Code"
+    PLAIN_ENDS: "Code"
+    NETWORK_REFUSED: "Code"
+    NOT_STARTED: "Code"
+    FOLDER_NOT_READ: "Code"
+    NO_SUBMISSION: "Code"
+    FOLDER_IS_A_LINK: "Code"
+    NO_PROGRAM_OF_ASSIGNMENT: "Code"
+    PROGRAM_CANT_BE_RUN: "Code"
+    COMMANDS_IS_A_LINK: "Code"
+    COMMANDS_NOT_READ: "Code"
+    SEVERAL_COMMANDS: "Code"
+    OUTSIDE_OF_FOLDER: "Code"
+    FOLDER_TOO_LARGE: "Code"
+    PIPE_IN_FOLDER: "Code"
+    SEVERAL_PROGRAMS: "Code"
+    REPLAY_ENDS: "Code"
 
     # addresses of the studio
-    NO_NODE_OF_ADDRESS = auto()
-    NO_LINK = auto()
-    NO_WHOLE_NUMBER = auto()
-    NUMBER_OUTSIDE = auto()
-    NUMBER_FROM_0 = auto()
-    NO_STEP = auto()
-    TOO_MANY_STEPS = auto()
-    TOO_MANY_CHANNELS = auto()
-    NO_RULE = auto()
-    RULE_TWICE = auto()
-    NOT_AMONG = auto()
-    ADDRESS_TOO_LONG = auto()
-    ADDRESS_NOT_READ = auto()
-    NO_SUCH_NAME = auto()
-    NAME_TWICE = auto()
-    NO_ADDRESS = auto()
-    NO_DARE_IN_ADDRESS = auto()
-    NO_NETWORK_IN_ADDRESS = auto()
-    NO_LETTER_OF_PERCENT = auto()
-    PART_OF_NETWORK = auto()
-    NO_PLACE = auto()
-    OF_NO_NODE = auto()
-    WRONG_EDGE = auto()
-    EDGE_TWICE = auto()
-    IDENTIFIER_NO_NUMBER = auto()
-    TWO_IDENTIFIERS = auto()
-    CHANNEL_NOT_TO_BAR = auto()
-    BARRED_TWICE = auto()
-    TWO_NAMES = auto()
-    NO_DARE = auto()
-    NO_TWO_JOINED = auto()
-    NO_LESSON_OF_STEP = auto()
+    NO_NODE_OF_ADDRESS: "Code"
+    NO_LINK: "Code"
+    NO_WHOLE_NUMBER: "Code"
+    NUMBER_OUTSIDE: "Code"
+    NUMBER_FROM_0: "Code"
+    NO_STEP: "Code"
+    TOO_MANY_STEPS: "Code"
+    TOO_MANY_CHANNELS: "Code"
+    NO_RULE: "Code"
+    RULE_TWICE: "Code"
+    NOT_AMONG: "Code"
+    ADDRESS_TOO_LONG: "Code"
+    ADDRESS_NOT_READ: "Code"
+    NO_SUCH_NAME: "Code"
+    NAME_TWICE: "Code"
+    NO_ADDRESS: "Code"
+    NO_DARE_IN_ADDRESS: "Code"
+    NO_NETWORK_IN_ADDRESS: "Code"
+    NO_LETTER_OF_PERCENT: "Code"
+    PART_OF_NETWORK: "Code"
+    NO_PLACE: "Code"
+    OF_NO_NODE: "Code"
+    WRONG_EDGE: "Code"
+    EDGE_TWICE: "Code"
+    IDENTIFIER_NO_NUMBER: "Code"
+    TWO_IDENTIFIERS: "Code"
+    CHANNEL_NOT_TO_BAR: "Code"
+    BARRED_TWICE: "Code"
+    TWO_NAMES: "Code"
+    NO_DARE: "Code"
+    NO_TWO_JOINED: "Code"
+    NO_LESSON_OF_STEP: "Code"
 
     # calls of the studio
-    NO_NODE_YET = auto()
-    PASSES = auto()
-    NO_NODE_AS_ROOT = auto()
-    NO_SUCH_RULE = auto()
-    NO_ROUNDS_HERE = auto()
-    ROUNDS_HERE = auto()
-    HAS_ROUNDS = auto()
-    OTHER_FORM = auto()
-    NO_FILE_OF_PROGRAM = auto()
-    NO_NODE_OF_FIELD = auto()
-    ONE_IDENTIFIER_NOW = auto()
-    TOO_MANY_TO_DRAW = auto()
-    TOO_MANY_FOR_RUN = auto()
-    TOO_MANY_FOR_ROUNDS = auto()
-    NO_RT = auto()
-    NOTHING_BUILT = auto()
-    NO_TEXT = auto()
-    HALF_A_LETTER = auto()
-    NO_NUMBER_IN_FIELD = auto()
-    NUMBER_OF_FIELD_TOO_GREAT = auto()
-    NO_TRUTH = auto()
-    NO_BASE_64 = auto()
-    ASKED_FOR = auto()
-    NO_OBJECT = auto()
-    NOT_THERE = auto()
-    NO_FIELD = auto()
-    FIELD_MISSING = auto()
-    FIELD_REFUSED = auto()
-    NO_CALL = auto()
-    FIELD_TWICE = auto()
-    OUTPUT_TOO_LONG = auto()
-    PROGRAM_REFUSES = auto()
-    PROGRAM_ENDED = auto()
-    OTHER_ROUNDS = auto()
-    NO_EXAMPLE = auto()
-    EXAMPLE_AND_NETWORK = auto()
-    TWO_NETWORKS = auto()
-    NO_TEXT_OF_NETWORK = auto()
-    NUMBER_ASKED_FOR = auto()
-    TOO_MANY_TO_MAKE = auto()
-    OPTIONS_REFUSED = auto()
-    NO_PULSE = auto()
-    NO_COLOUR_YET = auto()
-    NO_FOREST_OF_FIELD = auto()
-    PLAN_OF_FIELD = auto()
-    NO_RULE_LEFT_OUT = auto()
-    PICTURE_TOO_LARGE = auto()
-    NO_TRANSCRIPT_OF_FIELD = auto()
-    NO_TWO_PULSES = auto()
-    NOT_IN_NETWORK = auto()
-    NO_POLICY = auto()
-    NO_THREADS = auto()
-    TOO_MANY_STEPS_BY_HAND = auto()
-    RUN_TOO_LONG = auto()
-    RUN_TOO_LONG_UNBUILT = auto()
-    OWN_FILE = auto()
-    PORT_REFUSED = auto()
-    FOLDER_NOT_EMPTY = auto()
-    NOT_PUBLISHED = auto()
-    NO_PORT = auto()
-    NO_LESSON = auto()
-    NO_STEP_OF_LESSON = auto()
-    NO_EXERCISE = auto()
-    NO_ROW_YET = auto()
-    ROW_OF_NONE = auto()
-    ROW_OF_ONE = auto()
-    ROW_OF_OTHER_LENGTH = auto()
+    NO_NODE_YET: "Code"
+    PASSES: "Code"
+    NO_NODE_AS_ROOT: "Code"
+    NO_SUCH_RULE: "Code"
+    NO_ROUNDS_HERE: "Code"
+    ROUNDS_HERE: "Code"
+    HAS_ROUNDS: "Code"
+    OTHER_FORM: "Code"
+    NO_FILE_OF_PROGRAM: "Code"
+    NO_NODE_OF_FIELD: "Code"
+    ONE_IDENTIFIER_NOW: "Code"
+    TOO_MANY_TO_DRAW: "Code"
+    TOO_MANY_FOR_RUN: "Code"
+    TOO_MANY_FOR_ROUNDS: "Code"
+    NO_RT: "Code"
+    NOTHING_BUILT: "Code"
+    NO_TEXT: "Code"
+    HALF_A_LETTER: "Code"
+    NO_NUMBER_IN_FIELD: "Code"
+    NUMBER_OF_FIELD_TOO_GREAT: "Code"
+    NO_TRUTH: "Code"
+    NO_BASE_64: "Code"
+    ASKED_FOR: "Code"
+    NO_OBJECT: "Code"
+    NOT_THERE: "Code"
+    NO_FIELD: "Code"
+    FIELD_MISSING: "Code"
+    FIELD_REFUSED: "Code"
+    NO_CALL: "Code"
+    FIELD_TWICE: "Code"
+    OUTPUT_TOO_LONG: "Code"
+    PROGRAM_REFUSES: "Code"
+    PROGRAM_ENDED: "Code"
+    OTHER_ROUNDS: "Code"
+    NO_EXAMPLE: "Code"
+    EXAMPLE_AND_NETWORK: "Code"
+    TWO_NETWORKS: "Code"
+    NO_TEXT_OF_NETWORK: "Code"
+    NUMBER_ASKED_FOR: "Code"
+    TOO_MANY_TO_MAKE: "Code"
+    OPTIONS_REFUSED: "Code"
+    NO_PULSE: "Code"
+    NO_COLOUR_YET: "Code"
+    NO_FOREST_OF_FIELD: "Code"
+    PLAN_OF_FIELD: "Code"
+    NO_RULE_LEFT_OUT: "Code"
+    PICTURE_TOO_LARGE: "Code"
+    NO_TRANSCRIPT_OF_FIELD: "Code"
+    NO_TWO_PULSES: "Code"
+    NOT_IN_NETWORK: "Code"
+    NO_POLICY: "Code"
+    NO_THREADS: "Code"
+    TOO_MANY_STEPS_BY_HAND: "Code"
+    RUN_TOO_LONG: "Code"
+    RUN_TOO_LONG_UNBUILT: "Code"
+    OWN_FILE: "Code"
+    PORT_REFUSED: "Code"
+    FOLDER_NOT_EMPTY: "Code"
+    NOT_PUBLISHED: "Code"
+    NO_PORT: "Code"
+    NO_LESSON: "Code"
+    NO_STEP_OF_LESSON: "Code"
+    NO_EXERCISE: "Code"
+    NO_ROW_YET: "Code"
+    ROW_OF_NONE: "Code"
+    ROW_OF_ONE: "Code"
+    ROW_OF_OTHER_LENGTH: "Code"
 
     # the build
-    NO_NAME_FOR_A_PROGRAM = auto()
-    NAME_TAKEN = auto()
-    NO_COMMIT = auto()
-    NO_WRONG_BODY = auto()
+    NO_NAME_FOR_A_PROGRAM: "Code"
+    NAME_TAKEN: "Code"
+    NO_COMMIT: "Code"
+    NO_WRONG_BODY: "Code"
