@@ -61,6 +61,8 @@ SURELY = 3.0
 # On a page circles have at most this part of the room as their radius, of its width and of its height; and so many
 # times their usual radius.
 PART_OF_ROOM, PART_OF_WIDTH, PART_OF_HEIGHT, MUCH_ROOM = 18.0, 16.0, 10.0, 1.4
+# How far below a node the pair of its turn is drawn, in radii.
+PAIR_BELOW = 2.1
 # What rings take around a circle, a label above it, and words below it; half the width of these. The least size of a
 # label.
 AROUND, LABEL_HIGH, WORDS_BELOW, WORDS_HALF, LEAST_LABEL = 8.0, 14.0, 18.0, 46.0, 10.0
@@ -135,7 +137,7 @@ def margins_of(
     these, for labels and for what is written below them."""
     aside = max(radius + AROUND, half_label, WORDS_HALF) + BESIDE
     above = radius + AROUND + LABEL_HIGH
-    below = radius + AROUND + WORDS_BELOW
+    below = max(radius + AROUND + WORDS_BELOW, PAIR_BELOW * radius)
     return (min(aside, wide / 6), min(above, high / 4), min(below, high / 4))
 
 

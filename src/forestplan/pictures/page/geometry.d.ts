@@ -29,6 +29,7 @@ export const PART_OF_ROOM: number;
 export const PART_OF_WIDTH: number;
 export const PART_OF_HEIGHT: number;
 export const MUCH_ROOM: number;
+export const PAIR_BELOW: number;
 export const AROUND: number;
 export const LABEL_HIGH: number;
 export const WORDS_BELOW: number;

@@ -1,5 +1,5 @@
 // A picture of a network: where things are on the screen, what is drawn, and what is under the pointer.
-import {CORNER, WORDS_BELOW, along, bendsOf, fitted, headOf, isCrowd, labelHalf, labelSize, labelsAt, largestIn, leastApart, marginsOf, onLink, radiusIn,
+import {CORNER, SHRINK, SMALL_RADIUS, WORDS_BELOW, along, bendsOf, fitted, headOf, isCrowd, labelHalf, labelSize, labelsAt, largestIn, leastApart, marginsOf, onLink, radiusIn,
   radiusPassed, towardsOf, wordsWide} from "./geometry.js";
 import {BAR_GAP, BAR_RADIUS, MOST_BARS, NEXT_RING, OUTER_RING, RING_GAP} from "./hues.js";
 import {HALO, barMark, mark, patch, textMark} from "./marks.js";
@@ -45,6 +45,8 @@ export class Stage {
     /** @type {string[]} */
     this.drawn = [];
     this.sized = "";
+    // Whether the radius has just been found, and may be too large for labels.
+    this.isFresh = false;
     /** @type {number[][]} */
     this.close = [];
     // How far what is around a node goes beyond its circle.
@@ -169,15 +171,16 @@ export class Stage {
     this.places = nodes.map((_, k) => this.place(k + 1));
     if (sized === this.sized) return;
     this.sized = sized;
+    this.isFresh = true;
     this.least = Math.min(1e9, leastApart(this.places));
     this.radius = radiusPassed(this.places, edges, radiusIn(this.least, apart, largestIn(wide, high, largest), hasWords ? WORDS_BELOW : 0), this.room());
   }
-  // Then bends and labels. `isBelow` says that something is written below each node, `isBarred` that its barred channels
-  // are drawn.
-  /** @param {boolean} isBelow @param {boolean} isBarred */
-  measure(isBelow, isBarred) {
+  // Then bends and labels. `isBelow` says that something is below each node, `hasWords` that it is words, and `isBarred`
+  // that its barred channels are drawn.
+  /** @param {boolean} isBelow @param {boolean} hasWords @param {boolean} isBarred */
+  measure(isBelow, hasWords, isBarred) {
     const {places, texts, radius, wide, high} = this, {nodes, edges} = this.net, bars = isBarred && nodes.map(n => n.bars.length);
-    const now = JSON.stringify([places, edges, texts, radius, wide, high, isBelow, bars]);
+    const now = JSON.stringify([places, edges, texts, radius, wide, high, isBelow, hasWords, bars]);
     if (now === this.key) return;
     this.still = [];
     // In a crowd bends and labels stay while a node is dragged, but for its own label.
@@ -190,7 +193,14 @@ export class Stage {
     this.bends = new Map(edges.map(([a, b], k) => [a + " " + b, bends[k]]));
     const boxes = texts.map(own => own.map(({said, size}) => /** @type {Point} */ ([labelHalf(said.length, size), 0.55 * size])));
     this.measured = places.slice();
-    this.spots = labelsAt(places, edges, bends, radius, CORNER * radius, boxes, this.taken(isBelow, isBarred), wide, high);
+    this.spots = labelsAt(places, edges, bends, radius, CORNER * radius, boxes, this.taken(isBelow, hasWords, isBarred), wide, high);
+  }
+  // Makes circles smaller if a label has no room, but for a crowd's; and says whether it has.
+  shrinks() {
+    const {nodes, edges} = this.net, isFree = this.spots.every(([text], k) => text >= 0 || !this.texts[k].length);
+    this.isFresh = this.isFresh && !isFree && this.radius > SMALL_RADIUS && !isCrowd(nodes.length, edges.length);
+    if (this.isFresh) this.radius = Math.max(SMALL_RADIUS, SHRINK * this.radius);
+    return this.isFresh;
   }
   // How wide what is written below a node may be, whose circle is here.
   /** @param {number} x @param {number} y */
@@ -200,15 +210,18 @@ export class Stage {
     this.spots[v - 1] = [text, side, x + toX - fromX, y + toY - fromY];
     this.measured[v - 1] = [toX, toY];
   }
-  // Where something else is written: below nodes, and their barred channels.
-  /** @param {boolean} isBelow @param {boolean} isBarred @returns {Box[]} */
-  taken(isBelow, isBarred) {
-    const r = this.radius, high = Math.max(r, 24) / 2, wide = Math.max(1.35 * r, Math.min(this.least / 2, 44));
+  // Where something else is: words or a pair below nodes, and their barred channels.
+  /** @param {boolean} isBelow @param {boolean} hasWords @param {boolean} isBarred @returns {Box[]} */
+  taken(isBelow, hasWords, isBarred) {
+    const r = this.radius;
     /** @type {Box[]} */
     const found = [];
+    /** @type {(x: number, y: number) => Box} */
+    const below = (x, y) => hasWords ? [x, y + r + WORDS_BELOW / 2, Math.min(44, this.roomBelow(x, y) / 2), WORDS_BELOW / 2]
+      : [x - 0.45 * r, y + 1.55 * r, 0.9 * r, 0.45 * r];
     this.places.forEach(([x, y], k) => {
       const bars = isBarred ? Math.min(this.net.nodes[k].bars.length, MOST_BARS + 1) : 0;
-      if (isBelow) found.push([x, y + r + high, wide, high]);
+      if (isBelow) found.push(below(x, y));
       if (bars) found.push([x + r - 1 + bars * BAR_STEP / 2, y + r + 5, bars * BAR_STEP / 2, BAR_RADIUS]);
     });
     return found;
@@ -263,8 +276,10 @@ export class Stage {
     /** @type {(v: number) => string} */
     const saidOf = v => label ? label(v) : nameOf(this.net, v);
     this.space(words);
-    this.texts = this.textsOf(saidOf);
-    this.measure(below, bars);
+    do {
+      this.texts = this.textsOf(saidOf);
+      this.measure(below, words, bars);
+    } while (this.shrinks());
     const isStill = still && still.length === this.still.length && still.every((one, k) => one === this.still[k]);
     this.still = still || [];
     if (!isStill) {
