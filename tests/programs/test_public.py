@@ -13,7 +13,7 @@ import subprocess
 import sys
 import textwrap
 from collections.abc import Iterator
-from types import ModuleType
+from types import FunctionType, ModuleType
 
 from tests import TOP
 from tests.cases import Case
@@ -87,9 +87,9 @@ def own_methods(what: type) -> Iterator[tuple[str, object]]:
             yield name, member
 
 
-def raises(what: object) -> bool:
+def raises(what: FunctionType) -> bool:
     """Whether a function raises something itself."""
-    tree = ast.parse(textwrap.dedent(inspect.getsource(what)))  # type: ignore[arg-type]
+    tree = ast.parse(textwrap.dedent(inspect.getsource(what)))
     return any(isinstance(node, ast.Raise) for node in ast.walk(tree))
 
 
