@@ -5,7 +5,7 @@
 It prints the channels and the processor seconds: of a program, with reading and writing, or of networkx, whose graph is
 there already. The programs have to be built, and networkx has to be installed. What isn't proper ends it.
 
-DSATUR (D. Brelaz, New methods to color the vertices of a graph, 1979) and smallest last (D. W. Matula and L. L. Beck,
+DSATUR (D. Brelaz, New methods to color the nodes of a graph, 1979) and smallest last (D. W. Matula and L. L. Beck,
 Smallest-last ordering and clustering and graph coloring algorithms, 1983) look at the whole network, one node after the
 other; our nodes know their neighbours alone. Largest first (D. J. A. Welsh and M. B. Powell, An upper bound for the
 chromatic number of a graph, 1967) is what networkx takes by default."""
@@ -59,7 +59,7 @@ MOST = 2000
 def by_program(network, name, *arguments):
     """The channel of each node by a program, in whose lines it is the last word."""
     rows = proved_programs.output_of(name, arguments, plain_text(network).encode()).splitlines()
-    return {v: int(row.split()[-1]) for v, row in zip(network.vertices, rows[-network.nodes :])}
+    return {v: int(row.split()[-1]) for v, row in zip(network.node_numbers, rows[-network.nodes :])}
 
 
 def cell(network, part, work, *given):

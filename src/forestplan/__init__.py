@@ -28,7 +28,7 @@ modules are for those who read the sources.
     interface           what `import forestplan` gives: the calls above
     studio              the page on which a network is drawn and everything of it moves, and its server
 
-Make a network: of a kind with its size, of your own edges, an example, or a file. Vertices are numbers from 1.
+Make a network: of a kind with its size, of your own edges, an example, or a file. Nodes are numbers from 1.
 
 >>> import forestplan
 >>> ring = forestplan.networks.ring(5)
@@ -75,7 +75,7 @@ Draw a picture, and write it into a file. ``forestplan.pictures.KINDS`` has the 
 
 What all packages share:
 
-    network             what a network is: vertices, edges, identifiers, barred channels, forests
+    network             what a network is: nodes, edges, identifiers, barred channels, forests
     limits              the programs' limits: nodes, edges, neighbours, channels, workers, passes
     fault_codes         the codes of all faults
     faults              the exception `Fault`, with a code, a place and a subject

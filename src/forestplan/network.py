@@ -9,12 +9,12 @@ Places = Mapping[int, tuple[float, float]]
 
 @dataclass(eq=False, repr=False)
 class Network:
-    """The vertices from 1 to `nodes`, and the edges between them: `edges` has pairs, the lower vertex first, ascending,
-    and `neighbours[v]` vertices, ascending.
+    """The nodes from 1 to `nodes`, and the edges between them: `edges` has pairs, the lower node first, ascending,
+    and `neighbours[v]` nodes, ascending.
 
     `given_identifiers[v]` is an identifier that v was given, below 2^128, and `identifiers[v]` that or v. `bars[v]` are
     the channels from 1 that are barred at v, ascending, if some are; `barred[v]` are the same as colours from 0, a set
-    of each vertex. `names[v]` and `places[v]`, as (x, y) with y growing downwards, are there where they are known, and
+    of each node. `names[v]` and `places[v]`, as (x, y) with y growing downwards, are there where they are known, and
     `name` is what the network is called.
 
     `higher[v]` are the neighbours with a higher identifier, by ascending identifier: entry f is v's parent in forest f.
@@ -27,7 +27,7 @@ class Network:
     >>> path.identifiers, path.higher
     ({1: 1, 2: 17, 3: 3}, {1: [2], 2: [], 3: [2]})
 
-    Raises ValueError if an edge joins a vertex to itself, or names one that isn't there.
+    Raises ValueError if an edge joins a node to itself, or names one that isn't there.
     """
 
     nodes: int
@@ -39,18 +39,18 @@ class Network:
     name: str = ""
 
     def __post_init__(self) -> None:
-        self.vertices = range(1, self.nodes + 1)
+        self.node_numbers = range(1, self.nodes + 1)
         self.edges = sorted({(min(edge), max(edge)) for edge in self.edges})
-        self.neighbours: dict[int, list[int]] = {v: [] for v in self.vertices}
+        self.neighbours: dict[int, list[int]] = {v: [] for v in self.node_numbers}
         for v, w in self.edges:
             if not 1 <= v < w <= self.nodes:
                 raise ValueError(
-                    f"({v}, {w}) is no edge: it joins two different vertices from 1 to {self.nodes}"
+                    f"({v}, {w}) is no edge: it joins two different nodes from 1 to {self.nodes}"
                 )
             self.neighbours[v].append(w)
             self.neighbours[w].append(v)
         self.identifiers: dict[int, int] = {
-            v: self.given_identifiers.get(v, v) for v in self.vertices
+            v: self.given_identifiers.get(v, v) for v in self.node_numbers
         }
         self.bars = {v: sorted(channels) for v, channels in sorted(self.bars.items()) if channels}
         self.greatest_degree = max(map(len, self.neighbours.values()), default=0)
@@ -60,14 +60,14 @@ class Network:
 
     @cached_property
     def barred(self) -> dict[int, frozenset[int]]:
-        """The colours from 0 that are barred at each vertex."""
+        """The colours from 0 that are barred at each node."""
         return {
-            v: frozenset(channel - 1 for channel in self.bars.get(v, ())) for v in self.vertices
+            v: frozenset(channel - 1 for channel in self.bars.get(v, ())) for v in self.node_numbers
         }
 
     @cached_property
     def higher(self) -> dict[int, list[int]]:
-        """The parents of each vertex, by forest."""
+        """The parents of each node, by forest."""
         own = self.identifiers
         return {
             v: sorted((w for w in near if own[w] > own[v]), key=own.__getitem__)

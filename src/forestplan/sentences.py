@@ -12,33 +12,33 @@ SENTENCES: dict[Code, str] = {
     Code.NO_PROBLEM_LINE: "no `p edge NODES EDGES`: `{row}` (F4)",
     Code.NODES_ABOVE_LIMIT: "more than {most} nodes (F7)",
     Code.NO_SUCH_LINE: "no `{word} {form}`: `{row}` (F4)",
-    Code.NO_VERTEX: "there is no vertex {vertex}: there are {nodes}, from 1 on (F5)",
+    Code.NO_NODE_OF_LINE: "there is no node {node}: there are {nodes}, from 1 on (F5)",
     Code.NO_CHANNEL_TO_BAR: "channel {channel} can't be barred, only 1 to {most} can (F13)",
-    Code.LOOP: "an edge from vertex {vertex} to itself (F6)",
+    Code.LOOP: "an edge from node {node} to itself (F6)",
     Code.SECOND_EDGE_LIMIT: "more than {most} different edges (F7)",
     Code.IDENTIFIER_ABOVE_LIMIT: "the identifier is 2^128 or more (F11)",
-    Code.SECOND_IDENTIFIER: "a second identifier of vertex {vertex} (F12)",
-    Code.BARS_ABOVE_LIMIT: "more than {most} channels are barred at vertex {vertex} (F14)",
+    Code.SECOND_IDENTIFIER: "a second identifier of node {node} (F12)",
+    Code.BARS_ABOVE_LIMIT: "more than {most} channels are barred at node {node} (F14)",
     Code.PROBLEM_LINE_MISSING: "there is no line `p edge NODES EDGES` (F1)",
     Code.TOO_MANY_NODES: "{nodes} nodes, and a network has at most {most}",
     Code.TOO_MANY_EDGES: "more than {most} edges, the most that a network has",
     Code.TOO_MANY_NEIGHBOURS: (
-        "vertex {vertex}{name:? (~)} has {neighbours} neighbours, more than {most} (N1)"
+        "node {node}{name:? (~)} has {neighbours} neighbours, more than {most} (N1)"
     ),
-    Code.ONE_IDENTIFIER_TWICE: "vertices {vertex} and {other} have one identifier (N2)",
+    Code.ONE_IDENTIFIER_TWICE: "nodes {node} and {other} have one identifier (N2)",
     Code.EDGE_BEFORE_PROBLEM_LINE: "{what} before the line `p edge NODES EDGES` (F3)",
     Code.BEFORE_PROBLEM_LINE: "{what} before the line `p edge NODES EDGES` (F10)",
     # plans
     Code.NO_PLAN: "no line `plan` (C6)",
-    Code.NO_LINE_OF_A_PLAN: "no vertex and its channel: `{row}` (C6)",
-    Code.PLAN_OF_OTHER_VERTEX: "vertex {vertex} is not one of 1 to {nodes} (C2)",
-    Code.SECOND_LINE_OF_VERTEX: "vertex {vertex} has a second line (C3)",
+    Code.NO_LINE_OF_A_PLAN: "no node and its channel: `{row}` (C6)",
+    Code.PLAN_OF_OTHER_NODE: "node {node} is not one of 1 to {nodes} (C2)",
+    Code.SECOND_PLAN_LINE: "node {node} has a second line (C3)",
     Code.CHANNEL_ABOVE_LIMIT: (
-        "vertex {vertex} has channel {channel}, which is above {channels} (C5); if it is a "
+        "node {node} has channel {channel}, which is above {channels} (C5); if it is a "
         "real channel number: forestlab channels --back TABLE"
     ),
-    Code.CHANNEL_BARRED: ("vertex {vertex} has channel {channel}, which is barred at it (C8)"),
-    Code.VERTEX_WITHOUT_LINE: "vertex {vertex} has no line (C1)",
+    Code.CHANNEL_BARRED: ("node {node} has channel {channel}, which is barred at it (C8)"),
+    Code.NO_PLAN_LINE: "node {node} has no line (C1)",
     Code.NO_CHANNELS: "`{word}` is no file, no channel, and no range as 1-13 or 36-64/4",
     Code.NO_RANGE: (
         "`{word}` names no channel, or more than {most}, or its last one isn't reached"
@@ -99,7 +99,7 @@ SENTENCES: dict[Code, str] = {
     ),
     Code.SECOND_LINE_OF_NODE: "a second line of {node}",
     Code.NODE_WITHOUT_LINE: "{node} has no line of its own: is the text cut?",
-    Code.ONE_NAME_TWICE: "vertices {vertex} and {other} are both called {name}",
+    Code.ONE_NAME_TWICE: "nodes {node} and {other} are both called {name}",
     # forms of other programs
     Code.NO_NETWORKX: "{form} is read by networkx, which isn't installed ({package})",
     Code.NETWORKX_REFUSES: "networkx can't read it as {form}: {why}",
@@ -157,7 +157,7 @@ SENTENCES: dict[Code, str] = {
         "names: standard input has the plan, so the network has to be a file"
     ),
     Code.PLAN_OF_OTHER_NETWORK: (
-        "{name} isn't of this network, whose vertices have a line each, in order"
+        "{name} isn't of this network, whose nodes have a line each, in order"
     ),
     # transcripts
     Code.NO_PAYLOAD_OF: (
@@ -364,7 +364,7 @@ SENTENCES: dict[Code, str] = {
         "the run can't end within {most:,} entries (messages sent and not yet taken: {under_way:,})"
     ),
     # pictures
-    Code.NO_PARENT_OF_NODE: "forest {forest} gives no parent to node {vertex}",
+    Code.NO_PARENT_OF_NODE: "forest {forest} gives no parent to node {node}",
     Code.NO_PARENT: "forest {forest} gives no parent to any node",
     Code.GOES_RIGHT: "{where} without {without}",
     Code.FILM_TOO_LONG: (
@@ -398,7 +398,7 @@ SENTENCES: dict[Code, str] = {
         "pulses {first} to {last} have {entries:,} entries, and a page shows at most "
         "{most:,}: name fewer with --pulses"
     ),
-    Code.NO_VERTEX_OF_NETWORK: "{name} has no vertex {vertex}",
+    Code.NO_NODE_OF_NETWORK: "{name} has no node {node}",
     Code.NODE_IN_NO_FOREST: (
         "node {node} of {name} is in no forest, so no message decided its channel"
     ),
@@ -492,9 +492,9 @@ SENTENCES: dict[Code, str] = {
         "round: end the studio and begin it again"
     ),
     Code.NO_FILE_OF_PROGRAM: "there is no file of your own of the name {name}",
-    Code.NO_NODE_OF_FIELD: "the field vertex: there is no node {vertex}",
+    Code.NO_NODE_OF_FIELD: "the field node: there is no node {node}",
     Code.ONE_IDENTIFIER_NOW: (
-        "nodes {vertex} and {other} have one identifier now: give one of them another"
+        "nodes {node} and {other} have one identifier now: give one of them another"
     ),
     Code.TOO_MANY_TO_DRAW: "the studio draws at most {most} nodes, and here are {nodes}",
     Code.TOO_MANY_FOR_RUN: (

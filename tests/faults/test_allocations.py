@@ -9,7 +9,7 @@ from tests.faults.test_refused_memory import build_front, under
 from tests.settings import CRATE_TESTS, PLAN, PLAY
 from tests.tools import needs
 
-# Six nodes, five edges and the degrees 1 and 5 each. With the greatest vertex in the middle there is one forest, and 30
+# Six nodes, five edges and the degrees 1 and 5 each. With the greatest node in the middle there is one forest, and 30
 # rounds; with the least there are five, and 102 rounds.
 STAR_AT_6 = b"p edge 6 5\ne 1 6\ne 2 6\ne 3 6\ne 4 6\ne 5 6\n"
 STAR_AT_1 = b"p edge 6 5\ne 1 2\ne 1 3\ne 1 4\ne 1 5\ne 1 6\n"

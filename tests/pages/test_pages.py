@@ -74,7 +74,7 @@ def greatest_colours(digits):
 
 def forest_table(net, f):
     """The colours in a forest, pulse by pulse; those that a drop has changed are bold."""
-    joined = [v for v in net.vertices if net.neighbours[v]]
+    joined = [v for v in net.node_numbers if net.neighbours[v]]
     lists = ColouringRounds(net).colours[f]
     rows = [[str(v) for v in joined], [str(net.parent(f, v) or "-") for v in joined]]
     for p, colours_then in lists.items():

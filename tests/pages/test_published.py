@@ -483,7 +483,7 @@ class Published(Cards):
             self.same(f"{without} {dare} after {len(made)} steps", got, wanted)
         for v in range(1, nodes + 1):
             for said in ("nothing", f"ack {v % nodes + 1}"):
-                more = {"vertex": v, "said": said}
+                more = {"node": v, "said": said}
                 self.same(
                     f"waits {v}",
                     self.asked("waits", **asked, **more),
@@ -563,20 +563,14 @@ class Published(Cards):
     def test_questions(self) -> None:
         """Predictions, and exercises that are answered: right and wrong ones are judged as in the studio."""
         text = text_of_page(opened_by("example=petersen", Session()).network)  # type: ignore[arg-type]
-        for vertex, pulse, forest, said in (
+        for node, pulse, forest, said in (
             (8, 3, 0, "2"),
             (8, 3, 0, " 7"),
             (10, 3, 0, "0"),
             (3, 20, 1, "-"),
         ):
-            asked = {
-                "network": text,
-                "vertex": vertex,
-                "pulse": pulse,
-                "forest": forest,
-                "said": said,
-            }
-            self.same(f"{vertex} {pulse}", self.asked("predict", **asked), answer("predict", asked))
+            asked = {"network": text, "node": node, "pulse": pulse, "forest": forest, "said": said}
+            self.same(f"{node} {pulse}", self.asked("predict", **asked), answer("predict", asked))
         for said in ("4", " 4 ", "5", "", "<b>"):
             asked = {"network": "", "lesson": 1, "step": 1, "said": said}
             self.same(said, self.asked("exercise", **asked), answer("exercise", asked))

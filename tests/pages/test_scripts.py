@@ -34,15 +34,15 @@ SETTINGS = {"NODE_PATH": "/usr/share/nodejs:/usr/lib/nodejs", "ESLINT_USE_FLAT_C
 # many in a value that isn't written where it is asked, a call that there isn't, and a field that the answer hasn't.
 PLANTED = """\
 import {call} from "./api.js";
-const network = "", more = {network, vertex: 1, wy: 1}, one = {network, vertex: 1};
-call("why", {network, vertex: 1}).then(found => found && found.lines);
+const network = "", more = {network, node: 1, wy: 1}, one = {network, node: 1};
+call("why", {network, node: 1}).then(found => found && found.lines);
 call("why", one);
 call("why", {network, vertx: 1});  // wrong
-call("why", {network, vertex: "1"});  // wrong
+call("why", {network, node: "1"});  // wrong
 call("why", {network});  // wrong
 call("why", more);  // wrong
-call("wy", {network, vertex: 1});  // wrong
-call("why", {network, vertex: 1}).then(found => found && found.line);  // wrong
+call("wy", {network, node: 1});  // wrong
+call("why", {network, node: 1}).then(found => found && found.line);  // wrong
 """
 
 

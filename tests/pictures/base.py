@@ -10,7 +10,7 @@ from tests.cases import Case, example, in_process
 
 SEED = 2026
 APART = b"p edge 5 3\ne 1 2\ne 2 3\ne 1 3\n"
-# Barred channels of ten vertices: one, four, five, and fourteen at a vertex, of one to four digits.
+# Barred channels of ten nodes: one, four, five, and fourteen at a node, of one to four digits.
 BARRED = (
     example("petersen")
     + b"b 1 2\n"

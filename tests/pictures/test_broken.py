@@ -59,7 +59,7 @@ class Broken(PictureCase):
             for group, channels in zip(groups, merged):
                 # The channels after the merge are the second half.
                 circles = [*map(centre, marks(group, "channel"))][net.nodes :]
-                red = pairs_joined(group, "wrong", dict(zip(net.vertices, circles)))
+                red = pairs_joined(group, "wrong", dict(zip(net.node_numbers, circles)))
                 wanted = alike(net, clash.forest, channels)
                 self.same(f"{name}, {group.get('class')}: what is red", red, wanted)
 
@@ -72,7 +72,7 @@ class Broken(PictureCase):
             net = [self.file("net.col", network)] if network else []
             root, *groups = self.picture_of("--program", program, "--without", rule, *net)
             row = self.rows_of(f"{program} without {rule}")
-            circles = [mark.find(f"{SVG}circle") for mark in marks(groups[0], "vertex")]
+            circles = [mark.find(f"{SVG}circle") for mark in marks(groups[0], "map-node")]
             places = {v: centre(circle) for v, circle in enumerate(circles, 1)}
             row("red edges", pairs_joined(root, "wrong", places), edges)
             red = [nearest(places, centre(mark)) for mark in marks(root, "wrong-node")]

@@ -1,5 +1,5 @@
 """How pictures are laid out, whatever they show: nothing reaches over the edge, and no text, circle or square is on
-another one. And where the vertices of a network are drawn, and their names."""
+another one. And where the nodes of a network are drawn, and their names."""
 import re
 from itertools import combinations, product
 
@@ -29,7 +29,7 @@ NAMED = (
     "c name 1 Ulm\nc name 2 Frankfurt am Main\nc name 3 Köln & <Bonn>\nc name 5 a\x1bb\nc name 9 nobody\n"
     "p edge 5 5\ne 1 2\ne 2 3\ne 3 4\ne 4 5\ne 1 3\n"
 ).encode()
-# Eight vertices with a place for two or three of them.
+# Eight nodes with a place for two or three of them.
 CROWD = b"p edge 8 4\ne 1 2\ne 2 3\ne 1 3\ne 5 6\n" + b"".join(
     b"c at %d %d %d\n" % (v, v // 3, v // 5) for v in range(1, 9)
 )
@@ -207,7 +207,7 @@ class Layout(PictureCase):
         labels = ["1 Ulm", "2 Frankfurt a…", "3 Köln & <Bon…", "4", "5 a\ufffdb"]
         for kind, mark, text, wanted in (
             ("plan", "number", None, labels),
-            ("run", "vertex-name", run, 2 * names),
+            ("run", "node-name", run, 2 * names),
         ):
             root = parsed(self.drawn(kind, NAMED, text=text))
             self.same(f"names in {kind}", texts_of(root, mark), wanted)

@@ -45,18 +45,18 @@ TURN = r"colour (\d+) in forest (\d+) and channel (\d+) so far .* K = (\d+), J =
 
 
 def circles(mark, net_colours):
-    """The circles of the channels of all vertices, as `numbered` has them."""
+    """The circles of the channels of all nodes, as `numbered` has them."""
     return [(mark, CHANNELS[c % 8], str(c + 1)) for _, c in sorted(net_colours.items())]
 
 
 def words_of_bars(net, v):
-    """What comes after a vertex's channel: the barred ones."""
+    """What comes after a node's channel: the barred ones."""
     channels = ", ".join(str(c + 1) for c in sorted(net.barred[v]))
     return f", barred {channels}" if channels else ""
 
 
 def bars_of(net):
-    """What is crossed out: of each vertex the lowest four barred channels, with an ellipsis for more."""
+    """What is crossed out: of each node the lowest four barred channels, with an ellipsis for more."""
     rows = [sorted(net.barred[v]) for v in sorted(net.barred)]
     return (
         [("bar", CHANNELS[c % 8], str(c + 1)) for bars in rows for c in bars[:4]],
@@ -71,13 +71,13 @@ def places_given(network):
 
 
 def order_of(places):
-    """The vertices from left to right, and those from top to bottom."""
+    """The nodes from left to right, and those from top to bottom."""
     return [sorted(places, key=lambda v: places[v][axis]) for axis in (0, 1)]
 
 
 def turns_in(facts, f):
-    """The three-colour and the old colour of each vertex in a merge."""
-    return {v: (facts.colours[f][12][v], facts.merged[f][v]) for v in facts.network.vertices}
+    """The three-colour and the old colour of each node in a merge."""
+    return {v: (facts.colours[f][12][v], facts.merged[f][v]) for v in facts.network.node_numbers}
 
 
 def as_lists(rows):
@@ -85,11 +85,11 @@ def as_lists(rows):
 
 
 def colours_after(facts, p):
-    """The colours of each vertex in all forests, as the player has them: from pulse 2 until the merges."""
+    """The colours of each node in all forests, as the player has them: from pulse 2 until the merges."""
     if not facts.forests or not 2 <= p < FIRST_MERGE:
         return None
-    vertices, forests = facts.network.vertices, range(facts.forests)
-    return [[facts.colours[f][p][v] for f in forests] for v in vertices]
+    nodes, forests = facts.network.node_numbers, range(facts.forests)
+    return [[facts.colours[f][p][v] for f in forests] for v in nodes]
 
 
 class Maps(PictureCase):
@@ -99,8 +99,8 @@ class Maps(PictureCase):
             plan = dict(sorted(colours(net).items()))
             places = {v: centre(mark) for v, mark in zip(plan, marks(root, "channel"))}
             row = self.rows_of(f"plan of {name}")
-            said = [f"vertex {v}: channel {c + 1}{words_of_bars(net, v)}" for v, c in plan.items()]
-            row("a vertex each", titles(root, "vertex"), said)
+            said = [f"node {v}: channel {c + 1}{words_of_bars(net, v)}" for v, c in plan.items()]
+            row("a node each", titles(root, "map-node"), said)
             row("hues and numbers", numbered(root, "channel"), circles("channel", plan))
             row("its edges", pairs_joined(root, "edge", places), net.edges)
             row("labels", sorted(map(int, texts_of(root, "number"))), [*plan])

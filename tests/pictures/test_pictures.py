@@ -84,7 +84,7 @@ REFUSED = [
     ("schedules star4 --columns 0..108", b"", 1, "use fewer events"),
     *((f"{kind} {{one}}", b"", 1, "has no edge") for kind in ("rounds", "bits")),
     ("why {one} --vertex 1", b"", 1, "no message decided"),
-    ("why triangle --vertex 4", b"", 1, "has no vertex 4"),
+    ("why triangle --vertex 4", b"", 1, "has no node 4"),
     *((f"rounds queen5_5 --forest {asked}", b"", 1, "0 to 11") for asked in ("3..12", "12..12")),
     ("run star12 --transcript - --pulses 1..2", b"transcript 1 12\n", 1, "no node"),
     ("plan - --plan -", b"", 1, "standard input has one text"),
@@ -131,7 +131,7 @@ class Pictures(PictureCase):
 
     def test_places(self):
         network = re.sub(rb"(?m)^c at .*\n", b"", example("petersen"))
-        for more, said in ((b"", b""), (b"c at 1 0 0\n", b"for 1 of 10 vertices")):
+        for more, said in ((b"", b""), (b"c at 1 0 0\n", b"for 1 of 10 nodes")):
             status, _, fault = self.called("plan", network + more)
             self.note(f"places {more!r}", status == 0 and bool(fault) == bool(more), fault)
             self.note(f"places {more!r}: {said!r}", said in fault, fault)
@@ -148,7 +148,7 @@ class Pictures(PictureCase):
         for name, network in examples().items():
             placed = {int(v) for v in re.findall(rb"c at (\d+) \S+ \S+", network)}
             self.note(
-                f"{name} has a place for each vertex",
-                placed == {*network_in_bytes(network).vertices},
+                f"{name} has a place for each node",
+                placed == {*network_in_bytes(network).node_numbers},
             )
             self.note(f"{name} says what it shows", re.match(rb"c [A-Z][^\n]{20,}", network))

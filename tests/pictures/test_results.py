@@ -58,11 +58,11 @@ class Results(PictureCase):
         for program, network, found, beside, pairs, arrows, filled, said in DRAWN:
             words_of_program = ["--program", program.replace("points.py", self.own)]
             root = parsed(self.drawn("results", network, *words_of_program))
-            groups = dict(enumerate(marks(root, "vertex"), 1))
+            groups = dict(enumerate(marks(root, "map-node"), 1))
             places = {v: centre(group.find(f"{SVG}circle")) for v, group in groups.items()}
             row, text = self.rows_of(program), " ".join(texts(root))
             titled = [f"node {v}: {end}" for v, end in enumerate(found, 1)]
-            row("titles", titles(root, "vertex"), titled)
+            row("titles", titles(root, "map-node"), titled)
             row("words", texts_of(root, "found"), beside)
             row("chosen edges", pairs_joined(root, "chosen", places), pairs)
             tips = [path for path in root.iter(f"{SVG}path") if path.get("fill") == INK]

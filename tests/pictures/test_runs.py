@@ -62,15 +62,15 @@ class Runs(PictureCase):
         picture = parsed(self.drawn("run", network, *options, text=text))
         (root,) = marks(picture, "upper")
         ticks = ticks_of(root)
-        vertices = {y: v for v, y in enumerate(ticks, 1)}
+        nodes = {y: v for v, y in enumerate(ticks, 1)}
         # Of each node what it does, from left to right.
         found = {
-            v: [(x, f"pulse {p}") for p, x in enumerate(ticks[y])][1:] for y, v in vertices.items()
+            v: [(x, f"pulse {p}") for p, x in enumerate(ticks[y])][1:] for y, v in nodes.items()
         }
         bars = []
         for group in marks(root, *WIRES):
             (x, y), tip = begins_and_tip(group)
-            v, w, said = vertices[y], vertices[tip[1]], title(group).partition(": ")[2]
+            v, w, said = nodes[y], nodes[tip[1]], title(group).partition(": ")[2]
             found[v].append((x, f"put {w} {said}"))
             found[w].append((tip[0], f"take {v} {said}"))
             if said.startswith("payload"):

@@ -15,7 +15,7 @@ from tests.pictures.marks import data_of
 
 
 def fields_of(text):
-    """Of each entry its stamp, its vertex, its kind and further words."""
+    """Of each entry its stamp, its node, its kind and further words."""
     return [line.split(" ") for line in text.decode().splitlines()[1:]]
 
 
@@ -60,7 +60,7 @@ class Watch(PictureCase):
         for name in ("petersen", "triangle"):
             rounds = ColouringRounds(network_in_bytes(example(name)))
             wanted = {}
-            for v in rounds.network.vertices:
+            for v in rounds.network.node_numbers:
                 channel = 0
                 for pulse in rounds.pulses:
                     channel = pulse.chosen.get(v, channel - 1) + 1
@@ -76,7 +76,7 @@ class Watch(PictureCase):
         network = network_in_bytes(example("triangle"))
         player = AlphaPlayer(network)
         steps = Steps(player.state)
-        for entry in player.entries(Policy("random", network.vertices, network.edges, "watch")):
+        for entry in player.entries(Policy("random", network.node_numbers, network.edges, "watch")):
             steps.add(entry)
         text = text_of_run(network.nodes, player.made)
         wanted = ShownRun("run", network, steps_of_text("run", network, text)).table()

@@ -42,8 +42,8 @@ MESSAGES = [
 
 
 class Why(PictureCase):
-    def said(self, name, vertex):
-        return self.drawn("why", example(name), "--vertex", vertex, "--text")
+    def said(self, name, node):
+        return self.drawn("why", example(name), "--vertex", node, "--text")
 
     def test_by_hand(self):
         lines = self.said("triangle", 2).splitlines()
@@ -76,16 +76,21 @@ class Why(PictureCase):
         source, tried = random.Random("why"), 0
         for case in range(60):
             nodes = source.randrange(2, 9)
-            vertices = range(1, nodes + 1)
-            edges = [(v, w) for v in vertices for w in vertices if v < w and source.random() < 0.4]
+            node_numbers = range(1, nodes + 1)
+            edges = [
+                (v, w)
+                for v in node_numbers
+                for w in node_numbers
+                if v < w and source.random() < 0.4
+            ]
             names = sorted(source.sample(range(0, 4000, 2), nodes))
             source.shuffle(names)
-            identifiers = dict(zip(vertices, names))
+            identifiers = dict(zip(node_numbers, names))
             net = Network(nodes, edges, identifiers)
             rounds = ColouringRounds(net)
-            for v, f in ((v, f) for v in vertices for f in range(net.forest_count)):
+            for v, f in ((v, f) for v in node_numbers for f in range(net.forest_count)):
                 facts = Cone(rounds, v).behind(("colour", v, f, 12))
-                others = [w for w in vertices if ("identifier", w) not in facts]
+                others = [w for w in node_numbers if ("identifier", w) not in facts]
                 # One more is free, since all are even: so the order stays.
                 changed = identifiers | {w: identifiers[w] + 1 for w in others}
                 tried += bool(others)

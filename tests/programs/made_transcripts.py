@@ -34,18 +34,18 @@ def can_take(state, v, port):
 
 
 def transcript_text(nodes, entries):
-    """As the program writes edition 1: the vertices ascend."""
+    """As the program writes edition 1: the nodes ascend."""
     lines = [line_of(entry) for entry in sorted(entries, key=lambda entry: entry.node)]
     return "".join(line + "\n" for line in [f"transcript 1 {nodes}", *lines]).encode()
 
 
 def entries_of(text):
-    """{vertex: fields of each entry in its order}, from the vertex on: in edition 2 a stamp is before it."""
+    """{node: fields of each entry in its order}, from the node on: in edition 2 a stamp is before it."""
     head, *lines = map(str.split, text.decode().splitlines())
     found: dict[int, list[list[str]]] = {}
     for line in lines:
-        vertex, *entry = line[int(head[1]) - 1 :]
-        found.setdefault(int(vertex), []).append([vertex, *entry])
+        node, *entry = line[int(head[1]) - 1 :]
+        found.setdefault(int(node), []).append([node, *entry])
     return found
 
 
@@ -56,7 +56,7 @@ class Run:
     def __init__(self, net, capacity, program=COLOURING):
         self.player, self.nodes, self.looks = AlphaPlayer(net, program), net.nodes, 0
         self.program = program
-        state, pool = self.player.state, deque(net.vertices)
+        state, pool = self.player.state, deque(net.node_numbers)
         while pool:
             self.looks, v = self.looks + 1, pool.popleft()
             for event in turn(state, v, capacity):

@@ -31,9 +31,10 @@ def read_by(reader, data, *more):
     except Fault as why:
         said = found_in(r"^it(?: line (\d+))?: (.*) \((\w+)\)", str(why))
         line, text, code = said.groups()
-    vertices = re.match(r"(vert\w+) (\d+)(?: and (\d+))?", text)
-    if vertices and code[0] in "CN":
-        raise Refusal(" ".join(filter(None, (code, *vertices.groups()))))
+    nodes = re.match(r"(nodes?) (\d+)(?: and (\d+))?", text)
+    if nodes and code[0] in "CN":
+        word = "vertex" if nodes[1] == "node" else "vertices"
+        raise Refusal(" ".join(filter(None, (code, word, *nodes.groups()[1:]))))
     raise Refusal(f"{code} line {line}" if line else code)
 
 

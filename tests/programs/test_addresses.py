@@ -200,7 +200,7 @@ def random_state(source):
     """What the page may have to write: a value of each name, or none."""
     network = random_network(source)
     nodes, edges, program = len(network["nodes"]), network["edges"], source.choice(PROGRAMS)
-    vertices = list(range(1, nodes + 1))
+    node_numbers = list(range(1, nodes + 1))
 
     def step():
         return "-".join(str(source.randint(1, nodes)) for _ in range(source.randint(1, 3)))
@@ -210,10 +210,10 @@ def random_state(source):
         "tab": source.choice(get_args(TabName)),
         "program": program,
         "passes": source.randint(1, 64),
-        "root": source.choice(vertices),
+        "root": source.choice(node_numbers),
         "slow": some(source, edges, 3),
-        "lazy": some(source, vertices, 3),
-        "node": source.choice(vertices),
+        "lazy": some(source, node_numbers, 3),
+        "node": source.choice(node_numbers),
         "at": source.choice((source.randint(1, 999999999), source.randint(1, 9999) / 100)),
         "forest": source.randint(0, max(0, nodes - 2)),
         "broken": ",".join(some(source, list(OF_PROGRAMS.get(program, {})), 7)),

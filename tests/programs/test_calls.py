@@ -38,12 +38,12 @@ GOOD: list[tuple[str, dict]] = [
     ("rounds", RUN),
     ("rounds", RUN | {"program": "colouring"}),
     ("rounds_page", RUN),
-    ("why", {"network": EDGE, "name": "two", "vertex": 2}),
+    ("why", {"network": EDGE, "name": "two", "node": 2}),
     ("broken", RUN | {"program": "matching", "without": "partner"}),
-    ("picture", RUN | {"kind": "results", "vertex": 1, "forest": 0, "pulses": []}),
+    ("picture", RUN | {"kind": "results", "node": 1, "forest": 0, "pulses": []}),
     ("picture", RUN | {"kind": "run", "program": "echo", "steps": "2-1"}),
     *(
-        ("picture", RUN | {"program": "colouring", "kind": kind, "vertex": 1, "forest": 0})
+        ("picture", RUN | {"program": "colouring", "kind": kind, "node": 1, "forest": 0})
         for kind in ("plan", "rounds", "bits", "why")
     ),
     (
@@ -73,9 +73,9 @@ GOOD: list[tuple[str, dict]] = [
     ("steps", RUN | {"list": "take 1 0\n"}),
     ("steps", RUN | {"program": "echo", "steps": "2-1", "without": "fifo", "dare": "other"}),
     ("file_text", {"own": "echo", "seen": "0"}),
-    ("predict", RUN | {"vertex": 1, "pulse": 1, "forest": 0, "said": "layer 0"}),
-    ("predict", RUN | {"program": "colouring"} | {"vertex": 1, "pulse": 3, "forest": 0, "said": 1}),
-    ("waits", RUN | STEPS | {"vertex": 1, "said": "ack 2"}),
+    ("predict", RUN | {"node": 1, "pulse": 1, "forest": 0, "said": "layer 0"}),
+    ("predict", RUN | {"program": "colouring"} | {"node": 1, "pulse": 3, "forest": 0, "said": 1}),
+    ("waits", RUN | STEPS | {"node": 1, "said": "ack 2"}),
     (
         "sends",
         RUN | {"program": "echo", "steps": "2-1", "without": "fifo", "step": "1-2", "said": "x"},
@@ -111,10 +111,10 @@ DEFAULTS = {
 # The same of a field that a call of this name may lack and another one may not.
 OWN_DEFAULTS: dict[str, dict[str, object]] = {"exercise": {"plan": [], "said": ""}}
 # The sentence of each refusal of a malformed call. The server's other tests ask only for its beginning.
-AT_NODE = {"network": EDGE, "vertex": 1}
+AT_NODE = {"network": EDGE, "node": 1}
 REFUSALS: tuple[tuple[str, dict, str], ...] = (
-    ("why", {"network": EDGE}, "the call lacks its field vertex"),
-    ("why", AT_NODE | {"vertx": 1}, "the call has no field vertx: it has network, name, vertex"),
+    ("why", {"network": EDGE}, "the call lacks its field node"),
+    ("why", AT_NODE | {"vertx": 1}, "the call has no field vertx: it has network, name, node"),
     ("hello", {"x": 1}, "the call has no field x: it has none"),
     ("why", AT_NODE | {"network": 7}, "the field network of the call: a text is asked for"),
     (
@@ -122,11 +122,11 @@ REFUSALS: tuple[tuple[str, dict, str], ...] = (
         AT_NODE | {"network": "\ud800"},
         "the field network of the call: a text of whole letters is asked for, and this has half of one",
     ),
-    ("why", AT_NODE | {"vertex": "x"}, "the field vertex of the call: a whole number is asked for"),
+    ("why", AT_NODE | {"node": "x"}, "the field node of the call: a whole number is asked for"),
     (
         "why",
-        AT_NODE | {"vertex": 10**9 + 1},
-        "the field vertex of the call: a whole number of at most 1,000,000,000 is asked for",
+        AT_NODE | {"node": 10**9 + 1},
+        "the field node of the call: a whole number of at most 1,000,000,000 is asked for",
     ),
     ("steps", RUN | {"in_step": 1}, "the field in_step of the call: true or false is asked for"),
     (

@@ -15,8 +15,8 @@ OF_NETWORKS = {
     "F2": "is a second `p` line",
     "F3": "is an `e` line before the `p`",
     "F4": "a field is missing",
-    "F5": "a vertex is 0",
-    "F6": "joins a vertex to itself",
+    "F5": "a node is 0",
+    "F6": "joins a node to itself",
     "F7": "NODES is above 20,000",
     "F8": "a word that begins no line",
     "F10": "is an `i` or a `b` line before",
@@ -29,21 +29,21 @@ OF_NETWORKS = {
 }
 # (command, input, the line of its fault by FORMATS, words that say what it is)
 FAULTS = [
-    ("check", TRIANGLE + "plan|1 2|3 1|", "C1 vertex 2", "vertex 2 has no line in the plan"),
+    ("check", TRIANGLE + "plan|1 2|3 1|", "C1 vertex 2", "node 2 has no line in the plan"),
     (
         "check",
         TRIANGLE + "plan|4 2|",
         "C2 vertex 4",
-        "a line of vertex 4, which isn't in the network",
+        "a line of node 4, which isn't in the network",
     ),
-    ("check", TRIANGLE + "plan|1 2|1 3|", "C3 vertex 1", "vertex 1 has a second line"),
+    ("check", TRIANGLE + "plan|1 2|1 3|", "C3 vertex 1", "node 1 has a second line"),
     (
         "check",
         TRIANGLE + "plan|1 2|2 1|3 2|",
         "C4 vertices 1 3",
-        "vertices 1 and 3 are neighbours, and have the same",
+        "nodes 1 and 3 are neighbours, and have the same",
     ),
-    ("check", TRIANGLE + "plan|1 4|", "C5 vertex 1", "vertex 1 has a channel above D + B + 1"),
+    ("check", TRIANGLE + "plan|1 4|", "C5 vertex 1", "node 1 has a channel above D + B + 1"),
     (
         "check",
         TRIANGLE + "plan|1 x|",
@@ -54,7 +54,7 @@ FAULTS = [
         "check",
         TRIANGLE + "b 1 2|plan|1 2|",
         "C8 vertex 1",
-        "vertex 1 has a channel that is barred at it",
+        "node 1 has a channel that is barred at it",
     ),
     ("events", EDGE + "put 1 0: hello|", "NoEvent line 3", "line 3 is no event"),
     (
@@ -75,7 +75,7 @@ FAULTS = [
         "LinkEmpty line 3: link from 2 to 1",
         "in line 3 the link has no wire",
     ),
-    ("events", EDGE + "put 1 2|", "NoSuch line 3", "in line 3 there is no such vertex or port"),
+    ("events", EDGE + "put 1 2|", "NoSuch line 3", "in line 3 there is no such node or port"),
     ("replay", RUN + "1 1 puts 2 close|", "X1 line 4", "line 4 isn't a line of a transcript"),
     (
         "replay",
@@ -180,6 +180,7 @@ class Faults(Case):
             )
             here = fault.partition(": ")[2]
             place = fault.partition(":")[0].partition(" ")[2].replace(" 1 ", " 1 and ")
+            place = place.replace("vertices", "nodes").replace("vertex", "node")
             for given in ([line], line.split(" ")[1:]):
                 status, said, errors = tell(*given)
                 name, first = f"tell {' '.join(given)}", said.split("\n")[0]

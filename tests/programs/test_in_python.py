@@ -141,7 +141,7 @@ def asked_of(net, names, seed, source):
 def wrong_of(seed, text):
     """What is wrong about the plan of a network, whose identifiers don't count, and about the verdicts on it."""
     net, source = network_in_bytes(text), random.Random(seed)
-    names = {v: NAMES[seed % len(NAMES)](v) for v in net.vertices}
+    names = {v: NAMES[seed % len(NAMES)](v) for v in net.node_numbers}
     graph, bars, licence = asked_of(net, names, seed, source)
     workers, passes = source.choice((None, None, 1, 3)), source.choice((0, 1, 2, 3, 8, 9, 64))
     plan = forestplan.plan(graph, bars, licence, workers, passes)

@@ -78,7 +78,7 @@ REFUSED = [
 def by_names(text):
     """Of each node by its name what the lines of a network say."""
     net = network_in_bytes(text)
-    names = {v: net.names.get(v, str(v)) for v in net.vertices}
+    names = {v: net.names.get(v, str(v)) for v in net.node_numbers}
     return {
         names[v]: (
             net.places.get(v),
@@ -86,14 +86,14 @@ def by_names(text):
             net.bars.get(v),
             {names[w] for w in net.neighbours[v]},
         )
-        for v in net.vertices
+        for v in net.node_numbers
     }
 
 
 def known(text, plan):
     """Of each node by its name its channel and identifier, and the rest of what the lines say."""
     net, lines, found = network_in_bytes(text), by_names(text), {}
-    for v, channel in zip(net.vertices, plan.split()[2::2], strict=True):
+    for v, channel in zip(net.node_numbers, plan.split()[2::2], strict=True):
         name = net.names.get(v, str(v))
         place, _, *others = lines[name]
         found[name] = (channel, net.identifiers[v], place, *others)
@@ -108,9 +108,9 @@ def is_near(net):
     """Whether the numbers are those of a breadth first search of each component, from a node with the fewest
     neighbours there, and components come by how many these are."""
     least = {v: min([v, *ws]) for v, ws in net.neighbours.items()}
-    firsts = [v for v in net.vertices if least[v] == v]
-    parents = [least[v] for v in net.vertices if least[v] < v]
-    degrees = [len(net.neighbours[v]) for v in net.vertices]
+    firsts = [v for v in net.node_numbers if least[v] == v]
+    parents = [least[v] for v in net.node_numbers if least[v] < v]
+    degrees = [len(net.neighbours[v]) for v in net.node_numbers]
     fewest = []
     for first, after in itertools.pairwise([*firsts, net.nodes + 1]):
         fewest.append(min(degrees[first - 1 : after - 1]))
@@ -152,9 +152,9 @@ FAULTS = [
     ("p edge 2 1\ne 1 2\r\r\n", "F4 line 2", "`e 1 2\\r`"),
     ("p edge 2 1\nb x 1\n", "F4 line 2", "no `b V CHANNEL`: `b x 1`"),
     ("p edge 2 1\ni 1\n", "F4 line 2", "no `i V NUMBER`: `i 1`"),
-    ("p edge 2 1\ne 1 3\n", "F5 line 2", "there is no vertex 3: there are 2, from 1 on"),
-    ("p edge 2 1\ne 0 1\n", "F5 line 2", "there is no vertex 0: there are 2, from 1 on"),
-    ("p edge 2 1\ne 2 2\n", "F6 line 2", "from vertex 2 to itself"),
+    ("p edge 2 1\ne 1 3\n", "F5 line 2", "there is no node 3: there are 2, from 1 on"),
+    ("p edge 2 1\ne 0 1\n", "F5 line 2", "there is no node 0: there are 2, from 1 on"),
+    ("p edge 2 1\ne 2 2\n", "F6 line 2", "from node 2 to itself"),
     ("p edge 20001 0\n", "F7 line 1", "more than 20000 nodes"),
     ("p edge %s 0\n" % ("9" * 5000), "F7 line 1", "more than 20000 nodes"),
     ("p edge 2 1\ne 1 000002\n q\n", "F8 line 3", "`q` begins no line"),
@@ -162,20 +162,20 @@ FAULTS = [
     (
         "p edge 1025 1024\n" + "".join(f"e 1 {v}\n" for v in range(2, 1026)),
         "N1 vertex 1",
-        "vertex 1 has 1024 neighbours",
+        "node 1 has 1024 neighbours",
     ),
     ("p edge 2 1\n\x0b\n", "F8 line 2", "`\\x0b`"),
     ("i 1 5\np edge 2 1\n", "F10 line 1", "an identifier before"),
     ("p edge 2 1\ni 1 %d\n" % 2**128, "F11 line 2", "2^128"),
-    ("p edge 2 1\ni 1 5\ni 1 5\n", "F12 line 3", "second identifier of vertex 1"),
+    ("p edge 2 1\ni 1 5\ni 1 5\n", "F12 line 3", "second identifier of node 1"),
     ("b 1 5\np edge 2 1\n", "F10 line 1", "a barred channel before"),
     ("p edge 2 1\nb 1 2049\n", "F13 line 2", "channel 2049 can't be barred, only 1 to 2048 can"),
     (
         "p edge 2 1\n" + "".join(f"b 2 {channel}\n" for channel in range(1, 1026)),
         "F14 line 1026",
-        "more than 1024 channels are barred at vertex 2",
+        "more than 1024 channels are barred at node 2",
     ),
-    ("p edge 2 1\ni 1 2\n", "N2 vertices 1 2", "vertices 1 and 2 have one identifier"),
+    ("p edge 2 1\ni 1 2\n", "N2 vertices 1 2", "nodes 1 and 2 have one identifier"),
 ]
 
 
@@ -202,7 +202,7 @@ class OwnNetworks(Case):
                 text[:80],
             )
             if arguments.split()[0] not in ("tree", "random"):
-                self.same(f"{arguments}: places", sorted(net.places), list(net.vertices))
+                self.same(f"{arguments}: places", sorted(net.places), list(net.node_numbers))
             if arguments.startswith("tree"):
                 before = sorted(w for _, w in net.edges)
                 self.same("each node but the first has one before it", before, [*range(2, 20001)])
@@ -215,7 +215,7 @@ class OwnNetworks(Case):
         found = list(smaller(net))
         nodes, edges, bars = found[:3], found[3:5], found[5:7]
         self.same("the nodes left", [left for _, left in nodes], [[2, 3], [1, 3], [1, 2]])
-        identifiers = [[less.identifiers[v] for v in less.vertices] for less, _ in nodes]
+        identifiers = [[less.identifiers[v] for v in less.node_numbers] for less, _ in nodes]
         self.same("their identifiers", identifiers, [[9, 7], [5, 7], [5, 9]])
         self.same("the edges left", [list(less.edges) for less, _ in edges], [[(2, 3)], [(1, 2)]])
         self.same("the bars left", [less.bars for less, _ in bars], [{3: [1, 4]}, {1: [2]}])
@@ -234,7 +234,7 @@ class OwnNetworks(Case):
             self.same(f"places of a disk of reach {reach}", [*net.places.values()], [*places])
             near = [
                 (v, w)
-                for v, w in itertools.combinations(net.vertices, 2)
+                for v, w in itertools.combinations(net.node_numbers, 2)
                 if math.dist(net.places[v], net.places[w]) < 1000 * reach
             ]
             self.same(f"a disk of reach {reach}", net.edges, near)

@@ -18,7 +18,7 @@ NODES, SEED = 12, 20
 
 
 def long_names(source, nodes):
-    """Identifiers of some vertices, great ones and small ones, no two the same."""
+    """Identifiers of some nodes, great ones and small ones, no two the same."""
     while True:
         given = {
             v: source.choice(
@@ -36,7 +36,7 @@ def long_names(source, nodes):
 
 
 def some_bars(source, nodes):
-    """Channels that are barred at some vertices, low ones mostly; at most three of a vertex."""
+    """Channels that are barred at some nodes, low ones mostly; at most three of a node."""
     bars = {
         v: {
             source.choice((source.randint(1, 4), source.randint(1, nodes + 2), 2048))
@@ -64,7 +64,7 @@ def text_of(source, nodes, edges, names, bars):
 
 
 def reached(net, v):
-    """The distance of each vertex that can be reached from v."""
+    """The distance of each node that can be reached from v."""
     found, layer = {v: 0}, [v]
     while layer:
         layer = sorted({w for u in layer for w in net.neighbours[u]} - set(found))
@@ -77,14 +77,14 @@ def payloads_of(net):
     colours for the child. In the merge of a forest each node chooses once, and tells it by its edges of the forests
     so far; in the last step of a merge nobody tells it any more."""
     forest_of = {}
-    for v in net.vertices:
+    for v in net.node_numbers:
         higher = [w for w in net.neighbours[v] if net.identifiers[w] > net.identifiers[v]]
         for f, w in enumerate(sorted(higher, key=net.identifiers.get)):
             forest_of[v, w] = forest_of[w, v] = f
     payloads, merged = 13 * len(net.edges), first_colours(net)
     for f in range(net.forest_count):
         colours = three(net, f)
-        tell = [v for v in net.vertices if (colours[v], merged[v]) != (2, net.span)]
+        tell = [v for v in net.node_numbers if (colours[v], merged[v]) != (2, net.span)]
         payloads += sum(forest_of[v, w] <= f for v in tell for w in net.neighbours[v])
         merged = merge(net, f, merged)
     return payloads

@@ -13,7 +13,7 @@ def read(text, form, **more):
     """The edges by names, the nodes without one, and what is said."""
     data = text if isinstance(text, bytes) else text.encode()
     made, said = made_of(listed_of(data, "net", form, Stated(**more)), "net")
-    names = {v: made.names.get(v, str(v)) for v in made.vertices}
+    names = {v: made.names.get(v, str(v)) for v in made.node_numbers}
     edges = {frozenset((names[v], names[w])) for v, w in made.edges}
     return edges, set(names.values()).difference(*edges), said
 
@@ -22,7 +22,7 @@ PAIR = "source,target\n"
 # (form, text, a part of what is said). Each is refused.
 REFUSED = (
     ("dimacs", "Ulm,Aue\n", "line 1: `Ulm,Aue` begins no line of a network (F8)"),
-    ("dimacs", "c name 2 1\np edge 2 0\n", "vertices 1 and 2 are both called 1"),
+    ("dimacs", "c name 2 1\np edge 2 0\n", "nodes 1 and 2 are both called 1"),
     ("pairs", "Ulm,Aue\nAue,Hof\n", "line 1: no heading with source and target: `Ulm,Aue`"),
     (
         "pairs",

@@ -172,7 +172,7 @@ def is_state(space, s, state):
     may = {str(event) for event, _ in space.steps(s)}
     return (
         links_of(space, s) == wires
-        and seen == {v: shown(state, v) for v in space.vertices}
+        and seen == {v: shown(state, v) for v in space.node_numbers}
         and may == set(map(str, state.possible()))
     )
 

@@ -78,15 +78,15 @@ class Sheets(Case):
         tables = rows_of(section)
         self.line_rows(name, net, section, tables[0])
         # A parent is a higher neighbour, in forest 0 the lowest.
-        higher = {v: sorted(w for w in net.neighbours[v] if w > v) for v in net.vertices}
+        higher = {v: sorted(w for w in net.neighbours[v] if w > v) for v in net.node_numbers}
         for f, row in enumerate(tables[1:3]):
-            parents = [str((higher[v] + ["-", "-"])[f]) for v in net.vertices]
+            parents = [str((higher[v] + ["-", "-"])[f]) for v in net.node_numbers]
             self.same(f"{name}: parents in forest {f}", row, parents)
         self.forest_rows(name, net, tables[3:10])
         self.merge_rows(name, net, tables[10:14])
         # A node gets as far as it is from the nearer end of the still edge, less one: its neighbours there stay at 0.
         far = [reached(net, end) for end in ends_of(section)]
-        pulses = [str(max(0, min(of[v] for of in far) - 1)) for v in net.vertices]
+        pulses = [str(max(0, min(of[v] for of in far) - 1)) for v in net.node_numbers]
         self.same(f"{name}: a still edge", tables[14:], [pulses])
 
     def merge_rows(self, name, net, rows):
@@ -94,9 +94,9 @@ class Sheets(Case):
         merged = merged_of(net)
         for f, (three, after) in enumerate((rows[:2], rows[2:])):
             last = colours_of(net, f)[-1]
-            row = [str(last[v]) for v in net.vertices]
+            row = [str(last[v]) for v in net.node_numbers]
             self.same(f"{name}: colours before the merge of forest {f}", three, row)
-            row = [str(merged[f + 1][v]) for v in net.vertices]
+            row = [str(merged[f + 1][v]) for v in net.node_numbers]
             self.same(f"{name}: after the merge of forest {f}", after, row)
 
     def line_rows(self, name, net, section, plan):
@@ -117,14 +117,14 @@ class Sheets(Case):
     def forest_rows(self, name, net, rows):
         """The colours of forest 0 before a shift and a drop of each of 5, 4 and 3, which change something, and after
         each of them."""
-        lists = [dict(zip(net.vertices, map(int, row))) for row in rows]
+        lists = [dict(zip(net.node_numbers, map(int, row))) for row in rows]
         parents = {v: min([w for w in net.neighbours[v] if w > v], default=None) for v in lists[0]}
         for x, at in ((5, 0), (4, 2), (3, 4)):
             first, shifted, dropped = lists[at : at + 3]
             wanted = shifted_and_dropped(x, parents, first)
             self.same(f"{name}: shift and drop {x}", (shifted, dropped), wanted)
             self.note(f"{name}: drop {x} changes something", shifted != dropped)
-        alike = [v for v in net.vertices if lists[0].get(parents[v]) == lists[0][v]]
+        alike = [v for v in net.node_numbers if lists[0].get(parents[v]) == lists[0][v]]
         self.same(f"{name}: children with their parent's colour", alike, [])
 
     def test_answers(self):

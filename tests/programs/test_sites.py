@@ -256,7 +256,7 @@ class Channels(Case):
             (["1", "6"], "plan\n1 0\n", "line 2: channel 0"),
             (["--back", "1", "6"], "plan\n1 6\n2 7\n", "line 3: channel 7 isn't one of the table"),
             (["1"], "1 1\n", "line 1: no line `plan`"),
-            (["1"], "plan\n1 x\n", "line 2: no vertex and its channel: `1 x`"),
+            (["1"], "plan\n1 x\n", "line 2: no node and its channel: `1 x`"),
             (
                 ["--run"],
                 "node 1 pulse 3 leader 2\n",

@@ -210,15 +210,15 @@ class Refusals(Server):
         wrong: tuple[tuple[dict, str], ...] = (
             ({}, "lacks its field network"),
             ({"network": 7}, "field network of the call: a text"),
-            ({"network": TRIANGLE}, "lacks its field vertex"),
-            ({"network": TRIANGLE, "vertex": "x"}, "field vertex of the call: a whole number"),
-            ({"network": TRIANGLE, "vertex": 4}, "field vertex: there is no node 4"),
-            ({"network": TRIANGLE, "vertex": 1, "vertx": 1}, "no field vertx"),
+            ({"network": TRIANGLE}, "lacks its field node"),
+            ({"network": TRIANGLE, "node": "x"}, "field node of the call: a whole number"),
+            ({"network": TRIANGLE, "node": 4}, "field node: there is no node 4"),
+            ({"network": TRIANGLE, "node": 1, "vertx": 1}, "no field vertx"),
         )
         for given, sentence in wrong:
             self.refuses(f"nonsense {given}", sentence, "why", **given)
-        twice = self.ask("/call/why", '{"vertex": 1, "vertex": 2}')
-        self.note("a field twice", twice[0] == 400 and "vertex twice" in twice[1], twice)
+        twice = self.ask("/call/why", '{"node": 1, "node": 2}')
+        self.note("a field twice", twice[0] == 400 and "node twice" in twice[1], twice)
         for size in ("", "1e2", "-1", None, float("inf"), 401):
             got = self.answer("make", kind="ring", sizes={"nodes": size})
             self.note(f"a ring of {size}", "fault" not in got.get("wrong", "fault"), got)
@@ -483,10 +483,10 @@ class Answers(Server):
         """What a student says comes beside what the definitions find: colours as lesson 3 works them out."""
         petersen = examples()["petersen"].decode()
         rows: tuple[tuple[str, dict, str], ...] = (
-            *((petersen, {"vertex": 8, "pulse": p}, c) for p, c in enumerate("82311", 2)),
-            (TRIANGLE, {"vertex": 2, "pulse": 26}, "3"),
-            (TRIANGLE, {"vertex": 2, "pulse": 25}, "-"),
-            (EDGE, {"vertex": 1, "pulse": 1, "program": "leader"}, "leader 2"),
+            *((petersen, {"node": 8, "pulse": p}, c) for p, c in enumerate("82311", 2)),
+            (TRIANGLE, {"node": 2, "pulse": 26}, "3"),
+            (TRIANGLE, {"node": 2, "pulse": 25}, "-"),
+            (EDGE, {"node": 1, "pulse": 1, "program": "leader"}, "leader 2"),
         )
         for network, asked, found in rows:
             for said in (f" {found.upper()} ", f"{found}1"):
@@ -498,7 +498,7 @@ class Answers(Server):
             ("1-2", "ack 2, safe 2"),
             ("2-1_1-2_1-2", "safe 2"),
         ):
-            got = self.found("waits", network=EDGE, vertex=1, steps=steps, said=found)
+            got = self.found("waits", network=EDGE, node=1, steps=steps, said=found)
             self.same(f"what node 1 waits for after {steps}", got["found"], found)
 
     def test_results(self):

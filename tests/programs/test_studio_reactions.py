@@ -481,8 +481,8 @@ class OwnFiles(FilesCase):
             ("rounds", {}),
             ("run", {"policy": "random"}),
             ("picture", {"kind": "rounds"}),
-            ("predict", {"vertex": 1, "pulse": 1, "said": "x"}),
-            ("waits", {"vertex": 1, "said": "x"}),
+            ("predict", {"node": 1, "pulse": 1, "said": "x"}),
+            ("waits", {"node": 1, "said": "x"}),
         )
         for name, more in rows:
             said = self.refused(session, name, **asked | more)

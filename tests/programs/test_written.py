@@ -89,7 +89,7 @@ class Writer:
         said = errors.decode()
         if status == 0:
             made = read_network(out.decode(), path)
-            names = {v: made.names.get(v, str(v)) for v in made.vertices}
+            names = {v: made.names.get(v, str(v)) for v in made.node_numbers}
             found = network_of(names.values(), [(names[v], names[w]) for v, w in made.edges])
             return "read" if found == wanted else f"{found} is read, and it says {wanted}"
         if status not in (1, 2) or out or not said.startswith("network: "):

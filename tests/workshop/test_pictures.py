@@ -38,7 +38,7 @@ NOT_POSSIBLE = ["line 9, not possible"]
 # The options, what comes after GREETED, what the picture says, and the titles of what is red.
 DRAWN = (
     *(("--wrong", more, f"Red: line 9: {said}", NOT_POSSIBLE) for more, said in ROWS),
-    # A run that is only cut is drawn as far as it goes, and the vertex at which it stopped is marked.
+    # A run that is only cut is drawn as far as it goes, and the node at which it stopped is marked.
     ("", "", "Payloads that are put in these pulses, as far as this text goes: 2.", []),
     ("--wrong", "", "the run doesn't reach its end (NotWhole)", []),
     *(
@@ -56,7 +56,7 @@ DRAWN = (
 # The kind and options, the text, the status, and what is said.
 REFUSED = (
     *(("run", GREETED + more, 1, " line 9: ") for more, _ in ROWS),
-    *((f"run --wrong --stopped {v}", GREETED, 1, f"two has no vertex {v}") for v in (0, 3)),
+    *((f"run --wrong --stopped {v}", GREETED, 1, f"two has no node {v}") for v in (0, 3)),
     ("run --stopped 1", GREETED, 2, "--stopped is for --wrong"),
     *(
         ("run --wrong", GREETED + f"5 2 {line}\n", 1, f" line 9: {code}: ")

@@ -1,6 +1,6 @@
 """The slow definitions, written from the pages in docs/claim, to be read and to be compared with.
 
-A vertex is a number from 1. Its ports are numbers from 0, in the order of its neighbours' numbers. Pulses, forests and
+A node is a number from 1. Its ports are numbers from 0, in the order of its neighbours' numbers. Pulses, forests and
 colours are numbers from 0, and channels from 1.
 
 Run the rounds of a program, and ask its nodes what they have found. `PROGRAMS` has the six programs: colouring, leader,
@@ -15,8 +15,8 @@ layers, matching, independent-set and recolouring.
 
 The modules:
 
-    colours             the colouring as lists over all vertices: forests, bit step, shift, drop, merge; the plan's text
-    program             what a program is: a node at each vertex, its payloads, its last pulse; the synchronous run
+    colours             the colouring as lists over all nodes: forests, bit step, shift, drop, merge; the plan's text
+    program             what a program is: what each node runs, its payloads, its last pulse; the synchronous run
     programs            the programs by their names, and those of a file: `PROGRAMS`, `program_at`
     nodes               a node of the colouring; a node under synchroniser alpha, and which wire it may take when
     rounds              the rounds of the colouring, pulse by pulse, and their text

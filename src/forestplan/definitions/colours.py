@@ -1,8 +1,8 @@
 """The forests and the colours of a network by their definitions (docs/claim/DEFINITIONS.md), slow and plain: what the
 tests compare the program with.
 
-A vertex is a number from 1, an identifier a number below 2^128, a forest a number from 0, and a colour a number from 0:
-the channel of the text less one. A list over the vertices is a dictionary (`Colours`), and is made for all of them at
+A node is a number from 1, an identifier a number below 2^128, a forest a number from 0, and a colour a number from 0:
+the channel of the text less one. A list over the nodes is a dictionary (`Colours`), and is made for all of them at
 once."""
 from typing import Iterable
 
@@ -18,7 +18,7 @@ def joined_lines(lines: Iterable[str]) -> bytes:
 
 
 def forests_text(net: Network) -> bytes:
-    """The forests text: entry F of a vertex's higher neighbours, by ascending identifier, is its parent in forest F.
+    """The forests text: entry F of a node's higher neighbours, by ascending identifier, is its parent in forest F.
 
     >>> print(forests_text(Network(3, [(1, 2), (1, 3)])).decode(), end="")
     forests 3 2
@@ -32,7 +32,7 @@ def forests_text(net: Network) -> bytes:
 
 
 def plan_text(net: Network) -> bytes:
-    """The text of the plan of a network `net`, in bytes: the channel of a vertex is its colour plus one.
+    """The text of the plan of a network `net`, in bytes: the channel of a node is its colour plus one.
 
     >>> print(plan_text(Network(2, [(1, 2)])).decode(), end="")
     plan
@@ -63,7 +63,7 @@ def digit(i: int, number: int) -> int:
 
 
 def bit(net: Network, f: int, c: Colours) -> Colours:
-    """The bit step: twice the least place in which a vertex differs from its parent, plus its own digit there. A root's
+    """The bit step: twice the least place in which a node differs from its parent, plus its own digit there. A root's
     place is 0. Here 4 and 6 differ in place 1, in which 4 has the digit 0.
 
     >>> bit(Network(2, [(1, 2)]), 0, {1: 4, 2: 6})
@@ -89,7 +89,7 @@ def other_than(*taken: int | None) -> int:
 
 
 def shift(net: Network, f: int, c: Colours) -> Colours:
-    """Each vertex has its parent's colour, and a root the least of 0, 1, 2 other than its own.
+    """Each node has its parent's colour, and a root the least of 0, 1, 2 other than its own.
 
     >>> shift(Network(2, [(1, 2)]), 0, {1: 5, 2: 0})
     {1: 0, 2: 1}
@@ -99,7 +99,7 @@ def shift(net: Network, f: int, c: Colours) -> Colours:
 
 
 def drop(x: int, net: Network, f: int, c: Colours, before: Colours) -> Colours:
-    """Each vertex of colour x (3 to 5) has the least of 0, 1, 2 other than its colour before the shift, and other than
+    """Each node of colour x (3 to 5) has the least of 0, 1, 2 other than its colour before the shift, and other than
     its parent's.
 
     >>> drop(5, Network(2, [(1, 2)]), 0, {1: 5, 2: 1}, {1: 0, 2: 5})
@@ -134,7 +134,7 @@ def merge(net: Network, f: int, old: Colours) -> Colours:
 
 
 def merged(net: Network, f: int, old: Colours, colour_in_f: Colours) -> Colours:
-    """The list that its own equation gives back: each vertex has the least colour of 0 to the span that is not barred
+    """The list that its own equation gives back: each node has the least colour of 0 to the span that is not barred
     at it and that no neighbour has at which it looks. There is one such list, since these neighbours have lower pairs;
     the equation is applied until it holds."""
     pair = {v: (colour_in_f[v], old[v]) for v in old}
@@ -152,7 +152,7 @@ def merged(net: Network, f: int, old: Colours, colour_in_f: Colours) -> Colours:
 
 
 def first_colours(net: Network) -> Colours:
-    """The least colour of each vertex that is not barred at it; channels are barred, which count from 1.
+    """The least colour of each node that is not barred at it; channels are barred, which count from 1.
 
     >>> first_colours(Network(2, [(1, 2)], bars={2: [1]}))
     {1: 0, 2: 1}

@@ -12,7 +12,7 @@ ROOT = 1
 
 class Layers:
     """A node that learns its distance from the root, in edges, and a port that leads there: `layer` is None as long as
-    nothing has come, and `by` is None then and at the root. `root` is the vertex that is the root, whatever its
+    nothing has come, and `by` is None then and at the root. `root` is the node that is the root, whatever its
     identifier is; None if it is the node of identifier 1."""
 
     degree: int
@@ -57,5 +57,5 @@ class Layers:
 
 
 def layers(root: int | None = None) -> Program:
-    """The program, with a vertex that is the root if it isn't the node of identifier 1."""
+    """The program, with a node that is the root if it isn't the node of identifier 1."""
     return Program("layers", partial(Layers, root=root), Layers.last_pulse, root, reads_bars=False)

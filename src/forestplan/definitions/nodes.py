@@ -2,7 +2,7 @@
 (docs/claim/DEFINITIONS.md), slow and plain. A wire that is refused, which a caller may only do wrong, raises
 `NotPossible`.
 
-The node under alpha is of any program (src/forestplan/definitions/program.py, which says what vertices, ports, pulses
+The node under alpha is of any program (src/forestplan/definitions/program.py, which says what nodes, ports, pulses
 and payloads are; src/forestplan/definitions/programs.py has all programs). Wires are as in
 src/forestplan/definitions/events.py, and a network of such nodes, event by event, is `NetState` of
 src/forestplan/definitions/machine.py."""

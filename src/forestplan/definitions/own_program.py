@@ -492,9 +492,9 @@ def check_repeats(net: Network, program: Program) -> None:
     file = program.file
     if file is None:
         return
-    vertices = net.vertices
+    nodes = net.node_numbers
     for (node, where, one), (_, _, two) in zip(
-        rounds_in_order(net, file, vertices), rounds_in_order(net, file, vertices[::-1])
+        rounds_in_order(net, file, nodes), rounds_in_order(net, file, nodes[::-1])
     ):
         if one != two:
             raise Fault(Code.NOT_REPEATED, InText(file.path), where=where)
@@ -505,7 +505,7 @@ def check_repeats(net: Network, program: Program) -> None:
 def rounds_in_order(
     net: Network, file: ProgramFile, order: Sequence[int]
 ) -> Iterator[tuple[OwnNode, str, tuple[object, Hashable]]]:
-    """(node, where, what it sends or finds and what it keeps) of all rounds, by vertex, the nodes being called in an
+    """(node, where, what it sends or finds and what it keeps) of all rounds, by node, the nodes being called in an
     order."""
     nodes = {v: OwnNode(net, v, file) for v in order}
     for pulse, _, _, sent in pulses_of(net, nodes, OwnNode.last_pulse(net, file)):

@@ -1,6 +1,6 @@
-"""What the nodes of a network run, as rounds: a program, and the node that it has at each vertex.
+"""What the nodes of a network run, as rounds: a program, which each node runs.
 
-A vertex is a number from 1. Its ports are numbers from 0: port 0 goes to its neighbour with the least number, as entry
+A node is a number from 1. Its ports are numbers from 0: port 0 goes to its neighbour with the least number, as entry
 0 of `neighbours`. A pulse is a number from 0, a forest and a colour too. All nodes make pulse 0, then pulse 1, and so
 on, up to the last pulse of the program."""
 from collections.abc import Callable, Iterable, Iterator, Mapping
@@ -76,10 +76,10 @@ class ProgramFile:
 
 @dataclass(frozen=True)
 class Program:
-    """A program of nodes that make rounds, called `name`: `node(net, v)` is the node of a vertex before pulse 0, and
+    """A program of nodes that make rounds, called `name`: `node(net, v)` is the node v before pulse 0, and
     `last_pulse(net)` the last pulse R of every node. `PROGRAMS` has six, and `program_at` those with options.
 
-    Its options are `root`, the vertex that is the root of layers, if it isn't the node of identifier 1; `passes`, how
+    Its options are `root`, the node that is the root of layers, if it isn't the node of identifier 1; `passes`, how
     often recolouring chooses anew; `file`, that of a program of one's own; and `without`, the rules that its nodes
     leave out. `reads_bars` says whether its nodes look at the channels that are barred at them.
 
@@ -124,7 +124,7 @@ def synchronous_pulses(
 ) -> Iterator[tuple[int, dict[int, RoundsNode], Slots, Slots]]:
     """(pulse, nodes, inboxes, sent) of each pulse, from 0 to the last, of the nodes of a `program` on a network `net`:
     the nodes after it, what each has read in it, and what each sends at each port. They are made and called in an
-    `order` of the vertices, by default that of the network.
+    `order` of the nodes, by default that of the network.
 
     >>> from forestplan.definitions.leader import LEADER
     >>> for pulse, nodes, inboxes, sent in synchronous_pulses(Network(2, [(1, 2)]), LEADER):
@@ -138,7 +138,7 @@ def synchronous_pulses(
 
 
 def synchronous_run(net: Network, program: Program) -> dict[int, RoundsNode]:
-    """Runs the rounds of a `program` on a network `net`; returns its nodes, by vertex, after the last pulse.
+    """Runs the rounds of a `program` on a network `net`; returns its nodes, by node, after the last pulse.
 
     >>> from forestplan.definitions.programs import PROGRAMS
     >>> nodes = synchronous_run(Network(2, [(1, 2)]), PROGRAMS["leader"])

@@ -43,7 +43,7 @@ HELP = f"what the nodes run: {', '.join(PROGRAMS)}, or a file of your own, as NA
 
 def program_at(name: str, lots: str = "1", **options: int | None) -> Program:
     """The program by rounds of a `name`, one of `PROGRAMS`, or of a file whose name ends in `.py`; `lots` is the seed
-    of its nodes' chance. Its `options` are those of two programs: of layers `root`, the vertex that is the root, and of
+    of its nodes' chance. Its `options` are those of two programs: of layers `root`, the node that is the root, and of
     recolouring `passes`, how often it chooses anew.
 
     >>> program_at("layers", root=3).root, program_at("recolouring", passes=8).passes
@@ -113,7 +113,7 @@ def any_program_asked(command: str, given: Namespace, network: Network | None = 
     )
     if isinstance(program, Reacting):
         return program
-    if network and options["root"] not in (None, *network.vertices):
+    if network and options["root"] not in (None, *network.node_numbers):
         raise Fault(Code.NO_ROOT, root=program.root, nodes=network.nodes)
     if network and network.bars and not program.reads_bars:
         print(

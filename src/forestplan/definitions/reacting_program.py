@@ -56,7 +56,7 @@ WHO_SENDS = "`start`, `act` and the functions `on_WORD` may send"
 
 
 class ReactingFile(LoadedFile):
-    """The file of such a program, as the node of one vertex has it: `reactions` are its functions by word, of a node
+    """The file of such a program, as one node has it: `reactions` are its functions by word, of a node
     with so many `ports`."""
 
     def __init__(self, file: ProgramFile, ports: int) -> None:
@@ -254,7 +254,7 @@ class ReactingNode(Node):
             raise self.not_plain(why) from None
 
     def key(self) -> Hashable:
-        """Equal for equal nodes of one vertex; how often it has acted doesn't count."""
+        """Equal for equal states of one node; how often it has acted doesn't count."""
         if self.kept is None:
             try:
                 frozen(self.what_it_keeps())
@@ -278,7 +278,7 @@ class Reacting:
     file: ProgramFile
 
     def node(self, net: Network, v: int) -> ReactingNode:
-        """The node of a vertex once it has started."""
+        """A node once it has started."""
         return ReactingNode(net, v, self.file)
 
     def start(self, net: Network) -> NetState[ReactingNode]:
@@ -340,9 +340,9 @@ def check_reactions(net: Network, program: Reacting) -> None:
     """Refuses a file whose nodes do something else the second time: then what they find means nothing. The second time
     they are made in the opposite order."""
     one = program.start(net)
-    made = {v: program.node(net, v) for v in net.vertices[::-1]}
+    made = {v: program.node(net, v) for v in net.node_numbers[::-1]}
     two = NetState(net, lambda _, v: made[v])
-    for v in net.vertices:
+    for v in net.node_numbers:
         check_same(program, one.nodes[v].id, seen_of(one.nodes[v]), seen_of(two.nodes[v]))
     for _ in range(MOST_REPEATED):
         event = next(one.possible(), None)

@@ -1,7 +1,7 @@
 """The rounds of the colouring pulse by pulse, as the nodes of src/forestplan/definitions/nodes.py make them, and their
 text (docs/claim/FORMATS.md). Plans come from src/forestplan/definitions/colours.py, without a node.
 
-A pulse p is 0 to R, a vertex v from 1, a forest f and a colour from 0."""
+A pulse p is 0 to R, a node v from 1, a forest f and a colour from 0."""
 from collections.abc import Iterable, Iterator
 from dataclasses import dataclass, field
 from functools import cached_property
@@ -78,7 +78,7 @@ class Pulse:
     """What all nodes did in one pulse: `puts` as (v, w, word, number). Of the colouring `phase` is what the pulse is
     for, `step` is (forest, three-colour, old colour) in a merge pulse, `colours[v, f]` are those after it, and
     `chosen[v]` is what v chose in it, if it did. Of another program `results[v]` is what v has found after it, in
-    words, and `drawn[v]`, if the program says it, a colour and the vertex at the other end of an edge.
+    words, and `drawn[v]`, if the program says it, a colour and the node at the other end of an edge.
     """
 
     number: int
@@ -97,7 +97,7 @@ class Pulse:
         return self.step
 
     def lines(self, what_for: str, own: Iterable[tuple[int, str]]) -> Iterator[str]:
-        """Its line of a text of rounds, and after it the lines of each vertex: its `own`, and its puts."""
+        """Its line of a text of rounds, and after it the lines of each node: its `own`, and its puts."""
         yield f"pulse {self.number} {what_for}".rstrip()
         puts = [
             (v, f"put {w} payload {self.number} {word} {number}")
@@ -139,7 +139,7 @@ class ColouringRounds:
     @cached_property
     def pulses(self) -> list[Pulse]:
         """All pulses, from 0 to the last."""
-        nodes = {v: Colouring(self.network, v) for v in self.network.vertices}
+        nodes = {v: Colouring(self.network, v) for v in self.network.node_numbers}
         return [
             self.pulse(p, nodes, puts_of(self.network, sent))
             for p, nodes, _, sent in pulses_of(self.network, nodes, self.last)
@@ -177,7 +177,7 @@ class ColouringRounds:
     @cached_property
     def merged(self) -> list[Colours]:
         """The merged colours, by how many forests are merged."""
-        found = [{v: Colouring(self.network, v).merged for v in self.network.vertices}]
+        found = [{v: Colouring(self.network, v).merged for v in self.network.node_numbers}]
         for f in range(self.forests):
             first = FIRST_MERGE + 3 * self.width * f
             now = dict(found[-1])

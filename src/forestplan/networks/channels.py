@@ -103,7 +103,7 @@ def range_of(word: str) -> range:
 
 
 def rows_of_run(text: str, name: str) -> list[PlanRow]:
-    """(line, vertex, channel) of the lines of a run whose nodes have found channels."""
+    """(line, node, channel) of the lines of a run whose nodes have found channels."""
     found = []
     for at, line in enumerate(text.split("\n"), 1):
         parts = re.fullmatch(
@@ -189,7 +189,5 @@ def main(arguments: list[str]) -> int:
     else:
         rows = plan_rows(text, "the plan", 0, 10**MOST_DIGITS)
     of = numbers_for(rows, table, given)
-    write_output(
-        given, "plan\n" + "".join(f"{vertex} {of[channel]}\n" for _, vertex, channel in rows)
-    )
+    write_output(given, "plan\n" + "".join(f"{node} {of[channel]}\n" for _, node, channel in rows))
     return 0

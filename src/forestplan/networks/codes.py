@@ -1,7 +1,10 @@
 """`forestlab network tell CODE`: what a code of a fault means, and what to do. docs/claim/FORMATS.md lists the codes,
 and docs/claim/DEFINITIONS.md defines them. `import forestplan` needs it, too."""
 import re
+from collections.abc import Iterable
 from typing import NamedTuple
+
+from forestplan.wording import in_words
 
 FIRST = "put the `p` line first"
 LEAVE = "leave one of them"
@@ -9,7 +12,7 @@ SAME = "is the plan of this network?"
 LINES = "Lines count from the first line of the input, the network's included."
 CHECK = f"`forestlab transcript check NETWORK TRANSCRIPT` says which rule the entry breaks. {LINES}"
 # By what is at fault: the names that the programs write, some with their numbers in the definitions, the fault in
-# words, and what to do. What is in braces is the line, the vertex or the two vertices that the programs name.
+# words, and what to do. What is in braces is the line, the node or the two nodes that the programs name.
 CODES = {
     "a network": {
         "F1": (
@@ -25,12 +28,12 @@ CODES = {
             "write `p edge NODES EDGES`, `e V W`, `i V NUMBER` or `b V CHANNEL`",
         ),
         "F5": (
-            "in {a line} a vertex is 0 or above NODES",
-            "vertices count from 1 to the NODES of the `p` line; "
+            "in {a line} a node is 0 or above NODES",
+            "nodes count from 1 to the NODES of the `p` line; "
             "`forestlab network read FILE` takes a text that counts from 0",
         ),
         "F6": (
-            "{a line} joins a vertex to itself",
+            "{a line} joins a node to itself",
             "take the line out; `forestlab network read FILE` does",
         ),
         "F7": (
@@ -44,46 +47,46 @@ CODES = {
         ),
         "F10": ("{a line} is an `i` or a `b` line before the `p` line", FIRST),
         "F11": ("in {a line} the identifier is 2^128 or more", "take a smaller identifier"),
-        "F12": ("{a line} is a second `i` line of its vertex", LEAVE),
+        "F12": ("{a line} is a second `i` line of its node", LEAVE),
         "F13": ("in {a line} the barred channel is 0 or above 2,048", "bar another channel"),
-        "F14": ("{a line} bars one more than 1,024 different channels at its vertex", "bar fewer"),
+        "F14": ("{a line} bars one more than 1,024 different channels at its node", "bar fewer"),
         "N1": (
-            "{a vertex} has more than 1,023 neighbours",
-            "take edges out; no lower vertex has too many",
+            "{a node} has more than 1,023 neighbours",
+            "take edges out; no lower node has too many",
         ),
         "N2": (
-            "{two vertices} have the same identifier",
+            "{two nodes} have the same identifier",
             "give one of them another by a line `i V NUMBER`; without "
-            "such a line a vertex has its own number",
+            "such a line a node has its own number",
         ),
         "NoRoot": (
-            "{a vertex}, which `--root` names, isn't in the network",
-            "name a vertex from 1 to NODES",
+            "{a node}, which `--root` names, isn't in the network",
+            "name a node from 1 to NODES",
         ),
     },
     "a plan": {
-        "C1": ("{a vertex} has no line in the plan", f"add the line `V CHANNEL`; {SAME}"),
+        "C1": ("{a node} has no line in the plan", f"add the line `V CHANNEL`; {SAME}"),
         "C2": (
-            "the plan has a line of {a vertex}, which isn't in the network",
+            "the plan has a line of {a node}, which isn't in the network",
             f"take the line out; {SAME}",
         ),
-        "C3": ("{a vertex} has a second line in the plan", LEAVE),
+        "C3": ("{a node} has a second line in the plan", LEAVE),
         "C4": (
-            "{two vertices} are neighbours, and have the same channel",
+            "{two nodes} are neighbours, and have the same channel",
             "give one of them another channel",
         ),
         "C5": (
-            "{a vertex} has a channel above D + B + 1, with D as the most neighbours and B as the most barred "
-            "channels of a vertex",
+            "{a node} has a channel above D + B + 1, with D as the most neighbours and B as the most barred "
+            "channels of a node",
             "give it a lower channel; `forestlab channels --back` puts real channel numbers back",
         ),
         "C6": (
             "{a line} of the plan is neither `plan` nor `V CHANNEL`, or there is no plan (line 1)",
             "after the network, which ends with a line feed, put a line `plan`, from which lines count here, and "
-            "then a line `V CHANNEL` for each vertex, channels from 1",
+            "then a line `V CHANNEL` for each node, channels from 1",
         ),
         "C8": (
-            "{a vertex} has a channel that is barred at it",
+            "{a node} has a channel that is barred at it",
             "give it another channel, or take the line `b V CHANNEL` out of the network",
         ),
     },
@@ -108,8 +111,8 @@ CODES = {
             "`forestlab transcript replay` looks for an order",
         ),
         "NoSuch E4": (
-            "in {a line} there is no such vertex or port, or the two aren't neighbours",
-            "vertices count from 1, and the ports of a node from 0, by ascending neighbour",
+            "in {a line} there is no such node or port, or the two aren't neighbours",
+            "nodes count from 1, and the ports of a node from 0, by ascending neighbour",
         ),
     },
     "a transcript": {
@@ -162,6 +165,10 @@ WRITTEN = re.compile(
 )
 
 
+# What the programs call a vertex is a node everywhere else.
+NODES = {"vertex": "node", "vertices": "nodes"}
+
+
 class Told(NamedTuple):
     """A fault: its name, its number in brackets, what it is of, what it is, what to do, and what the programs say."""
 
@@ -178,22 +185,30 @@ def told_of_text(text: str) -> Told | None:
     are no fault.
 
     >>> told_of_text("C3 vertex 5").what
-    'vertex 5 has a second line in the plan'
+    'node 5 has a second line in the plan'
     >>> told_of_text("C99") is None
     True
     """
     found = WRITTEN.fullmatch(text)
     if found is None:
         return None
-    at = f"{found[2]} {' and '.join(found[3].split())}" if found[2] else ""
-    return told_of(found[1], at, found[4] or "")
+    return told_of(found[1], fault_place(found[2] or "", (found[3] or "").split()), found[4] or "")
+
+
+def fault_place(of: str, numbers: Iterable[object]) -> str:
+    """Where a fault is, of what a proved program's line calls `line`, `vertex` or `vertices`: a vertex is a node here.
+
+    >>> fault_place("vertices", (1, 2))
+    'nodes 1 and 2'
+    """
+    return f"{NODES.get(of, of)} {in_words(numbers)}" if of else ""
 
 
 def told_of(code: str, at: str = "", more: str = "") -> Told | None:
-    """What is told of a code, of the fault at a line, a vertex or two; None if there is no such code.
+    """What is told of a code, of the fault at a line, a node or two; None if there is no such code.
 
-    >>> told_of("C3", "vertex 5").what
-    'vertex 5 has a second line in the plan'
+    >>> told_of("C3", "node 5").what
+    'node 5 has a second line in the plan'
     """
     for of, codes in CODES.items():
         for names, (what, do) in codes.items():
@@ -209,7 +224,7 @@ def tell_code(told: Told) -> list[str]:
     """What a fault means, and what to do, a line each.
 
     >>> print(*tell_code(told_of_text("C3")), sep="\\n")
-    C3, a fault of a plan: a vertex has a second line in the plan
+    C3, a fault of a plan: a node has a second line in the plan
     what to do: leave one of them
     """
     here = [f"here: {told.more}"] if told.more else []

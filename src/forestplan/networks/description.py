@@ -103,7 +103,7 @@ def times(run: RunSize) -> str:
 def facts(reading: Reading, network: Network) -> list[tuple[str, str]]:
     """(name, what) of each line that `tell` prints."""
     run = RunSize(network)
-    degrees = [len(network.neighbours[v]) for v in network.vertices]
+    degrees = [len(network.neighbours[v]) for v in network.node_numbers]
     edges = len(network.edges)
     forests = network.forest_count
     again = reading.edge_lines - edges

@@ -154,7 +154,7 @@ def was_named(given: Namespace) -> str:
     network = network_at(given.file)
     name = "the plan"
     rows = plan_rows(text_at("-"), name, 0, 10**MOST_DIGITS)
-    if [v for _, v, _ in rows] != list(network.vertices):
+    if [v for _, v, _ in rows] != list(network.node_numbers):
         raise Fault(Code.PLAN_OF_OTHER_NETWORK, name=name)
     return as_text(f"{network.names.get(v, v)} {channel}" for _, v, channel in rows)
 

@@ -31,7 +31,7 @@ PLACE = re.compile(
 )
 NAME = re.compile("[ \t]*c[ \t]+name[ \t]+([0-9]+)[ \t]+([^ \t].*)")
 
-# The words of a line after its first field, how many of them are vertices, what it says, and the fault of one that
+# The words of a line after its first field, how many of them are nodes, what it says, and the fault of one that
 # comes before the `p` line.
 LINES = {
     "e": ("V W", 2, "an edge", Code.EDGE_BEFORE_PROBLEM_LINE),
@@ -81,7 +81,7 @@ class Reading:
             raise self.fault(Code.NO_LINE_OF_A_NETWORK, word=shown_field(word))
 
     def comment(self, raw: str) -> None:
-        """Keeps a place or a name of a vertex."""
+        """Keeps a place or a name of a node."""
         place = PLACE.fullmatch(raw)
         name = NAME.fullmatch(raw.rstrip(" \t\r"))
         if place and (v := field_number(place[1])) is not None:
@@ -101,7 +101,7 @@ class Reading:
         self.nodes, self.promised = pair
 
     def numbers(self, fields: list[str]) -> tuple[int, int]:
-        """The two numbers of a line; a vertex that isn't there is named with the digits that the text has."""
+        """The two numbers of a line; a node that isn't there is named with the digits that the text has."""
         form, count, what, code = LINES[fields[0]]
         if self.nodes is None:
             raise self.fault(code, what=what)
@@ -112,7 +112,7 @@ class Reading:
             )
         for field, v in zip(fields[1 : 1 + count], pair):
             if not 1 <= v <= self.nodes:
-                raise self.fault(Code.NO_VERTEX, vertex=shown_field(field), nodes=self.nodes)
+                raise self.fault(Code.NO_NODE_OF_LINE, node=shown_field(field), nodes=self.nodes)
         if fields[0] == "b" and not 1 <= pair[1] <= MAX_CHANNEL:
             raise self.fault(
                 Code.NO_CHANNEL_TO_BAR, channel=shown_field(fields[2]), most=MAX_CHANNEL
@@ -121,7 +121,7 @@ class Reading:
 
     def edge(self, v: int, w: int) -> None:
         if v == w:
-            raise self.fault(Code.LOOP, vertex=v)
+            raise self.fault(Code.LOOP, node=v)
         self.edges.add((min(v, w), max(v, w)))
         self.edge_lines += 1
         if len(self.edges) > MAX_EDGES:
@@ -131,14 +131,14 @@ class Reading:
         if number >= IDENTIFIERS:
             raise self.fault(Code.IDENTIFIER_ABOVE_LIMIT)
         if v in self.identifiers:
-            raise self.fault(Code.SECOND_IDENTIFIER, vertex=v)
+            raise self.fault(Code.SECOND_IDENTIFIER, node=v)
         self.identifiers[v] = number
 
     def bar(self, v: int, channel: int) -> None:
         barred = self.bars.setdefault(v, set())
         barred.add(channel)
         if len(barred) > MAX_BARS:
-            raise self.fault(Code.BARS_ABOVE_LIMIT, most=MAX_BARS, vertex=v)
+            raise self.fault(Code.BARS_ABOVE_LIMIT, most=MAX_BARS, node=v)
 
     def count(self) -> int:
         """How many nodes there are, by the `p` line."""
@@ -183,19 +183,19 @@ def checked_network(network: Network, path: str) -> Network:
     >>> checked_network(Network(2, [(1, 2)]), "two").nodes
     2
 
-    Raises `Fault` of too many nodes, edges or neighbours, and of an identifier that two vertices have.
+    Raises `Fault` of too many nodes, edges or neighbours, and of an identifier that two nodes have.
     """
     if network.nodes > MAX_NODES:
         raise Fault(Code.TOO_MANY_NODES, InText(path), nodes=network.nodes, most=MAX_NODES)
     if len(network.edges) > MAX_EDGES:
         raise Fault(Code.TOO_MANY_EDGES, InText(path), most=MAX_EDGES)
-    for v in network.vertices:
+    for v in network.node_numbers:
         if len(network.neighbours[v]) > MAX_DEGREE:
             name = network.names.get(v)
             raise Fault(
                 Code.TOO_MANY_NEIGHBOURS,
                 InText(path),
-                vertex=v,
+                node=v,
                 name=name and shown_field(name),
                 neighbours=len(network.neighbours[v]),
                 most=MAX_DEGREE,
@@ -205,7 +205,7 @@ def checked_network(network: Network, path: str) -> Network:
         alike.setdefault(number, []).append(v)
     same = min((found for found in alike.values() if len(found) > 1), default=None)
     if same:
-        raise Fault(Code.ONE_IDENTIFIER_TWICE, InText(path), vertex=same[0], other=same[1])
+        raise Fault(Code.ONE_IDENTIFIER_TWICE, InText(path), node=same[0], other=same[1])
     return network
 
 
@@ -216,7 +216,7 @@ def read_network(text: str, path: str) -> Network:
     {1: [2], 2: [1, 3], 3: [2]}
     >>> read_network("p edge 3 1\\ne 1 4\\n", "path.col")
     Traceback (most recent call last):
-    forestplan.faults.Fault: path.col line 2: there is no vertex 4: there are 3, from 1 on (F5)
+    forestplan.faults.Fault: path.col line 2: there is no node 4: there are 3, from 1 on (F5)
 
     Raises `Fault` of the text's first fault, which has the code that the programs report.
     """

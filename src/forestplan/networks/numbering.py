@@ -16,7 +16,7 @@ Value = TypeVar("Value")
 def network_in_order(
     network: Network, order: Sequence[int], identifiers: Mapping[int, int]
 ) -> Network:
-    """The network of the vertices of `order` alone, in this order. `identifiers` has theirs.
+    """The network of the nodes of `order` alone, in this order. `identifiers` has theirs.
 
     >>> network_in_order(Network(3, [(1, 2), (2, 3)]), [3, 2], {}).names
     {1: '3', 2: '2'}
@@ -39,15 +39,15 @@ def network_in_order(
 
 
 def renumbered(network: Network, seed: str | int) -> Network:
-    """The same `network` with its vertices in a random order, which comes from the `seed`. An identifier that was
+    """The same `network` with its nodes in a random order, which comes from the `seed`. An identifier that was
     given stays; another one is the new number. Each node is named by its old number, if it has no name.
 
     >>> sorted(renumbered(Network(3, [(1, 2)]), "seed").names.values())
     ['1', '2', '3']
 
-    Raises `Fault` if an identifier that a line gives is the new number of another vertex.
+    Raises `Fault` if an identifier that a line gives is the new number of another node.
     """
-    order = shuffled(random.Random(seed), network.vertices)
+    order = shuffled(random.Random(seed), network.node_numbers)
     return checked_network(
         network_in_order(network, order, network.given_identifiers),
         f"{network.name}, numbered again",

@@ -7,12 +7,12 @@ from forestplan.network import Edge, Network
 from forestplan.networks.fields import fields_of, shown_field, field_number
 
 
-# The line, the vertex and the channel.
+# The line, the node and the channel.
 PlanRow = tuple[int, int, int]
 
 
 def plan_rows(text: str, name: str, least: int = 1, below: int = 2**32) -> list[PlanRow]:
-    """(line, vertex, channel) of the lines of a plan, with channels from `least` on and numbers below `below`.
+    """(line, node, channel) of the lines of a plan, with channels from `least` on and numbers below `below`.
 
     >>> plan_rows("plan\\n1 3\\n", "the plan")
     [(2, 1, 3)]
@@ -45,7 +45,7 @@ def fields_by_line(text: str) -> Iterator[tuple[int, list[str]]]:
 
 
 def read_plan(text: str, name: str, network: Network) -> dict[int, int]:
-    """{vertex: channel} of a `text` of a plan of a `network`, which a fault calls by this `name`. Channels count from
+    """{node: channel} of a `text` of a plan of a `network`, which a fault calls by this `name`. Channels count from
     1. Neighbours may share a channel: `clashes` finds them, and a picture shows that.
 
     >>> read_plan("plan\\n1 2\\n2 1\\n", "the plan", Network(2, [(1, 2)]))
@@ -54,32 +54,30 @@ def read_plan(text: str, name: str, network: Network) -> dict[int, int]:
     Raises `Fault` of the first fault that the programs would report, but for neighbours that share a channel.
     """
     plan = {}
-    for line, vertex, channel in plan_rows(text, name):
-        if vertex not in network.vertices:
-            raise Fault(
-                Code.PLAN_OF_OTHER_VERTEX, InText(name, line), vertex=vertex, nodes=network.nodes
-            )
-        if vertex in plan:
-            raise Fault(Code.SECOND_LINE_OF_VERTEX, InText(name, line), vertex=vertex)
+    for line, node, channel in plan_rows(text, name):
+        if node not in network.node_numbers:
+            raise Fault(Code.PLAN_OF_OTHER_NODE, InText(name, line), node=node, nodes=network.nodes)
+        if node in plan:
+            raise Fault(Code.SECOND_PLAN_LINE, InText(name, line), node=node)
         if channel > network.channels:
             raise Fault(
                 Code.CHANNEL_ABOVE_LIMIT,
                 InText(name, line),
-                vertex=vertex,
+                node=node,
                 channel=channel,
                 channels=network.channels,
             )
-        if channel in network.bars.get(vertex, ()):
-            raise Fault(Code.CHANNEL_BARRED, InText(name, line), vertex=vertex, channel=channel)
-        plan[vertex] = channel
-    for vertex in network.vertices:
-        if vertex not in plan:
-            raise Fault(Code.VERTEX_WITHOUT_LINE, InText(name), vertex=vertex)
+        if channel in network.bars.get(node, ()):
+            raise Fault(Code.CHANNEL_BARRED, InText(name, line), node=node, channel=channel)
+        plan[node] = channel
+    for node in network.node_numbers:
+        if node not in plan:
+            raise Fault(Code.NO_PLAN_LINE, InText(name), node=node)
     return plan
 
 
 def clashes(network: Network, plan: dict[int, int]) -> list[Edge]:
-    """The edges of a `network` whose two vertices share a channel in a `plan`, {vertex: channel}. A plan without any is
+    """The edges of a `network` whose two nodes share a channel in a `plan`, {node: channel}. A plan without any is
     proper.
 
     >>> clashes(Network(3, [(1, 2), (2, 3)]), {1: 1, 2: 1, 3: 2})

@@ -34,15 +34,15 @@ def listed_of(data: bytes, name: str, form: str, stated: Stated) -> Listed:
 
 def listed_in(network: Network, path: str) -> Listed:
     """The nodes and edges of a network by their names, which differ."""
-    names = {v: network.names.get(v, str(v)) for v in network.vertices}
-    vertices = {own: v for v, own in names.items()}
+    names = {v: network.names.get(v, str(v)) for v in network.node_numbers}
+    nodes = {own: v for v, own in names.items()}
     for v, own in names.items():
-        if vertices[own] != v:
-            raise Fault(Code.ONE_NAME_TWICE, InText(path), vertex=v, other=vertices[own], name=own)
+        if nodes[own] != v:
+            raise Fault(Code.ONE_NAME_TWICE, InText(path), node=v, other=nodes[own], name=own)
     return Listed(
         "dimacs",
-        edges=[(f"vertex {v}", names[v], names[w]) for v, w in network.edges],
-        nodes={own: f"vertex {v}" for v, own in names.items()},
+        edges=[(f"node {v}", names[v], names[w]) for v, w in network.edges],
+        nodes={own: f"node {v}" for v, own in names.items()},
         places={names[v]: place for v, place in network.places.items() if v in names},
         identifiers={names[v]: number for v, number in network.given_identifiers.items()},
         bars={names[v]: set(channels) for v, channels in network.bars.items()},

@@ -7,19 +7,19 @@ from forestplan.networks.numbering import network_in_order
 
 
 def without_vertex(network: Network, gone: int) -> tuple[Network, list[int]]:
-    """The network without a node, and the vertices that its own were."""
-    left = [v for v in network.vertices if v != gone]
+    """The network without a node, and the nodes that its own were."""
+    left = [v for v in network.node_numbers if v != gone]
     return replace(network_in_order(network, left, network.identifiers), names={}, places={}), left
 
 
 def smaller(network: Network) -> Iterator[tuple[Network, list[int]]]:
     """The networks that lack one of the nodes of this `network`, one of its edges, or the bars of one node; and the one
-    with small identifiers in the same order. With each comes which vertices its own were before.
+    with small identifiers in the same order. With each comes which nodes its own were before.
 
     >>> [(less.nodes, less.edges, before) for less, before in smaller(Network(2, [(1, 2)]))]
     [(1, [], [2]), (1, [], [1]), (2, [], [1, 2])]
     """
-    same = list(network.vertices)
+    same = list(network.node_numbers)
     names = network.identifiers
     own = replace(network, given_identifiers=names, names={}, places={})
     for gone in same:

@@ -16,7 +16,7 @@ def decimal(number: float) -> str:
 
 
 def plain_text(network: Network) -> str:
-    """A network without comments, as the programs are given it: the `p` line, the identifiers that aren't the vertices'
+    """A network without comments, as the programs are given it: the `p` line, the identifiers that aren't the nodes'
     numbers, the bars, and the edges, ascending.
 
     >>> print(plain_text(Network(2, [(2, 1)], {1: 7}, {2: [4]})), end="")

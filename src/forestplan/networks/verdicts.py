@@ -18,7 +18,7 @@ WIRES = ("payload", "ack", "safe", "close")
 @dataclass(frozen=True)
 class Verdict:
     """What a program finds of a text. `code` is the name of what is wrong, and empty if nothing is; `of` is `line`,
-    `vertex`, `vertices` or `entry`, and `numbers` are which, entries counting from 0. Of a proper plan `of` is
+    `node`, `nodes` or `entry`, and `numbers` are which, entries counting from 0. Of a proper plan `of` is
     `channels`. `lacked` has the neighbours for whose wires a node waits, by the word of the wire, and `expected` is the
     wire or the pulse that is possible there; `more` is what the program says of either. `line` is its own line.
     """
@@ -56,8 +56,8 @@ class Verdict:
         return self.numbers[0]
 
     @property
-    def vertices(self) -> tuple[int, ...]:
-        """The vertices that it names."""
+    def nodes(self) -> tuple[int, ...]:
+        """The nodes that it names."""
         return self.numbers if self.of in ("vertex", "vertices") else ()
 
 
@@ -67,7 +67,7 @@ def parsed_verdict(line: str) -> Verdict | None:
     >>> verdict = parsed_verdict("forestplay: NotReady line 9: ack 0 of 2; safe 0 of 2 and 3")
     >>> verdict.code, verdict.numbers, verdict.lacked
     ('NotReady', (9,), {'ack': (2,), 'safe': (2, 3)})
-    >>> parsed_verdict("forestplan: C4 vertices 1 2").vertices
+    >>> parsed_verdict("forestplan: C4 vertices 1 2").nodes
     (1, 2)
     >>> parsed_verdict("proper 3").short
     'proper 3'

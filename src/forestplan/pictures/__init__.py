@@ -14,7 +14,7 @@ returned is the text of a file:
 >>> KINDS["film"].does
 'The rounds of the colouring as a picture that plays by itself: messages move.'
 >>> KINDS["why"].options
-['vertex', 'in_words']
+['node', 'in_words']
 
 The modules:
 
@@ -39,11 +39,11 @@ The modules:
     schedules_space     all states of a tiny network, for the next kind
     schedules_picture   every schedule as a lattice
     sheet               question sheets to print; the command `forestlab sheet`
-    places              where vertices are drawn
+    places              where nodes are drawn
     geometry            fit, radii, bends, labels and messages on links, for pictures and for pages
     translation         geometry as JavaScript
-    layout              places for the vertices of a network that names none
-    marks               vertices, edges, arrows and legends
+    layout              places for the nodes of a network that names none
+    marks               nodes, edges, arrows and legends
     panel               a small map
     palette             all colours
     svg                 a drawing as SVG text

@@ -15,32 +15,32 @@ LEFT, TOP, STEP = 150, 106, 84
 CELLS = ((80, 7), (40, 11), (8, 18), (0, 26))
 
 
-def child_asked(rounds: ColouringRounds, forest: int, vertex: int | None) -> int:
-    """The vertex that is asked for, or else the first one that has a parent in a forest."""
+def child_asked(rounds: ColouringRounds, forest: int, node: int | None) -> int:
+    """The node that is asked for, or else the first one that has a parent in a forest."""
     network = rounds.network
-    children = [v for v in network.vertices if (v, forest) in rounds.parents]
-    if vertex is None and children:
+    children = [v for v in network.node_numbers if (v, forest) in rounds.parents]
+    if node is None and children:
         return children[0]
-    if vertex not in children:
-        if vertex:
-            raise Fault(Code.NO_PARENT_OF_NODE, InText(network.name), forest=forest, vertex=vertex)
+    if node not in children:
+        if node:
+            raise Fault(Code.NO_PARENT_OF_NODE, InText(network.name), forest=forest, node=node)
         raise Fault(Code.NO_PARENT, InText(network.name), forest=forest)
-    return vertex
+    return node
 
 
-def bits_svg(rounds: ColouringRounds, forest: int = 0, vertex: int | None = None) -> str:
+def bits_svg(rounds: ColouringRounds, forest: int = 0, node: int | None = None) -> str:
     network = rounds.network
     rounds.asked_forests((forest, forest))
-    vertex = child_asked(rounds, forest, vertex)
-    parent = rounds.parents[vertex, forest]
+    node = child_asked(rounds, forest, node)
+    parent = rounds.parents[node, forest]
     pairs = [
-        (rounds.pulses[p].colours[vertex, forest], rounds.pulses[p].colours[parent, forest])
+        (rounds.pulses[p].colours[node, forest], rounds.pulses[p].colours[parent, forest])
         for p in range(FIRST, LAST + 1)
     ]
     most = max(digits(number) for pair in pairs for number in pair)
     cell = next(size for more, size in CELLS if most > more)
     lengths = ", ".join(str(max(map(digits, pair))) for pair in pairs)
-    is_short = all(rounds.network.identifiers[v] == v for v in network.vertices)
+    is_short = all(rounds.network.identifiers[v] == v for v in network.node_numbers)
     said = (
         "Here the names are the nodes’ own numbers, which are short. Names of 128 digits become one of six colours "
         "in four steps, too."
@@ -53,14 +53,14 @@ def bits_svg(rounds: ColouringRounds, forest: int = 0, vertex: int | None = None
     )
     svg = Svg(LEFT + most * cell + 350, TOP + 5 * STEP - 12, f"Bit steps of {network.name}")
     svg.heading(
-        f"{network.name}: node {vertex} and its parent {parent} in forest {forest}: {lengths} digits",
+        f"{network.name}: node {node} and its parent {parent} in forest {forest}: {lengths} digits",
         rule,
         said,
     )
     for step, (own, above) in enumerate(pairs):
         with svg.group("pair", f"pulse {FIRST + step}: {own} under {above}"):
             draw_pair(
-                svg, TOP + step * STEP, FIRST + step, (vertex, own), (parent, above), most, cell
+                svg, TOP + step * STEP, FIRST + step, (node, own), (parent, above), most, cell
             )
     return svg.document()
 

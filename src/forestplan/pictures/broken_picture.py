@@ -201,7 +201,7 @@ class OfMerge:
 
     def draw(self, svg: Svg, left: float, top: float, number: int) -> None:
         rounds, f, left = self.both[number], self.clash.forest, left + 20
-        parents = {v: parent for v in self.net.vertices if (parent := self.net.parent(f, v))}
+        parents = {v: parent for v in self.net.node_numbers if (parent := self.net.parent(f, v))}
         titles = "channels before this merge", f"colours in forest {f}", "channels after this merge"
         for at, label in enumerate(titles):
             svg.text(left + (at + 0.5) * PANEL, top - 8, label, 11, INK, "middle", mark="group")

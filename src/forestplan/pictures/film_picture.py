@@ -8,7 +8,7 @@ from forestplan.fault_codes import Code
 from forestplan.faults import Fault, InText
 from forestplan.network import Network
 from forestplan.pictures.geometry import Point
-from forestplan.pictures.map_picture import EDGE, Vertex, begun, draw_map
+from forestplan.pictures.map_picture import EDGE, MapNode, begun, draw_map
 from forestplan.pictures.marks import Map, message_pill, short_name
 from forestplan.pictures.palette import INK
 from forestplan.pictures.player_page import caption
@@ -88,8 +88,8 @@ class Film:
         return {v: colour + 1 for v, colour in self.rounds.first.items()}
 
 
-class Changing(Vertex):
-    """A vertex with the channel that it has so far, and its number beside it."""
+class Changing(MapNode):
+    """A node with the channel that it has so far, and its number beside it."""
 
     def __init__(self, network: Network, v: int, film: Film, channels: list[int | None]) -> None:
         super().__init__(network, v)
@@ -122,17 +122,17 @@ def film_svg(rounds: ColouringRounds) -> str:
         raise Fault(Code.FILM_TOO_LONG, InText(network.name), most=MOST_MESSAGES, messages=messages)
     film = Film(rounds)
     scenes = list(film.channels())
-    vertices = {
+    nodes = {
         v: Changing(network, v, film, [channels.get(v) for channels in scenes])
-        for v in network.vertices
+        for v in network.node_numbers
     }
     title = f"{network.name}: channels, round by round"
-    svg, box = begun(network, vertices, title, title, *[""] * (LINES + 1))
+    svg, box = begun(network, nodes, title, title, *[""] * (LINES + 1))
     said = [caption(rounds, pulse.number) for pulse in film.pulses]
     for number, text in enumerate([*said, last_words(scenes[-1])]):
         with svg.group(film.shown(number, number + 1)):
             draw_words(svg, *text)
-    draw_map(svg, network, vertices, box, EDGE, lambda drawn: draw_messages(svg, film, drawn))
+    draw_map(svg, network, nodes, box, EDGE, lambda drawn: draw_messages(svg, film, drawn))
     svg.element("style", film.style_sheet())
     return svg.document()
 

@@ -43,7 +43,7 @@ MANY_PAIRS = 20_000
 SIGHT = 3.0
 # The most columns and rows of a grid.
 MOST_CELLS = 256
-# A text of about this half width is as near to its vertex at the side as above it; a wider one is moved aside.
+# A text of about this half width is as near to its node at the side as above it; a wider one is moved aside.
 SHORT, LITTLE = 5.0, 1.5
 # The order in which a label tries the sides of its node, which are counted clockwise from the top; and the sines of a
 # quarter of them.
@@ -467,12 +467,12 @@ def labels_at(
             distance = max(distance, radius + USUALLY + half_high)
             reach = max(reach, half_wide)
     near = SIGHT * distance
-    vertices = grid_of(places, near)
+    nodes = grid_of(places, near)
     lines = grid_of(points_of(places, edges, bends), near)
     written = [box for box in taken]
     found: list[Spot] = [(-1, 0, x, y) for x, y in places]
-    for v in crowded_first(places, vertices, near):
-        circles = near_to(vertices, places[v], near + reach)
+    for v in crowded_first(places, nodes, near):
+        circles = near_to(nodes, places[v], near + reach)
         points = near_to(lines, places[v], near + reach)
         boxes = boxes_near(places[v], near + 2 * reach, written)
         found[v] = spot_of(
@@ -504,10 +504,10 @@ def towards_of(begin: Point, end: Point, bend: Point | None) -> Point:
     return (x, y) if bend is None else (x + bend[0], y + bend[1])
 
 
-def crowded_first(places: Sequence[Point], vertices: Grid, near: float) -> list[int]:
+def crowded_first(places: Sequence[Point], nodes: Grid, near: float) -> list[int]:
     """The nodes, those with most others around them first; counted from 0."""
     count = len(places)
-    crowds = [len(near_to(vertices, place, near)) for place in places]
+    crowds = [len(near_to(nodes, place, near)) for place in places]
     keys = [(count - crowds[v]) * count + v for v in range(count)]
     return [key % count for key in sorted(keys)]
 

@@ -1,4 +1,4 @@
-"""Places for the vertices of a network that names none: each two as far apart as the shortest way between them is long,
+"""Places for the nodes of a network that names none: each two as far apart as the shortest way between them is long,
 as nearly as the plane allows (stress majorisation: Gansner, Koren and North, Graph Drawing 2004, with weights 1 / d²).
 Places are complex numbers while they are sought. No random number is used, and they are rounded at the end, so that a
 network has one drawing on every machine."""
@@ -6,25 +6,25 @@ from math import sqrt
 
 from forestplan.network import Network
 
-# Each vertex pays attention to those near to it, and to some that are far apart.
+# Each node pays attention to those near to it, and to some that are far apart.
 NEAR, LANDMARKS = 3, 32
 SWEEPS, STILL = 200, 0.001
-# Of a large network not as many, so that it is laid out in seconds: the pulls of all vertices times the sweeps.
+# Of a large network not as many, so that it is laid out in seconds: the pulls of all nodes times the sweeps.
 MOST_PULLS, LEAST_SWEEPS = 2_000_000, 20
 SPACE = 1.0
 
 
 def laid_out(network: Network) -> dict[int, tuple[float, float]]:
-    """{vertex: (x, y)}, an edge being about 1 long: the connected parts one by one, the largest first, in rows."""
+    """{node: (x, y)}, an edge being about 1 long: the connected parts one by one, the largest first, in rows."""
     parts = sorted(parts_of(network), key=lambda part: (-len(part), part[0]))
     places = in_rows([upright(network, placed(network, part)) for part in parts])
     return {v: (round(place.real, 6), round(place.imag, 6)) for v, place in places.items()}
 
 
 def parts_of(network: Network) -> list[list[int]]:
-    """The vertices of each connected part, ascending."""
+    """The nodes of each connected part, ascending."""
     seen, parts = set(), []
-    for v in network.vertices:
+    for v in network.node_numbers:
         if v not in seen:
             part = sorted(distances(network.neighbours, v))
             seen.update(part)
@@ -35,7 +35,7 @@ def parts_of(network: Network) -> list[list[int]]:
 def distances(
     neighbours: dict[int, list[int]], start: int, most: int | None = None
 ) -> dict[int, int]:
-    """{vertex: edges on a shortest way to it}, up to a number of edges."""
+    """{node: edges on a shortest way to it}, up to a number of edges."""
     found, layer, far = {start: 0}, [start], 0
     while layer and far != most:
         far += 1
@@ -45,7 +45,7 @@ def distances(
 
 
 def landmarks_of(network: Network, part: list[int]) -> list[tuple[int, dict[int, int]]]:
-    """Vertices that are far from each other, with the distances from each: the next is always one farthest from those
+    """Nodes that are far from each other, with the distances from each: the next is always one farthest from those
     before."""
     nearest = dict.fromkeys(part, len(part))
     found: list[tuple[int, dict[int, int]]] = []
@@ -78,7 +78,7 @@ def first_places(
 ) -> dict[int, complex]:
     """By how much nearer each is to one landmark than to another: the first two give x, the next two y."""
     (_, left), (_, right), (_, above), (_, below) = (landmarks * 4)[:4]
-    # A little of the number keeps apart vertices that all landmarks see alike.
+    # A little of the number keeps apart nodes that all landmarks see alike.
     return {
         v: complex(
             0.9 * (left[v] - right[v]) + 0.013 * (at * 7 % 11),
@@ -91,7 +91,7 @@ def first_places(
 def relaxed(
     places: dict[int, complex], pulls: dict[int, list[tuple[int, int]]]
 ) -> dict[int, complex]:
-    """Moves each vertex in turn to the mean of where the others want it, until all stay."""
+    """Moves each node in turn to the mean of where the others want it, until all stay."""
     count = sum(map(len, pulls.values()))
     for _ in range(min(SWEEPS, max(LEAST_SWEEPS, MOST_PULLS // max(1, count)))):
         moved = 0.0
@@ -109,7 +109,7 @@ def relaxed(
 
 
 def upright(network: Network, places: dict[int, complex]) -> dict[int, complex]:
-    """Turned so that as many edges as can be are level or upright, and the whole is wider than high; its least vertex
+    """Turned so that as many edges as can be are level or upright, and the whole is wider than high; its least node
     is in the upper left quarter."""
     edges = [places[w] - places[v] for v in places for w in network.neighbours[v]]
     turn = sum((edge / abs(edge)) ** 4 for edge in edges if edge)

@@ -29,8 +29,8 @@ EDGE = SOFT, 1.4
 Box = tuple[float, float, float, float]
 
 
-class Vertex:
-    """What is drawn of a vertex: a circle with its channel, or if it has none with its number and filled in a colour;
+class MapNode:
+    """What is drawn of a node: a circle with its channel, or if it has none with its number and filled in a colour;
     `words` and its barred channels beside it, and its title; `mark` is the class of its words."""
 
     mark: str | None = None
@@ -52,7 +52,7 @@ class Vertex:
         )
 
     def draw(self, svg: Svg, x: float, y: float, radius: float, spot: Point) -> None:
-        with svg.group("vertex", self.title):
+        with svg.group("map-node", self.title):
             self.draw_circle(svg, x, y, radius)
         self.draw_beside(svg, spot)
 
@@ -82,27 +82,27 @@ class Vertex:
 
 def map_svg(network: Network) -> str:
     said = f"{counted(network.nodes, 'node')}, {counted(len(network.edges), 'edge')}"
-    vertices = {v: Vertex(network, v) for v in network.vertices}
-    svg, box = begun(network, vertices, f"Map of {network.name}", network.name, said)
-    draw_map(svg, network, vertices, box, EDGE)
+    nodes = {v: MapNode(network, v) for v in network.node_numbers}
+    svg, box = begun(network, nodes, f"Map of {network.name}", network.name, said)
+    draw_map(svg, network, nodes, box, EDGE)
     return svg.document()
 
 
 def begun(
-    network: Network, vertices: Mapping[int, Vertex], title: str, *heading: str
+    network: Network, nodes: Mapping[int, MapNode], title: str, *heading: str
 ) -> tuple[Svg, Box]:
     """A picture with its heading, as wide as that and the map need; and the map's box."""
     svg, top = Svg(0, 0, title), 26 + 16 * len(heading)
     svg.heading(*heading)
-    svg.width, height, *_ = box = map_box(network, vertices.values(), svg.width, top)
+    svg.width, height, *_ = box = map_box(network, nodes.values(), svg.width, top)
     svg.height = top + height + 10
     return svg, box
 
 
-def map_box(network: Network, vertices: Iterable[Vertex], least: float, top: float) -> Box:
+def map_box(network: Network, nodes: Iterable[MapNode], least: float, top: float) -> Box:
     """The box of a map, at least so wide: width, height, how much of the width is for what is beside the circles on
     each side, and its upper edge."""
-    beside, width = max(one.room() for one in vertices), width_of_map(network)
+    beside, width = max(one.room() for one in nodes), width_of_map(network)
     height = min(640, box_height(places_of(network), width, MARGIN, 130))
     return max(width + 2 * beside, least), height, beside, top
 
@@ -110,13 +110,13 @@ def map_box(network: Network, vertices: Iterable[Vertex], least: float, top: flo
 def draw_map(
     svg: Svg,
     network: Network,
-    vertices: Mapping[int, Vertex],
+    nodes: Mapping[int, MapNode],
     box: Box,
     edge: tuple[str, float],
     draw_more: Callable[[Map], None] | None = None,
     left: float = 0,
 ) -> None:
-    """The map in a box: its edges in a colour and a width, on them what else is drawn, and the vertices."""
+    """The map in a box: its edges in a colour and a width, on them what else is drawn, and the nodes."""
     width, height, beside, top = box
     radius, least = by_size(network, (8.5, 6.5), (14, 9), (17, 11))
     drawn = Map(
@@ -137,8 +137,8 @@ def draw_map(
     drawn.label(
         {
             v: (one.room() / 2, BAR_RADIUS if one.bars else 0.45 * one.size)
-            for v, one in vertices.items()
+            for v, one in nodes.items()
         }
     )
     for v, (x, y) in sorted(drawn.places.items()):
-        vertices[v].draw(svg, x, y, drawn.radius, drawn.labels[v])
+        nodes[v].draw(svg, x, y, drawn.radius, drawn.labels[v])

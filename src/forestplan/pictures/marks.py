@@ -1,4 +1,4 @@
-"""The marks that the pictures share: vertices by their channel or colour, edges and arrows between them, legends."""
+"""The marks that the pictures share: nodes by their channel or colour, edges and arrows between them, legends."""
 import unicodedata
 from collections.abc import Collection
 from copy import copy
@@ -76,7 +76,7 @@ def channel_circle(
 def blank_circle(
     svg: Svg, x: float, y: float, radius: float, said: int | str, fill: str = PAPER
 ) -> None:
-    """A vertex without a channel, or one that is filled: its number."""
+    """A node without a channel, or one that is filled: its number."""
     mark, size = "blank" if fill == PAPER else "filled", radius * BLANK_SIZE
     svg.circle(x, y, radius, fill, INK, BLANK_RIM, mark=mark)
     svg.label(x, y + 0.36 * size, said, round(size, 1), text_on(fill) if fill != PAPER else INK)
@@ -99,7 +99,7 @@ def bars_width(channels: Collection[int], radius: float) -> float:
 
 
 def bar_row(svg: Svg, x: float, y: float, channels: Collection[int], radius: float) -> None:
-    """The barred channels of a vertex, lowest first, to the right of a place: each in a ring of its hue, crossed out.
+    """The barred channels of a node, lowest first, to the right of a place: each in a ring of its hue, crossed out.
     An ellipsis stands for those that have no room."""
     for at, channel in enumerate(list(channels)[:MOST_BARS]):
         middle_x = x + radius + at * (2 * radius + BAR_GAP)
@@ -164,13 +164,13 @@ def colour_square(
 
 
 def alone_chip(svg: Svg, x: float, y: float, half: float, colour: int) -> None:
-    """The square of a vertex at which no edge of the forest ends: pale."""
+    """The square of a node at which no edge of the forest ends: pale."""
     colour_square(svg, x, y, half, colour, "alone", opacity="0.3")
 
 
 class Map:
-    """A network in a box: the places of its vertices, their radius, and how far its edges are bent, those of a large
-    network not at all; and where `label` has put the vertices' numbers beside them."""
+    """A network in a box: the places of its nodes, their radius, and how far its edges are bent, those of a large
+    network not at all; and where `label` has put the nodes' numbers beside them."""
 
     def __init__(
         self,
@@ -197,17 +197,17 @@ class Map:
             self.bend = {edge: bend for edge, bend in zip(edges, bends) if bend is not None}
 
     def all_places(self) -> list[Point]:
-        return [self.places[v] for v in self.network.vertices]
+        return [self.places[v] for v in self.network.node_numbers]
 
     def label(self, boxes: Places, corner: float = 0) -> None:
-        """Finds where the words of each vertex are, of which `boxes` has half the width and half the height; `corner`
+        """Finds where the words of each node are, of which `boxes` has half the width and half the height; `corner`
         is how much farther out the corners of its mark are."""
         edges = list(self.network.edges)
         bends = [self.bend.get(edge) for edge in edges]
-        texts = [[boxes[v]] for v in self.network.vertices]
+        texts = [[boxes[v]] for v in self.network.node_numbers]
         places = self.all_places()
         spots = labels_at(places, edges, bends, self.radius, corner, texts, [], inf, inf)
-        self.labels = {v: (x, y) for v, (_, _, x, y) in zip(self.network.vertices, spots)}
+        self.labels = {v: (x, y) for v, (_, _, x, y) in zip(self.network.node_numbers, spots)}
 
     def towards(self, a: int, b: int) -> Point:
         """The point towards which the edge from a to b is drawn."""
@@ -247,7 +247,7 @@ class Map:
             svg.head(tip_x, tip_y, ex, ey, head, colour)
 
     def numbers(self, svg: Svg, size: float, down: float) -> None:
-        """The vertices' numbers at their places, whose middle is so far above the ground line."""
+        """The nodes' numbers at their places, whose middle is so far above the ground line."""
         for v, (x, y) in self.labels.items():
             svg.note(x, y + down, v, size, "middle", halo=2.5, mark="number")
 
@@ -259,14 +259,14 @@ def wire_arrow(svg: Svg, x1: float, y1: float, x2: float, y2: float, kind: str) 
     svg.circle(x1, y1, dot, WIRES[kind])
 
 
-# The most letters of a vertex's name that are written beside its number, the last one an ellipsis if there are more.
+# The most letters of a node's name that are written beside its number, the last one an ellipsis if there are more.
 LONGEST_NAME = 12
 # Letters of no width that shape or join those beside them, as in Persian and in signs that are made of several.
 JOINERS = "\u200c\u200d"
 
 
 def short_name(network: Network, v: int) -> str:
-    """The name that the network's text gives a vertex, as there is room for it; `` if it gives none."""
+    """The name that the network's text gives a node, as there is room for it; `` if it gives none."""
     return cut_name(network.names.get(v, ""))
 
 

@@ -65,7 +65,7 @@ def plain_nodes(network: Network, places: Places) -> list[PlainNode]:
             name=network.names.get(v, ""),
             bars=network.bars.get(v, []),
         )
-        for v in network.vertices
+        for v in network.node_numbers
     ]
 
 

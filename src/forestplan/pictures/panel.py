@@ -20,13 +20,13 @@ class Panel(Map):
         self.height = box_height(places, PANEL, margin, 100)
         super().__init__(network, places, PANEL, self.height, margin, radius, least, OF_SQUARES)
         if not self.is_large:
-            boxes: Places = {v: (text_width(v, 8.5) / 2, 4) for v in network.vertices}
+            boxes: Places = {v: (text_width(v, 8.5) / 2, 4) for v in network.node_numbers}
             self.label(boxes, corner=self.radius * CORNER)
 
     def colours(
         self, svg: Svg, left: float, top: float, parents: dict[int, int], colours: dict[int, int]
     ) -> None:
-        """A forest's edges as arrows to the parents, and colours in it; a pale chip where a vertex has no edge."""
+        """A forest's edges as arrows to the parents, and colours in it; a pale chip where a node has no edge."""
         drawn, radius, thin = self.at(left, top), self.radius, 0.6 if self.is_large else 1
         joined = {v for edge in parents.items() for v in edge}
         for v, w in self.network.edges:

@@ -126,18 +126,18 @@ def draw_rounds(of: Source, forests: tuple[int, int] | None, pulses: tuple[int, 
     return program_picture.program_svg(rounds, pulses)
 
 
-def draw_bits(of: Source, forest: int | None, vertex: int | None) -> str:
+def draw_bits(of: Source, forest: int | None, node: int | None) -> str:
     rounds = of.rounds()
     if not isinstance(rounds, ColouringRounds):
         raise Fault(Code.NO_FORESTS, name=of.program.name)
-    return bits_picture.bits_svg(rounds, forest or 0, vertex)
+    return bits_picture.bits_svg(rounds, forest or 0, node)
 
 
-def draw_why(of: Source, vertex: int | None, in_words: bool | None) -> str:
+def draw_why(of: Source, node: int | None, in_words: bool | None) -> str:
     rounds = of.rounds()
     if not isinstance(rounds, ColouringRounds):
         raise Fault(Code.NO_CHANNELS_OF_PROGRAM, name=of.program.name)
-    cone = why_picture.Cone(rounds, vertex)
+    cone = why_picture.Cone(rounds, node)
     return why_picture.why_text(cone) if in_words else why_picture.why_svg(cone)
 
 
@@ -181,7 +181,7 @@ class PictureKind(NamedTuple):
     >>> KINDS["results"].does, KINDS["results"].most[0], KINDS["results"].options
     ('What the nodes of any program have found at their last pulse, on the map.', 400, [])
     >>> KINDS["why"].options
-    ['vertex', 'in_words']
+    ['node', 'in_words']
     """
 
     does: str
@@ -234,7 +234,7 @@ KINDS = {
     ),
     "bits": PictureKind(
         "One node above its parent, digit by digit, over the four bit steps.",
-        "Without --vertex, the least one that has a parent. A vertex without a line `i V NUMBER` has its own\n"
+        "Without --vertex, the least one that has a parent. A node without a line `i V NUMBER` has its own\n"
         "number as its name, of few digits.",
         "forestlab picture bits examples/petersen.col --vertex 6 > petersen-bits.svg",
         draw_bits,
@@ -327,9 +327,9 @@ HELP = (
 MORE_HELP = """\
 NETWORK is a file in the DIMACS format, - for standard input, as in
 `forestlab picture plan - < net.col > net.svg`, or a name, such as petersen or path5.
-Comment lines `c at V X Y` place its vertices, y growing downwards; they count if
-each vertex has one. Otherwise up to six vertices are on a circle, and more are laid out
-by their edges. Vertices that would overlap are drawn smaller, and vertices that are still
+Comment lines `c at V X Y` place its nodes, y growing downwards; they count if
+each node has one. Otherwise up to six nodes are on a circle, and more are laid out
+by their edges. Nodes that would overlap are drawn smaller, and nodes that are still
 too near are pushed apart. Comment lines `c name V NAME` name them, in plan, player and
 run.
 
@@ -399,8 +399,10 @@ def add_parts(kind: ArgumentParser, name: str) -> None:
     if name == "bits":
         kind.add_argument("--forest", type=int, metavar="F", help="one forest, counted from 0")
     if name in ("bits", "why"):
-        said = "a vertex, counted from 1"
-        kind.add_argument("--vertex", type=int, metavar="V", required=name == "why", help=said)
+        said = "a node, counted from 1"
+        kind.add_argument(
+            "--vertex", type=int, dest="node", metavar="V", required=name == "why", help=said
+        )
     if name == "why":
         said = "in words, not as a picture"
         kind.add_argument("--text", action="store_true", dest="in_words", help=said)
@@ -413,7 +415,7 @@ def add_parts(kind: ArgumentParser, name: str) -> None:
         )
         said = "draw a text up to its first entry that isn't possible, and that one in red"
         kind.add_argument("--wrong", action="store_true", help=said)
-        said = "with --wrong, of a run that isn't whole: mark the vertex at which it stopped"
+        said = "with --wrong, of a run that isn't whole: mark the node at which it stopped"
         kind.add_argument("--stopped", type=int, metavar="V", help=said)
 
 
@@ -455,14 +457,14 @@ def drawing(
 
     `texts` are what is drawn: a plan's text of plan, and a transcript of run; watch draws one or two. Without them they
     are worked out by the definitions, and the run is one by chance. `options` are those of the kind: pairs `pulses`,
-    `forests` and `columns`, a `forest`, a `vertex`, and `without`, the rules that schedules and broken leave out.
+    `forests` and `columns`, a `forest`, a `node`, and `without`, the rules that schedules and broken leave out.
     Broken looks for a smallest network if it is None.
 
     >>> from forestplan.networks.sources import network_at
     >>> ring = network_at("ring5")
     >>> drawing("plan", ring).partition(" ")[0], drawing("run", ring, pulses=(3, 5)).partition(" ")[0]
     ('<svg', '<svg')
-    >>> print(drawing("why", ring, vertex=2, in_words=True).splitlines()[0])
+    >>> print(drawing("why", ring, node=2, in_words=True).splitlines()[0])
     why node 2 of ring5 has channel 3
 
     Raises `Fault` if the network is too large for the kind, or a text is wrong; ValueError if there is no such kind,

@@ -1,4 +1,4 @@
-"""Where the vertices of a network are drawn: at given places, on a circle, or laid out by the edges (layout.py)."""
+"""Where the nodes of a network are drawn: at given places, on a circle, or laid out by the edges (layout.py)."""
 from collections.abc import Iterable, Iterator
 from math import cos, pi, sin
 
@@ -9,26 +9,26 @@ from forestplan.pictures.layout import laid_out
 Places = dict[int, Point]
 
 LARGEST_CIRCLE = 6
-# How far apart two vertices are at least, in radii: circles don't touch then; and neither do squares of twice that
+# How far apart two nodes are at least, in radii: circles don't touch then; and neither do squares of twice that
 # width.
 OF_CIRCLES, OF_SQUARES = 2.3, 2.95
 PUSHES = 200
 
 
 def places_of(network: Network) -> Places:
-    """{vertex: (x, y)}: the comment lines `c at V X Y` if they name every vertex; else a circle for up to six; else a
+    """{node: (x, y)}: the comment lines `c at V X Y` if they name every node; else a circle for up to six; else a
     layout."""
-    if all(v in network.places for v in network.vertices):
-        return {v: network.places[v] for v in network.vertices}
+    if all(v in network.places for v in network.node_numbers):
+        return {v: network.places[v] for v in network.node_numbers}
     return circle(network.nodes) if network.nodes <= LARGEST_CIRCLE else laid_out(network)
 
 
 def unused_places(network: Network) -> str | None:
-    """Of a network that places some of its vertices: that they are drawn elsewhere, in words; else None."""
-    named = sum(v in network.places for v in network.vertices)
+    """Of a network that places some of its nodes: that they are drawn elsewhere, in words; else None."""
+    named = sum(v in network.places for v in network.node_numbers)
     if named in (0, network.nodes):
         return None
-    return f"{network.name}: places are given for {named} of {network.nodes} vertices, so they aren't used"
+    return f"{network.name}: places are given for {named} of {network.nodes} nodes, so they aren't used"
 
 
 def turned(turn: float) -> Point:
@@ -37,7 +37,7 @@ def turned(turn: float) -> Point:
 
 
 def circle(nodes: int) -> Places:
-    """Vertex 1 on top, then clockwise."""
+    """Node 1 on top, then clockwise."""
     return {v: turned((v - 1) / nodes) for v in range(1, nodes + 1)}
 
 
@@ -62,7 +62,7 @@ def spaced(
     least: float,
     apart: float,
 ) -> tuple[Places, float]:
-    """The places fitted into a box, and the radius that they leave: at most `radius`. Vertices too near for `least` are
+    """The places fitted into a box, and the radius that they leave: at most `radius`. Nodes too near for `least` are
     pushed apart, as far as the box allows; no two of the radius overlap in any case."""
     places = fit(places, width, height, margin)
     for _ in range(PUSHES):

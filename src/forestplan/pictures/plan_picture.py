@@ -3,15 +3,15 @@ from forestplan.fault_codes import Code
 from forestplan.faults import Fault
 from forestplan.network import Network
 from forestplan.networks.plan_text import clashes
-from forestplan.pictures.map_picture import Vertex, begun, draw_map
+from forestplan.pictures.map_picture import MapNode, begun, draw_map
 from forestplan.pictures.marks import SMALL, short_name
 from forestplan.wording import counted
 
 LARGEST_NUMBERED = 100
 
 
-class Planned(Vertex):
-    """A vertex in the hue of its channel; beside it are its number and name, if there is room for all of them."""
+class Planned(MapNode):
+    """A node in the hue of its channel; beside it are its number and name, if there is room for all of them."""
 
     mark = "number"
 
@@ -19,7 +19,7 @@ class Planned(Vertex):
         super().__init__(network, v)
         self.channel, self.label = channel, f"{v} {short_name(network, v)}".rstrip()
         said = f", barred {', '.join(map(str, self.bars))}" if self.bars else ""
-        self.title = f"vertex {self.label}: channel {channel}{said}"
+        self.title = f"node {self.label}: channel {channel}{said}"
         if network.nodes > LARGEST_NUMBERED:
             self.label, self.bars = "", []
 
@@ -29,11 +29,11 @@ def plan_svg(network: Network, plan: dict[int, int]) -> str:
     if clash:
         v, w = clash[0]
         raise Fault(Code.PLAN_NOT_PROPER, node=v, neighbour=w, channel=plan[v])
-    vertices = {v: Planned(network, v, plan[v]) for v in network.vertices}
+    nodes = {v: Planned(network, v, plan[v]) for v in network.node_numbers}
     used = f"In the circles are the channels: {len(set(plan.values()))} of the {network.channels} allowed"
     svg, box = begun(
         network,
-        vertices,
+        nodes,
         f"Channel plan of {network.name}",
         f"{network.name}: the plan is proper",
         plan_words(network),
@@ -41,7 +41,7 @@ def plan_svg(network: Network, plan: dict[int, int]) -> str:
     )
     edge = ("#B9B9B9", 0.9) if network.nodes > SMALL else ("#9A9A9A", 1.6)
     is_dense = len(network.edges) > 5 * network.nodes
-    draw_map(svg, network, vertices, box, ("#D0D0D0", 0.7) if is_dense else edge)
+    draw_map(svg, network, nodes, box, ("#D0D0D0", 0.7) if is_dense else edge)
     return svg.document()
 
 

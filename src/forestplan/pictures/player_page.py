@@ -67,7 +67,8 @@ def pulse_of_colouring(rounds: ColouringRounds, pulse: Pulse) -> PulseOfColourin
     forests, colours = range(rounds.forests), None
     if pulse.colours:
         colours = [
-            [script_number(pulse.colours[v, f]) for f in forests] for v in rounds.network.vertices
+            [script_number(pulse.colours[v, f]) for f in forests]
+            for v in rounds.network.node_numbers
         ]
     return PulseOfColouring(
         caption=title,
@@ -82,7 +83,7 @@ def pulse_of_colouring(rounds: ColouringRounds, pulse: Pulse) -> PulseOfColourin
 def pulse_of_program(rounds: ProgramRounds, pulse: Pulse) -> PulseOfProgram:
     """Of another program than the colouring each node's result, in words."""
     title, said = caption_of_program(rounds, pulse.number)
-    vertices = rounds.network.vertices
+    nodes = rounds.network.node_numbers
     return PulseOfProgram(
         caption=title,
         said=said,
@@ -90,9 +91,9 @@ def pulse_of_program(rounds: ProgramRounds, pulse: Pulse) -> PulseOfProgram:
         chosen={},
         colours=None,
         puts=put_rows(pulse),
-        results=[pulse.results[v] for v in vertices],
+        results=[pulse.results[v] for v in nodes],
         drawn={v: (colour, other) for v, (colour, other) in pulse.drawn.items()},
-        new=[v for v in vertices if pulse.number and is_new(rounds, pulse, v)],
+        new=[v for v in nodes if pulse.number and is_new(rounds, pulse, v)],
     )
 
 
@@ -135,7 +136,7 @@ def caption(rounds: ColouringRounds, number: int) -> tuple[str, str]:
 def caption_of_program(rounds: ProgramRounds, number: int) -> tuple[str, str]:
     """The same of another program than the colouring."""
     pulse = rounds.pulses[number]
-    found = [v for v in rounds.network.vertices if is_new(rounds, pulse, v)] if number else []
+    found = [v for v in rounds.network.node_numbers if is_new(rounds, pulse, v)] if number else []
     said = (
         f"{counted(len(pulse.puts), 'message')} sent, to be read in the next pulse."
         if pulse.puts

@@ -45,7 +45,7 @@ def program_svg(rounds: ProgramRounds, pulses: tuple[int, int] | None = None) ->
         svg.rect(x, TOP - 20, column, height + 14, "#FFFFFF" if k % 2 else BAND)
         svg.text(x + 5, TOP - 26, f"pulse {pulse.number}", 11.5, PULSE, bold=True, mark="pulse")
         svg.line(x, TOP - 20, x, TOP + height - 6, BORDER, 1)
-    for v in network.vertices:
+    for v in network.node_numbers:
         svg.line(
             LEFT - 8, height_of_row(v), LEFT + len(shown) * column, height_of_row(v), "#B0B0B0", 1
         )
@@ -63,7 +63,7 @@ def draw_pulse(svg: Svg, rounds: ProgramRounds, pulse: Pulse, x: float, column: 
             with svg.group("message", f"{v} to {w}: {word} {number}"):
                 svg.arrow(x1, y1, x + column - 3, height_of_row(w), WIRES["payload"], 1.4, 7)
                 svg.circle(x1, y1, 2, SOFT)
-    for v in rounds.network.vertices:
+    for v in rounds.network.node_numbers:
         if is_new(rounds, pulse, v):
             svg.rect(
                 x + 4,
@@ -93,5 +93,5 @@ def drawn_pulses(rounds: ProgramRounds, pulses: tuple[int, int] | None) -> list[
     return [
         pulse
         for pulse in rounds.pulses[first : last + 1]
-        if pulse.puts or any(is_new(rounds, pulse, v) for v in rounds.network.vertices)
+        if pulse.puts or any(is_new(rounds, pulse, v) for v in rounds.network.node_numbers)
     ]

@@ -61,7 +61,7 @@ def program_rounds(network: Network, program: Program) -> ProgramRounds:
 def drawn_after(
     network: Network, nodes: dict[int, RoundsNode]
 ) -> dict[int, tuple[int | None, int | None]]:
-    """Of each node that says it: a colour, and the vertex at the other end of the edge that it has chosen."""
+    """Of each node that says it: a colour, and the node at the other end of the edge that it has chosen."""
     ports = network.neighbours
     return {
         v: (colour, None if port is None else ports[v][port])

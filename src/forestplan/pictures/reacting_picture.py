@@ -26,7 +26,7 @@ class RunWindow:
 
     def __init__(self, network: Network, made: list[Entry]) -> None:
         self.stop = max(map(stamp_of, made), default=0) + 1
-        names = [text_width(short_name(network, v), 10) for v in network.vertices]
+        names = [text_width(short_name(network, v), 10) for v in network.node_numbers]
         self.left = LEFT + max(names, default=0.0)
         self.width = max(self.x(self.stop) + 160, WIDEST)
 
@@ -41,18 +41,18 @@ def reacting_svg(name: str, network: Network, program: Reacting, made: list[Entr
     """The picture of a run's entries, which are by stamp."""
     window = RunWindow(network, made)
     at_most("run", window.stop, "steps of time side by side", MOST_STEPS, "a smaller network")
-    bottom = window.y(len(network.vertices))
+    bottom = window.y(len(network.node_numbers))
     svg = Svg(window.width, bottom + 50, f"Space and time of {name}")
     wires = wires_by_stamp(made)
     svg.heading(
         f"{name}: {counted(len(wires), 'message')} of {program.name}", TIME_WORDS, MARKS_WORDS
     )
-    for v in network.vertices:
+    for v in network.node_numbers:
         y = window.y(v)
         svg.line(window.left - 6, y, window.width - 16, y, "#8A8A8A", 1)
         svg.text(window.left - 14, y + 5.4, v, 15, INK, "end", bold=True)
         if said := short_name(network, v):
-            svg.note(window.left - 38, y + 3.6, said, 10, "end", mark="vertex-name")
+            svg.note(window.left - 38, y + 3.6, said, 10, "end", mark="node-name")
     draw_arrows(svg, window, wires)
     draw_results(svg, window, network, program, made)
     return svg.document()

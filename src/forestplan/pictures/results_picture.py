@@ -5,7 +5,7 @@ from forestplan.definitions.matching import Matching
 from forestplan.definitions.nodes import Colouring
 from forestplan.definitions.recolouring import Recolouring
 from forestplan.network import Network
-from forestplan.pictures.map_picture import Vertex, begun, draw_map
+from forestplan.pictures.map_picture import MapNode, begun, draw_map
 from forestplan.pictures.marks import Map, short_name
 from forestplan.pictures.palette import INK, channel_hue
 from forestplan.pictures.program_rounds import ProgramRounds
@@ -17,8 +17,8 @@ from forestplan.wording import counted
 OF_CHANNELS, SHOWN = (Colouring, Recolouring), (Matching, IndependentSet)
 
 
-class ResultVertex(Vertex):
-    """What a node is drawn with: `colour`, from 0, and `other`, the vertex at the end of the edge that it has chosen,
+class ResultVertex(MapNode):
+    """What a node is drawn with: `colour`, from 0, and `other`, the node at the end of the edge that it has chosen,
     or None; `words` are beside it."""
 
     mark = "found"
@@ -53,7 +53,7 @@ class ResultVertex(Vertex):
 
 
 def found_in(rounds: ProgramRounds) -> dict[int, ResultVertex]:
-    return {v: ResultVertex(rounds, v) for v in rounds.network.vertices}
+    return {v: ResultVertex(rounds, v) for v in rounds.network.node_numbers}
 
 
 def results_svg(rounds: ProgramRounds) -> str:

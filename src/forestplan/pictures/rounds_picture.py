@@ -147,8 +147,8 @@ def draw_rows(
     last: int,
     square: Callable[[int, int, float, float], None],
 ) -> None:
-    """The heads of the pulses 2 to `last`, and a row for each vertex of `parents`: its number, its parent, and what
-    `square` draws of it, given the vertex, the pulse and a place."""
+    """The heads of the pulses 2 to `last`, and a row for each node of `parents`: its number, its parent, and what
+    `square` draws of it, given the node, the pulse and a place."""
     draw_heads(svg, left + LEFT, top, COLUMN, last)
     svg.note(left + LEFT - 4, top + 18, "pulse", 9, "end")
     for row, (v, parent) in enumerate(parents.items()):
@@ -184,15 +184,15 @@ class Strip:
         """Left: the colour of each node after each of the pulses 2 to 12."""
         svg = self.svg
         svg.text(20, self.top + 20, f"forest {self.forest}", 13.5, INK, bold=True)
-        vertices = self.rounds.network.vertices
-        for v in vertices[::2]:
+        nodes = self.rounds.network.node_numbers
+        for v in nodes[::2]:
             svg.rect(16, self.row(v) - ROW / 2, self.right - 16, ROW, "#FAF8F2")
         with svg.group("colours", f"forest {self.forest}"):
             draw_rows(
                 svg,
                 0,
                 self.top + 45,
-                {v: self.rounds.parents.get((v, self.forest)) for v in vertices},
+                {v: self.rounds.parents.get((v, self.forest)) for v in nodes},
                 LAST_COLOUR,
                 self.square,
             )
@@ -232,7 +232,7 @@ class Strip:
             svg.note(end + 44, top + 63, "barred", 9)
         before = self.rounds.merged[self.forest] if self.forest else {}
         with svg.group("choices", f"forest {self.forest}"):
-            for v in self.rounds.network.vertices:
+            for v in self.rounds.network.node_numbers:
                 self.choices_of(v, before.get(v), end)
 
     def step_heads(self) -> None:

@@ -35,7 +35,7 @@ class Window:
         self.run, self.network, self.nodes, (self.first, self.last) = (
             run,
             run.network,
-            run.network.vertices,
+            run.network.node_numbers,
             pulses,
         )
         self.top, self.row, self.over = top, row, min(30, 0.4 * row)
@@ -176,7 +176,7 @@ def draw_lines(svg: Svg, window: Window) -> None:
         svg.text(window.left - 14, y + 5.4, v, 15, INK, "end", bold=True)
         if name := short_name(window.network, v):
             x = window.left - 18 - text_width(window.network.nodes, 15) * BOLD
-            svg.note(x, y + 3.6, name, 10, "end", mark="vertex-name")
+            svg.note(x, y + 3.6, name, 10, "end", mark="node-name")
 
 
 def draw_wire_legend(svg: Svg, kinds: tuple[str, ...]) -> None:

@@ -17,7 +17,7 @@ from forestplan.network import Network
 from forestplan.networks.random_networks import alike_edges
 from forestplan.networks.texts import plain_text
 from forestplan.parsers import Parser, add_output, add_seed, count, parser_of
-from forestplan.pictures.map_picture import EDGE, Vertex, draw_map
+from forestplan.pictures.map_picture import EDGE, MapNode, draw_map
 from forestplan.pictures.pages import filled, page_file_text
 from forestplan.pictures.svg import Svg, escaped
 
@@ -56,7 +56,7 @@ class Sheet:
         self.name, self.answers = name, answers
         self.source = random.Random(name)
         self.net = network_by(self.source)
-        self.rounds, self.vertices = ColouringRounds(self.net), self.net.vertices
+        self.rounds, self.node_numbers = ColouringRounds(self.net), self.net.node_numbers
         self.edges = [*self.net.edges]
 
     def any_of(self, things: Sequence[Thing]) -> Thing:
@@ -80,10 +80,10 @@ class Sheet:
         return f"<b class=answer>{entry}</b>" if self.answers else ""
 
     def table(self, head: str, rows: Sequence[tuple[str, Sequence[int | str], bool]]) -> str:
-        """A row of vertices, and rows of (name, entries, whether they are given)."""
+        """A row of nodes, and rows of (name, entries, whether they are given)."""
         lines = [
             f"<tr><th>{escaped(head)}</th>"
-            + "".join(f"<td>{v}</td>" for v in self.vertices)
+            + "".join(f"<td>{v}</td>" for v in self.node_numbers)
             + "</tr>"
         ]
         for name, entries, is_given in rows:
@@ -105,13 +105,17 @@ class Sheet:
         )
         yield (
             "<p>Somebody has made this plan. Which neighbours have the same channel?</p>"
-            + self.table("node", [("channel", [wrong[v] for v in self.vertices], True)])
+            + self.table("node", [("channel", [wrong[v] for v in self.node_numbers], True)])
             + f"<p>{self.filled('; '.join(pairs), True)}</p>"
         )
 
     def lesson_2(self) -> Iterator[str]:
         rows = [
-            (f"parent in forest {f}", [self.net.parent(f, v) or "-" for v in self.vertices], False)
+            (
+                f"parent in forest {f}",
+                [self.net.parent(f, v) or "-" for v in self.node_numbers],
+                False,
+            )
             for f in range(FORESTS)
         ]
         yield (
@@ -123,7 +127,7 @@ class Sheet:
         table = self.rounds.colours[0]
         children = [
             (v, w)
-            for v in self.vertices
+            for v in self.node_numbers
             if (w := self.net.parent(0, v)) and not self.net.parent(0, w)
         ]
         v, w = self.any_of(children)
@@ -132,12 +136,12 @@ class Sheet:
             ask = "Bit steps in forest 0: the colours of" if node == v else "And of"
             yield f"<p>{ask} {name} after the pulses 2 to 6? {self.filled(said, True)}</p>"
         colours = self.dropping()
-        rows = [("pulse 6", [colours[v] for v in self.vertices], True)]
+        rows = [("pulse 6", [colours[v] for v in self.node_numbers], True)]
         for p, x in ((7, 5), (9, 4), (11, 3)):
             shifted = shift(self.net, 0, colours)
             colours = drop(x, self.net, 0, shifted, colours)
             rows += [
-                (f"pulse {q}: {what}", [row[v] for v in self.vertices], False)
+                (f"pulse {q}: {what}", [row[v] for v in self.node_numbers], False)
                 for q, what, row in ((p, "shift", shifted), (p + 1, f"drop {x}", colours))
             ]
         yield (
@@ -149,9 +153,9 @@ class Sheet:
         """Colours 0 to 5 in forest 0, no two neighbours there alike, of which each drop changes some: a shift moves a
         colour one edge down, so a 5, a 4 and a 3 in a row are one after the other the colour of the node below it.
         """
-        row = self.any_of([row for row in map(self.row_above, self.vertices) if len(row) == 4])
+        row = self.any_of([row for row in map(self.row_above, self.node_numbers) if len(row) == 4])
         while True:
-            first = {v: self.any_of(range(6)) for v in self.vertices} | dict(
+            first = {v: self.any_of(range(6)) for v in self.node_numbers} | dict(
                 zip(row[1:], (5, 4, 3))
             )
             if all(first[v] != at_parent(self.net, 0, first, v) for v in first):
@@ -166,7 +170,7 @@ class Sheet:
 
     def lesson_4(self) -> Iterator[str]:
         rows = [
-            (name, [colours[v] for v in self.vertices], is_given)
+            (name, [colours[v] for v in self.node_numbers], is_given)
             for f in range(FORESTS)
             for name, colours, is_given in (
                 (f"colour in forest {f}", self.rounds.colours[f][LAST_COLOUR], True),
@@ -174,7 +178,7 @@ class Sheet:
             )
         ]
         yield "<p>Merge the two forests; all begin with colour 0.</p>" + self.table("node", rows)
-        v, f = self.any_of(self.vertices), FORESTS - 1
+        v, f = self.any_of(self.node_numbers), FORESTS - 1
         turn = self.rounds.turns[f, v]
         yield (
             f"<p>At which pulse does node {v} choose in the merge of forest {f}? {self.filled(turn)} Which pulse is "
@@ -210,7 +214,9 @@ class Sheet:
 
     def map(self) -> str:
         svg = Svg(*MAP, f"network of sheet {self.name}")
-        draw_map(svg, self.net, {v: Vertex(self.net, v) for v in self.vertices}, (*MAP, 0, 0), EDGE)
+        draw_map(
+            svg, self.net, {v: MapNode(self.net, v) for v in self.node_numbers}, (*MAP, 0, 0), EDGE
+        )
         return f'<svg width="{MAP[0]}" height="{MAP[1]}" role="img" aria-label="the network">\n{svg.inner()}\n</svg>'
 
 

@@ -82,8 +82,8 @@ class Run:
         line = wrong[1].line if wrong and self.is_stamped else None
         self.made = [entry for entry in order.made if line is None or entry.line < line]
         self.last, self.wires = program.last_pulse(network), wires_by_stamp(self.made)
-        self.ticks, self.reached = {v: {0: 0} for v in network.vertices}, dict.fromkeys(
-            network.vertices, 0
+        self.ticks, self.reached = {v: {0: 0} for v in network.node_numbers}, dict.fromkeys(
+            network.node_numbers, 0
         )
         for entry in self.made:
             self.reached[entry.node] = stamp_of(entry)

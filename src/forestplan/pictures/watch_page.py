@@ -115,7 +115,7 @@ def steps_of_text(
 ) -> Steps:
     """The steps of a transcript, as far as they are needed for these pulses; or its first fault in words."""
     order, _ = ordered(text, name, network, program)
-    state, made = alpha_start(network, program), dict.fromkeys(network.vertices, 0)
+    state, made = alpha_start(network, program), dict.fromkeys(network.node_numbers, 0)
     steps = Steps(state)
     for entry in order.made:
         make_entry(state, entry)
@@ -142,7 +142,7 @@ class ShownRun:
         self.name, self.network, nodes = name, network, steps.state.nodes
         self.last, self.is_whole = nodes[1].last, all(node.drained() for node in nodes.values())
         every = steps.every if pulses else steps.every[: MOST_ENTRIES + 1]
-        self.at_pulse = {v: {0: 0} for v in network.vertices}
+        self.at_pulse = {v: {0: 0} for v in network.node_numbers}
         for entry, *_ in every:
             if isinstance(entry.what, int):
                 self.at_pulse[entry.node][entry.what] = stamp_of(entry)
@@ -212,7 +212,7 @@ class ShownRun:
         ]
         return RunTable(
             name=self.name,
-            start=[self.start[v] for v in self.network.vertices],
+            start=[self.start[v] for v in self.network.node_numbers],
             rows=rows,
             wires=wires,
             looks=list(looks),

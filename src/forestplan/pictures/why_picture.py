@@ -25,18 +25,18 @@ NOT_FOLLOWED = (
 
 
 class Cone:
-    """The facts on which the channel of `vertex` depends, and the messages that carried them."""
+    """The facts on which the channel of `node` depends, and the messages that carried them."""
 
-    def __init__(self, rounds: ColouringRounds, vertex: int | None) -> None:
+    def __init__(self, rounds: ColouringRounds, node: int | None) -> None:
         self.rounds, self.network = rounds, rounds.network
-        if vertex is None or vertex not in self.network.vertices:
-            raise Fault(Code.NO_VERTEX_OF_NETWORK, name=self.network.name, vertex=vertex)
-        self.vertex = vertex
+        if node is None or node not in self.network.node_numbers:
+            raise Fault(Code.NO_NODE_OF_NETWORK, name=self.network.name, node=node)
+        self.node = node
         # The pulse, from, to, and what was said.
         self.messages: set[tuple[int, int, int, str]] = set()
         self.facts: set[Fact] = set()
         if rounds.forests:
-            self.facts = self.behind(("merged", vertex, rounds.forests - 1))
+            self.facts = self.behind(("merged", node, rounds.forests - 1))
 
     def behind(self, fact: Fact) -> set[Fact]:
         """A fact and all those on which it depends."""
@@ -48,12 +48,12 @@ class Cone:
         return found
 
     def choices(self) -> list[tuple[int, int]]:
-        """(vertex, forest) of each choice that mattered, the last one first."""
+        """(node, forest) of each choice that mattered, the last one first."""
         found = [(v, f) for kind, v, *more in self.facts if kind == "merged" for f in more]
         return sorted(found, key=lambda choice: (-self.rounds.turns[choice[1], choice[0]], choice))
 
     def coloured(self) -> list[tuple[int, int]]:
-        """(vertex, forest) where a colour mattered, by forest."""
+        """(node, forest) where a colour mattered, by forest."""
         found = {(f, v) for kind, v, *more in self.facts if kind == "colour" for f in more[:1]}
         return [(v, f) for f, v in sorted(found)]
 
@@ -128,7 +128,7 @@ def cone_summary(cone: Cone) -> str:
     if not names:
         return "It has no neighbour that is heard: the least channel that isn't barred."
     sent = sum(len(pulse.puts) for pulse in cone.rounds.pulses)
-    far = distances(cone.network.neighbours, cone.vertex)
+    far = distances(cone.network.neighbours, cone.node)
     most = max(far[v] for v in names)
     return (
         f"{len(cone.messages)} of {sent} messages decided it, and the identifiers of {len(names)} of "
@@ -138,13 +138,13 @@ def cone_summary(cone: Cone) -> str:
 
 
 def channel_of(cone: Cone) -> int:
-    return cone.rounds.merged[-1][cone.vertex] + 1
+    return cone.rounds.merged[-1][cone.node] + 1
 
 
 def why_text(cone: Cone) -> str:
     """In words: each choice that mattered, the last one first, and the colours that gave the turns."""
     lines = [
-        f"why node {cone.vertex} of {cone.network.name} has channel {channel_of(cone)}",
+        f"why node {cone.node} of {cone.network.name} has channel {channel_of(cone)}",
         cone_summary(cone),
     ]
     for v, f in cone.choices():
@@ -199,8 +199,8 @@ def why_svg(cone: Cone) -> str:
     rounds, network = cone.rounds, cone.network
     forests = cone.forests()
     if not forests:
-        raise Fault(Code.NODE_IN_NO_FOREST, node=cone.vertex, name=network.name)
+        raise Fault(Code.NODE_IN_NO_FOREST, node=cone.node, name=network.name)
     at_most("why", len(forests) * network.nodes, "rows", MOST_ROWS, "--text, which has no limit")
-    title = f"{network.name}: why node {cone.vertex} has channel {channel_of(cone)}"
+    title = f"{network.name}: why node {cone.node} has channel {channel_of(cone)}"
     pale = "Pale is what didn’t decide it; the last column, with the channels after a merge, is never pale."
     return draw_strips(rounds, forests, title, [cone_summary(cone), pale], cone)

@@ -19,10 +19,10 @@ if TYPE_CHECKING:
 
 
 def stop_words(run: Run, stopped: int | None) -> str:
-    """What is wrong with a run, if something is. Of one that isn't whole `stopped` may say at which vertex it
+    """What is wrong with a run, if something is. Of one that isn't whole `stopped` may say at which node it
     stopped."""
-    if stopped is not None and stopped not in run.network.vertices:
-        raise Fault(Code.NO_VERTEX_OF_NETWORK, name=run.network.name, vertex=stopped)
+    if stopped is not None and stopped not in run.network.node_numbers:
+        raise Fault(Code.NO_NODE_OF_NETWORK, name=run.network.name, node=stopped)
     if run.wrong:
         return f"Red: {run.wrong[1]}."
     where = "" if stopped is None else f": it stops at node {stopped}"
@@ -41,7 +41,7 @@ def usual_pulses(run: Run, wrong: Entry) -> tuple[int, int]:
 
 def draw_wrong(svg: Svg, window: "Window", kinds: Collection[str], stopped: int | None) -> None:
     """A short arrow for each wire that nobody took; in red the wrong entry, a tick or the beginning or the end of an
-    arrow, or a disc behind the last entry of the vertex at which the run stopped."""
+    arrow, or a disc behind the last entry of the node at which the run stopped."""
     run = window.run
     for wire in run.wires:
         if wire.kind in kinds and wire.take is None and window.start <= wire.put <= window.stop:

@@ -102,7 +102,7 @@ class AlphaSpace(Space[RuledNode]):
         for this pulse's inbox or the next."""
         name = self.net.identifiers
         found: list[tuple[int, int, tuple[str, int]]] = []
-        for a, v in enumerate(self.vertices):
+        for a, v in enumerate(self.node_numbers):
             for w, port in zip(self.ports[v], self.locals[a][state[a]].ports):
                 for number in self.contents[state[self.slot[v, w]]]:
                     match self.wires[number]:
@@ -119,8 +119,8 @@ class AlphaSpace(Space[RuledNode]):
     def is_whole(self, state: State) -> bool:
         """Whether all nodes are through, and all links empty."""
         return all(
-            self.locals[a][state[a]].drained() for a in range(len(self.vertices))
-        ) and not any(state[len(self.vertices) :])
+            self.locals[a][state[a]].drained() for a in range(len(self.node_numbers))
+        ) and not any(state[len(self.node_numbers) :])
 
     def stuck_words(self, s: int) -> str:
         """That nothing is possible in a state before the end, and who waits for what."""
@@ -135,10 +135,10 @@ class AlphaSpace(Space[RuledNode]):
     # What is read off.
 
     def nodes(self, s: int) -> dict[int, Status]:
-        """Where each node is in a state, by its vertex."""
+        """Where each node is in a state, by its node."""
         return {
             v: self.status_of(v, self.locals[a][self.states[s][a]])
-            for a, v in enumerate(self.vertices)
+            for a, v in enumerate(self.node_numbers)
         }
 
     def status_of(self, v: int, node: RuledNode) -> Status:
@@ -164,7 +164,9 @@ class AlphaSpace(Space[RuledNode]):
     @property
     def farthest(self) -> int:
         """The most pulses that two neighbours are apart in any state."""
-        places = [(self.vertices.index(v), self.vertices.index(w)) for v, w in self.links if v < w]
+        places = [
+            (self.node_numbers.index(v), self.node_numbers.index(w)) for v, w in self.links if v < w
+        ]
         pulses = [[node.pulse_number for node in nodes] for nodes in self.locals]
         return max(
             (

@@ -24,7 +24,7 @@ def own_rounds_text(net: Network, program: Program) -> str:
     found: dict[int, str] = {}
     for pulse, nodes, inboxes, sent in synchronous_pulses(net, program):
         lines.append(f"pulse {pulse}")
-        for v in net.vertices:
+        for v in net.node_numbers:
             now = nodes[v].result()
             said = [
                 payload_sentence("hears", "from", net.neighbours[v], inboxes.get(v, [])),

@@ -3,7 +3,7 @@
 A run of nodes without a common clock is a list of steps: a node takes a wire from a link, puts one on a link, or
 makes a pulse. Whoever plays a run keeps a list of the steps that are possible, and asks a policy which comes next:
 
-    policy = Policy("slow-link", network.vertices, network.edges, seed="7")
+    policy = Policy("slow-link", network.node_numbers, network.edges, seed="7")
     step = policy.choose(steps)         # one of the list
 
 All chance comes from the seed. So a run depends on the network, the policy, the seed and what the nodes do, and not
@@ -80,8 +80,8 @@ Thing = TypeVar("Thing")
 
 
 class Policy:
-    """Chooses steps by the policy of a `name` of POLICIES, and all chance comes from the `seed`. `vertices` and `edges`
-    (pairs, the lower vertex first) are the network's; `chosen` is the edge or the node that waits or comes first, or
+    """Chooses steps by the policy of a `name` of POLICIES, and all chance comes from the `seed`. `nodes` and `edges`
+    (pairs, the lower node first) are the network's; `chosen` is the edge or the node that waits or comes first, or
     None. Whatever the policy is, what goes over a `slow` edge and what a `lazy` node does waits until no other step is
     possible.
 
@@ -95,7 +95,7 @@ class Policy:
     def __init__(
         self,
         name: str,
-        vertices: Collection[int],
+        nodes: Collection[int],
         edges: Collection[tuple[int, int]],
         seed: str | int,
         slow: Collection[Edge] = (),
@@ -107,7 +107,7 @@ class Policy:
         # Of a seed's generator only random() gives the same numbers in all versions of Python.
         self.source = random.Random(f"{seed} {name}")
         self.last: Step | None = None
-        among: dict[str, list[int | Edge]] = {"edge": [*edges], "node": [*vertices]}
+        among: dict[str, list[int | Edge]] = {"edge": [*edges], "node": [*nodes]}
         choices = among.get(CHOSEN.get(name, ""), [])
         self.chosen = self.any_of(choices) if choices else None
         self.slow = {tuple(sorted(edge)) for edge in slow}

@@ -37,7 +37,7 @@ class Runs:
         for number in range(self.count):
             policy = list(POLICIES)[number % len(POLICIES)]
             self.play_one(
-                Policy(policy, self.net.vertices, self.net.edges, f"{self.seed} {number}")
+                Policy(policy, self.net.node_numbers, self.net.edges, f"{self.seed} {number}")
             )
         return self
 

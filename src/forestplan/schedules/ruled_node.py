@@ -99,7 +99,7 @@ class RuledNode(AlphaNode, SearchedNode):
         return node
 
     def key(self) -> Hashable:
-        """Equal for equal nodes of one vertex."""
+        """Equal for equal states of one node."""
         return (
             self.pulse_number,
             self.safe_sent,
@@ -139,7 +139,7 @@ def kept(function: Callable[[RoundsNode], Made], node: RoundsNode) -> Made:
 
 @dataclass(eq=False)
 class InboxRounds:
-    """The synchronous run of a program: `inbox[v, p]` of each vertex and pulse from 1."""
+    """The synchronous run of a program: `inbox[v, p]` of each node and pulse from 1."""
 
     ports: dict[int, list[int]]
     inbox: dict[tuple[int, int], list[Slot]]

@@ -1,5 +1,5 @@
 """The rounds with rules left out (rules.OF_PROGRAMS), and the smallest network on which they go wrong. Those of the
-colouring are lists over the vertices, by the definitions. Programs that go on where it ends are played as nodes, whose
+colouring are lists over the nodes, by the definitions. Programs that go on where it ends are played as nodes, whose
 rules are `without`; what isn't right at their end is looked for of the theorems (docs/claim/DEFINITIONS.md) that these
 rules break, so not that an edge may be added, or a channel lowered.
 

@@ -222,7 +222,7 @@ def played(
     """
     check_names(net, slow, lazy)
     player = player or player_of(net, program)
-    entries = player.entries(Policy(policy, net.vertices, net.edges, seed, slow, lazy))
+    entries = player.entries(Policy(policy, net.node_numbers, net.edges, seed, slow, lazy))
     if isinstance(program, Reacting):
         entries = islice(entries, MOST_ENTRIES)
     for _ in entries:

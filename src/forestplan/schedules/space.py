@@ -2,12 +2,12 @@
 
     space = Space(net, node_of, without=("fifo",), limit=200_000).search()
 
-`net` is a network of the definitions, and `node_of(net, v)` the node of a vertex at its start. A put is made as soon as
+`net` is a network of the definitions, and `node_of(net, v)` the node v at its start. A put is made as soon as
 it can be, so that a state has no messages that wait to be put, and no event is a put. Without the rule `fifo` a take
 may overtake others. The search ends at the first event or state that goes wrong, which a shortest list of events leads
 to. If there are more than `limit` states it ends there, and `is_cut`: states from `expanded` on have no steps.
 
-    space.vertices        [1, 2, 3]; space.ports[v] are v's neighbours, ascending (port 0 first)
+    space.node_numbers        [1, 2, 3]; space.ports[v] are v's neighbours, ascending (port 0 first)
     space.links           [(v, w), ..]: what v puts for w
     space.count           how many states there are; they are numbered from 0, the start, by width
     space.depth[s]        the least number of events that lead to state s
@@ -59,7 +59,7 @@ Place = tuple[int, int | None]
 
 
 class Move(NamedTuple):
-    """An event that is possible: the place of its node among the vertices, its number, the number of the node's value
+    """An event that is possible: the place of its node among the nodes, its number, the number of the node's value
     after it or None, the link that it takes from or None, the number of what that holds then, the messages that go on
     links, and what goes wrong."""
 
@@ -98,7 +98,7 @@ class SearchedNode(Node, Protocol):
         """A node that is changed alone."""
 
     def key(self) -> Hashable:
-        """Equal for equal nodes of one vertex."""
+        """Equal for equal states of one node."""
 
 
 Same = TypeVar("Same", bound=SearchedNode)
@@ -123,14 +123,14 @@ class Space(Generic[AnySearched]):
         self.without = tuple(without)
         self.limit = limit
         self.asks_for_messages = asks_for_messages(file)
-        self.vertices = net.vertices
+        self.node_numbers = net.node_numbers
         self.ports = net.neighbours
-        self.links = [(v, w) for v in self.vertices for w in self.ports[v]]
-        self.slot = {link: k for k, link in enumerate(self.links, len(self.vertices))}
-        self.arriving = [[self.slot[w, v] for w in self.ports[v]] for v in self.vertices]
+        self.links = [(v, w) for v in self.node_numbers for w in self.ports[v]]
+        self.slot = {link: k for k, link in enumerate(self.links, len(self.node_numbers))}
+        self.arriving = [[self.slot[w, v] for w in self.ports[v]] for v in self.node_numbers]
         # The parts of a state, each kept once and known by its number; a link's content are the numbers of its
         # messages, and content 0 is empty.
-        self.locals: list[Numbered[AnySearched]] = [Numbered() for _ in self.vertices]
+        self.locals: list[Numbered[AnySearched]] = [Numbered() for _ in self.node_numbers]
         self.wires: Numbered[Message] = Numbered()
         self.contents: Numbered[tuple[int, ...]] = Numbered()
         self.contents.number(())
@@ -160,17 +160,17 @@ class Space(Generic[AnySearched]):
     def after(self, a: int, node: AnySearched) -> tuple[int, Gone]:
         """(number of the node's value, messages that go on its links), its out-lists being put."""
         gone = []
-        for w, port in zip(self.ports[self.vertices[a]], node.ports):
+        for w, port in zip(self.ports[self.node_numbers[a]], node.ports):
             if port.out:
                 content = self.contents.number(tuple(map(self.wires.number, port.out)))
-                gone.append((self.slot[self.vertices[a], w], content))
+                gone.append((self.slot[self.node_numbers[a], w], content))
                 port.out = []
         return self.locals[a].number(node, node.key()), tuple(gone)
 
     def find_act(self, a: int, i: int) -> After:
         """What a step of its own of the node with this value comes to."""
         node = self.locals[a][i].copied()
-        fault, is_refused = self.fault_of_act(self.vertices[a], node)
+        fault, is_refused = self.fault_of_act(self.node_numbers[a], node)
         if is_refused:
             return None, (), fault
         node.act()
@@ -186,7 +186,7 @@ class Space(Generic[AnySearched]):
         try:
             node.on_wire(port, wire)
         except NotPossible:
-            v = self.vertices[a]
+            v = self.node_numbers[a]
             return None, (), f"node {v} refuses `{wire}` from {self.ports[v][port]}"
         return *self.after(a, node), None
 
@@ -196,7 +196,7 @@ class Space(Generic[AnySearched]):
 
     def find_moves(self, a: int, i: int, *arriving: int) -> Moves:
         """The moves of a node with this value and these contents of the links to it, and which is made `alone`."""
-        v, node, moves = self.vertices[a], self.locals[a][i], []
+        v, node, moves = self.node_numbers[a], self.locals[a][i], []
         if node.may_act():
             j, gone, fault = self.act(a, i)
             e = self.events.number(Event(node.own, v))
@@ -219,8 +219,8 @@ class Space(Generic[AnySearched]):
 
     def start(self) -> State:
         """The first state; `first_puts` are the messages that are put by then."""
-        state = [0] * (len(self.vertices) + len(self.links))
-        for a, v in enumerate(self.vertices):
+        state = [0] * (len(self.node_numbers) + len(self.links))
+        for a, v in enumerate(self.node_numbers):
             state[a], gone = self.after(a, self.node_of(self.net, v))
             self.first_puts += gone
         return self.with_all(state, self.first_puts)
@@ -267,7 +267,7 @@ class Space(Generic[AnySearched]):
         """Notes the steps of a state, and the new states that they lead to."""
         state = self.states[s]
         possible: list[Move] = []
-        for a in range(len(self.vertices)):
+        for a in range(len(self.node_numbers)):
             moves, alone = self.moves_in(state, a)
             if alone:
                 possible = [alone]
@@ -297,11 +297,11 @@ class Space(Generic[AnySearched]):
 
     def wrong_words(self, state: State, is_end: bool) -> str:
         """What the file of a program says of what its nodes have found in a state."""
-        found = tuple(self.result(a, state[a]) for a in range(len(self.vertices)))
+        found = tuple(self.result(a, state[a]) for a in range(len(self.node_numbers)))
         messages = tuple(self.under_way(state)) if self.asks_for_messages else ()
         key = found, messages, is_end
         if key not in self.verdicts:
-            results = dict(zip(self.vertices, found))
+            results = dict(zip(self.node_numbers, found))
             sentence = what_is_wrong(self.net, self.file, results, "always", messages)
             if is_end and not sentence:
                 sentence = what_is_wrong(self.net, self.file, results)
@@ -354,7 +354,7 @@ class Space(Generic[AnySearched]):
 
     def results(self, s: int) -> dict[int, str]:
         """What each node has found in a state."""
-        return {v: self.result(a, self.states[s][a]) for a, v in enumerate(self.vertices)}
+        return {v: self.result(a, self.states[s][a]) for a, v in enumerate(self.node_numbers)}
 
     @property
     def most_wires(self) -> int:
@@ -389,7 +389,7 @@ class Space(Generic[AnySearched]):
         state, gone = self.states[0], tuple(self.first_puts)
         for event in events:
             for slot, number in gone:
-                link = self.links[slot - len(self.vertices)]
+                link = self.links[slot - len(self.node_numbers)]
                 wires = [self.wires[wire] for wire in self.contents[number]]
                 held[link] += range(len(sent[link]), len(sent[link]) + len(wires))
                 sent[link] += wires
@@ -408,6 +408,6 @@ class Space(Generic[AnySearched]):
 
     def after_event(self, state: State, event: Event) -> tuple[State, Gone]:
         """The state after an event, which stays as it is if a node refuses that; and the messages that go on links."""
-        a = self.vertices.index(event.node)
+        a = self.node_numbers.index(event.node)
         move = next(move for move in self.moves_in(state, a)[0] if self.events[move.event] == event)
         return state if move.value is None else self.moved(state, move.value, move), move.gone

@@ -27,7 +27,7 @@ class OfVertex(Protocol):
     """What is asked of a node."""
 
     @property
-    def vertex(self) -> int | None:
+    def node(self) -> int | None:
         """Its number."""
 
 
@@ -67,7 +67,7 @@ def either_program_asked(asked: OfProgram, network: Network, session: Session) -
     options: dict[str, int] = {str(option): int(value)} if value else {}
     if not 1 <= options.get("passes", 1) <= MAX_PASSES:
         raise Fault(Code.PASSES, most=MAX_PASSES)
-    if options.get("root", 1) not in network.vertices:
+    if options.get("root", 1) not in network.node_numbers:
         raise Fault(Code.NO_NODE_AS_ROOT, root=options["root"])
     if name not in (*PROGRAMS, *session.own):
         name = "?"
@@ -96,6 +96,6 @@ def rules_asked(asked: WithoutRules, among: Collection[str]) -> tuple[str, ...]:
 
 
 def vertex_asked(asked: OfVertex, network: Network) -> int:
-    if asked.vertex is None or asked.vertex not in network.vertices:
-        raise Fault(Code.NO_NODE_OF_FIELD, vertex=asked.vertex)
-    return asked.vertex
+    if asked.node is None or asked.node not in network.node_numbers:
+        raise Fault(Code.NO_NODE_OF_FIELD, node=asked.node)
+    return asked.node

@@ -83,7 +83,7 @@ def goal(network: Network, dare: str) -> tuple[Collection[Edge], int]:
         return network.edges, 2
     if dare != "ends":
         return [], 0
-    ways = {v: distances(network.neighbours, v) for v in network.vertices}
+    ways = {v: distances(network.neighbours, v) for v in network.node_numbers}
     pairs = [(v, w) for v in ways for w in sorted(ways[v]) if v < w]
     if not pairs:
         raise Fault(Code.NO_TWO_JOINED)
@@ -95,12 +95,12 @@ def channels_or_results(network: Network, program: Program) -> list[str | int]:
     """What the nodes find in the rounds: their channels, or the words of another program."""
     rounds = rounds_of(network, program)
     if isinstance(rounds, ColouringRounds):
-        return [rounds.merged[-1][v] + 1 for v in network.vertices]
-    return [rounds.pulses[-1].results[v] for v in network.vertices]
+        return [rounds.merged[-1][v] + 1 for v in network.node_numbers]
+    return [rounds.pulses[-1].results[v] for v in network.node_numbers]
 
 
 def results_judged(player: Stepwise, network: Network, program: Program) -> DareJudged:
-    looks = [look_of(player.state, v) for v in network.vertices]
+    looks = [look_of(player.state, v) for v in network.node_numbers]
     if player.is_over or not all(look.done for look in looks):
         return NOT_HALTED
     is_same = [look.found for look in looks] == channels_or_results(network, program)

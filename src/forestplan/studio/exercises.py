@@ -113,7 +113,7 @@ def two_rounds(call: ExerciseCall, session: Session, _tell: Tell) -> ExerciseJud
     """In how many rounds a row of four chooses in the order of the numbers."""
     network = row_asked(call, 4)
     at: dict[int, int] = {}
-    for v in sorted(network.vertices, key=network.identifiers.__getitem__):
+    for v in sorted(network.node_numbers, key=network.identifiers.__getitem__):
         at[v] = 1 + max((at[w] for w in network.neighbours[v] if w in at), default=0)
     rounds = max(at.values())
     return ExerciseJudged(
@@ -150,7 +150,7 @@ def bar(call: ExerciseCall, session: Session, _tell: Tell) -> ExerciseJudged:
     before, now = colours(free), colours(network)
     changes = [
         f"node {v} has channel {now[v] + 1} instead of {before[v] + 1}"
-        for v in network.vertices
+        for v in network.node_numbers
         if now[v] != before[v]
     ]
     return ExerciseJudged(True, in_words(changes))

@@ -60,7 +60,7 @@ def proved_rounds(network: Network, text: str, session: Session) -> ColouringRou
 
 
 def verdict_on(network: Network, text: str, plan: dict[int, int], session: Session) -> Verdict:
-    """What `check` finds of a plan {vertex: channel}."""
+    """What `check` finds of a plan {node: channel}."""
     if session.is_proved:
         lines = as_text(["plan", *(f"{v} {channel}" for v, channel in plan.items())])
         status, output, said = said_by("forestplan", ["check"], text, lines)
@@ -73,7 +73,7 @@ def verdict_on(network: Network, text: str, plan: dict[int, int], session: Sessi
             return Verdict("C5", "vertex", (v,))
         if channel in network.bars.get(v, ()):
             return Verdict("C8", "vertex", (v,))
-    blank = [v for v in network.vertices if v not in plan]
+    blank = [v for v in network.node_numbers if v not in plan]
     if blank:
         return Verdict("C1", "vertex", (blank[0],))
     same = sorted(clashes(network, plan))
@@ -152,6 +152,6 @@ def beginning_judged(
         said=said,
         by=PYTHON,
         entries=len(entries),
-        pulses=[state.nodes[v].pulse_number for v in network.vertices],
+        pulses=[state.nodes[v].pulse_number for v in network.node_numbers],
         wires=sum(map(len, state.link.values())),
     )

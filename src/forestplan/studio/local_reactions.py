@@ -48,8 +48,8 @@ class LocalReactions:
         self.network, self.program, self.without = network, program, frozenset(without)
         self.player = ReactingStepwise(network, program, without)
         self.links = [(v, w) for v, ws in network.neighbours.items() for w in ws]
-        self.found: dict[int, list[LocalReaction]] = {v: [] for v in network.vertices}
-        self.nodes: dict[int, list[ReactingNode]] = {v: [] for v in network.vertices}
+        self.found: dict[int, list[LocalReaction]] = {v: [] for v in network.node_numbers}
+        self.nodes: dict[int, list[ReactingNode]] = {v: [] for v in network.node_numbers}
         self.numbers: dict[tuple[int, object], int] = {}
         self.sent: dict[tuple[int, int, tuple[int, str]], list[tuple[int, Message]]] = {}
         self.starts: dict[int, tuple[tuple[int, str], ...]] = {}
@@ -82,10 +82,10 @@ class LocalReactions:
         """The state in which a run begins; what each node has put then is noted."""
         state = self.player.state
         made = [entry for entry in self.player.made if entry.kind is PUT]
-        for v in self.network.vertices:
+        for v in self.network.node_numbers:
             own = [entry for entry in made if entry.node == v]
             self.starts[v] = tuple((entry.neighbour or 0, str(entry.what)) for entry in own)
-        nodes = tuple(self.number(v, state.nodes[v]) for v in self.network.vertices)
+        nodes = tuple(self.number(v, state.nodes[v]) for v in self.network.node_numbers)
         wires = tuple(tuple(state.link[v, state.port_to[v, w]]) for v, w in self.links)
         return WholeState(nodes, wires)
 
@@ -102,17 +102,17 @@ class LocalReactions:
 
     def look_at(self, at: WholeState, is_end: bool) -> None:
         """What the file says of a state of the network."""
-        looks = [self.found[v][k].look for v, k in zip(self.network.vertices, at.nodes)]
+        looks = [self.found[v][k].look for v, k in zip(self.network.node_numbers, at.nodes)]
         results = tuple(look.found for look in looks)
         if results not in self.always:
-            by_node = dict(zip(self.network.vertices, results))
+            by_node = dict(zip(self.network.node_numbers, results))
             self.always[results] = what_is_wrong(self.network, self.program.file, by_node, "always")
         if is_end:
             self.ends.add(results)
 
     def steps_from(self, at: WholeState) -> Iterator[WholeState]:
         """The states to which the steps lead that are possible in one."""
-        for v, k in zip(self.network.vertices, at.nodes):
+        for v, k in zip(self.network.node_numbers, at.nodes):
             if self.nodes[v][k].may_act():
                 yield self.after(at, v, OWN_STEP, None)
         for slot, (w, v) in enumerate(self.links):

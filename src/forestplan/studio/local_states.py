@@ -55,10 +55,10 @@ class LocalStates:
             network, lambda net, v: RuledNode(net, v, without, program)
         )
         self.last = self.state.nodes[1].last
-        self.found: dict[int, list[LocalState]] = {v: [] for v in network.vertices}
+        self.found: dict[int, list[LocalState]] = {v: [] for v in network.node_numbers}
         self.starts: dict[int, tuple[tuple[int, str], ...]] = {}
         # The nodes themselves and their numbers, the wires that come to each by each neighbour, and what is to be done.
-        self.nodes: dict[int, list[RuledNode]] = {v: [] for v in network.vertices}
+        self.nodes: dict[int, list[RuledNode]] = {v: [] for v in network.node_numbers}
         self.numbers: dict[tuple[int, object], int] = {}
         self.wires: dict[tuple[int, int], list[Message]] = {
             (v, w): [] for v, ws in network.neighbours.items() for w in ws
@@ -71,7 +71,7 @@ class LocalStates:
         return synchronous_rounds(self.network, self.program)
 
     def find(self) -> "LocalStates":
-        for v in self.network.vertices:
+        for v in self.network.node_numbers:
             node = self.state.nodes[v]
             self.starts[v] = self.put(v, node)
             self.number(v, node)

@@ -132,7 +132,7 @@ class RoundsPageCall(OfProgram):
 class WhyCall(OfNetwork):
     """Asks why a node has its channel."""
 
-    vertex: int
+    node: int
 
 
 @dataclass(frozen=True, kw_only=True)
@@ -146,7 +146,7 @@ class PictureCall(AfterSteps, OfProgram):
     without rounds is that of some steps."""
 
     kind: PictureKind
-    vertex: int | None = None
+    node: int | None = None
     forest: int | None = None
     transcript: str | None = None
     pulses: tuple[int, ...] = ()
@@ -210,7 +210,7 @@ class PredictCall(OfProgram):
     """Asks whether a node has after a pulse what a student has said."""
 
     forest: int = 0
-    vertex: int
+    node: int
     pulse: int
     said: Word
 
@@ -219,7 +219,7 @@ class PredictCall(OfProgram):
 class WaitsCall(AfterSteps, WithoutRules, OfProgram):
     """Asks whether a node waits for what a student has said."""
 
-    vertex: int
+    node: int
     said: Word
 
 

@@ -86,7 +86,7 @@ def other_judged(results: dict[int, str], usual: dict[int, str], count: str) -> 
 def usual_end(network: Network, program: Reacting) -> dict[int, str]:
     """What nodes have found at the end, if what has been possible for longest always comes first."""
     player = Player(program.start(network))
-    policy = Policy("oldest", network.vertices, network.edges, "1")
+    policy = Policy("oldest", network.node_numbers, network.edges, "1")
     for number, _ in enumerate(player.entries(policy), 1):
         if number == MOST_ENTRIES:
             raise Fault(Code.RUN_WITHOUT_END, policy=policy.name, most=MOST_ENTRIES)

@@ -79,7 +79,7 @@ def reactions_found(
         entries=len(player.made),
         ran=Ran(function, node or 0),
         dare=dare,
-        nodes=[reacted(player, v) for v in network.vertices],
+        nodes=[reacted(player, v) for v in network.node_numbers],
         ended=player.is_ended,
         always=always,
         right=right,

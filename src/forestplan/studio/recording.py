@@ -313,15 +313,15 @@ class Recording:
             )
             return self.questions(on, program_rounds(network, program), 1)
         rounds = ColouringRounds(network)
-        for v in network.vertices:
-            self.ask(WhyCall(network=on.text, vertex=v))
+        for v in network.node_numbers:
+            self.ask(WhyCall(network=on.text, node=v))
             for forest in range(max(1, rounds.forests)):
-                self.ask(PictureCall(network=on.text, kind="bits", vertex=v, forest=forest))
+                self.ask(PictureCall(network=on.text, kind="bits", node=v, forest=forest))
         self.questions(on, rounds, max(1, rounds.forests))
 
     def questions(self, on: OnPage, rounds: ColouringRounds | ProgramRounds, forests: int) -> None:
         for pulse in range(1, len(rounds.pulses)):
-            for v in rounds.network.vertices:
+            for v in rounds.network.node_numbers:
                 for forest in range(forests):
                     key = f"predict {bare(on.text)}{on.program} {v} {pulse} {forest}"
                     try:
@@ -586,7 +586,7 @@ def all_runs_of(
 def reactions_of(found: LocalReactions) -> AllReactions:
     """The table of the states of nodes that react to messages."""
     looks: dict[str, tuple[int, Reacted]] = {}
-    nodes = [one_node(found, v, looks) for v in found.network.vertices]
+    nodes = [one_node(found, v, looks) for v in found.network.node_numbers]
     always = {by_lines(results): wrong for results, wrong in sorted(found.always.items())}
     return AllReactions(
         overtakes="fifo" in found.without,
@@ -620,7 +620,7 @@ def one_node(found: LocalReactions, v: int, looks: dict[str, tuple[int, Reacted]
 def end_said(found: LocalReactions, results: tuple[str, ...]) -> EndSaid:
     """What is said of an end with these results."""
     network, program = found.network, found.program
-    by_node = dict(zip(network.vertices, results))
+    by_node = dict(zip(network.node_numbers, results))
     wrong = what_is_wrong(network, program.file, by_node)
     has_right = "right" in program.file.functions
     judged = {
@@ -657,11 +657,11 @@ def verdicts_of(network: Network) -> AllVerdicts:
     return AllVerdicts(
         of=[
             {bar: bad("C8", v) for bar in network.bars.get(v, ()) if bar <= network.channels}
-            for v in network.vertices
+            for v in network.node_numbers
         ],
-        above=[bad("C5", v) for v in network.vertices],
+        above=[bad("C5", v) for v in network.node_numbers],
         most=network.channels,
-        blank=[bad("C1", v) for v in network.vertices],
+        blank=[bad("C1", v) for v in network.node_numbers],
         alike=[(v, w, bad("C4", v, w)) for v, w in sorted(network.edges)],
         good=[good(greatest) for greatest in range(1, network.channels + 1)],
     )

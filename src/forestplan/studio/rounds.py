@@ -7,7 +7,7 @@ from forestplan.definitions.rounds import ColouringRounds
 from forestplan.fault_codes import Code
 from forestplan.faults import Fault
 from forestplan.network import Network
-from forestplan.networks.codes import told_of
+from forestplan.networks.codes import fault_place, told_of
 from forestplan.networks.plan_text import read_plan
 from forestplan.networks.verdicts import Verdict
 from forestplan.pictures import broken_picture, player_page, reacting_picture, why_picture
@@ -49,7 +49,7 @@ def answer_plan(call: PlanCall, session: Session, _tell: Tell) -> PlanFound:
     network = network_asked(call)
     channels = read_plan(proved_plan(network, call.network, session), "the plan", network)
     return PlanFound(
-        plan=[channels[v] for v in network.vertices],
+        plan=[channels[v] for v in network.node_numbers],
         allowed=network.channels,
         degree=network.greatest_degree,
         bars=network.greatest_bars,
@@ -63,7 +63,7 @@ def answer_check(call: CheckCall, session: Session, _tell: Tell) -> GoodPlan | B
     network = network_asked(call)
     if len(call.plan) > network.nodes or min(call.plan, default=0) < 0:
         raise Fault(Code.PLAN_OF_FIELD, nodes=network.nodes)
-    channels = {v: channel for v, channel in zip(network.vertices, call.plan) if channel}
+    channels = {v: channel for v, channel in zip(network.node_numbers, call.plan) if channel}
     return of_verdict(verdict_on(network, call.network, channels, session))
 
 
@@ -71,22 +71,13 @@ def of_verdict(verdict: Verdict) -> GoodPlan | BadPlan:
     """A verdict on a plan, and what its code means."""
     if not verdict.code:
         return GoodPlan(verdict.short, [], verdict.numbers[0])
-    place = f"{verdict.of} {' and '.join(map(str, verdict.numbers))}" if verdict.of else ""
+    place = fault_place(verdict.of, verdict.numbers)
     found = told_of(verdict.code, place)
     if found is None:
         raise Fault(Code.PROGRAM_REFUSES, why=verdict.line)
     return BadPlan(
-        said=verdict.short,
-        code=found.name,
-        at=verdict.vertices,
-        sentence=of_nodes(found.what),
-        do=of_nodes(found.do),
+        said=verdict.short, code=found.name, at=verdict.nodes, sentence=found.what, do=found.do
     )
-
-
-def of_nodes(text: str) -> str:
-    """In the page's words: a vertex is a node."""
-    return text.replace("vertices", "nodes").replace("vertex", "node")
 
 
 def rounds_asked(call: OfProgram, session: Session) -> ProgramRounds | ColouringRounds:
@@ -157,7 +148,7 @@ def answer_picture(call: PictureCall, session: Session, _tell: Tell) -> str:
         if call.transcript is None:
             raise Fault(Code.NO_TRANSCRIPT_OF_FIELD)
         texts = [Text("the run", call.transcript)]
-    if call.vertex is not None:
+    if call.node is not None:
         vertex_asked(call, network)
     if len(call.pulses) not in (0, 2):
         raise Fault(Code.NO_TWO_PULSES)
@@ -165,7 +156,7 @@ def answer_picture(call: PictureCall, session: Session, _tell: Tell) -> str:
         call.kind,
         Source(network, program_of_call(call, network, session), texts, title=network.name),
         forest=call.forest,
-        vertex=call.vertex,
+        node=call.node,
         pulses=call.pulses or None,
     )
 

@@ -88,7 +88,7 @@ def run_by_seed(
     if call.policy is None:
         raise Fault(Code.NO_POLICY)
     policy = Policy(
-        call.policy, network.vertices, network.edges, call.seed, *held_of(call, network)
+        call.policy, network.node_numbers, network.edges, call.seed, *held_of(call, network)
     )
     player = AlphaPlayer(network, program)
     made = Steps(player.state)
@@ -180,7 +180,7 @@ def singled_out(call: RunCall, network: Network) -> str | None:
     """The link or the node that the policy has chosen by its seed, if it chooses one."""
     if call.transcript or call.how == "threads" or call.policy is None:
         return None
-    of = Policy(call.policy, network.vertices, network.edges, call.seed).chosen
+    of = Policy(call.policy, network.node_numbers, network.edges, call.seed).chosen
     if of is None:
         return None
     return f"node {of}" if isinstance(of, int) else "the link {}–{}".format(*of)
@@ -271,7 +271,7 @@ def pulses_found(
         made=player.chosen,
         steps=[] if player.is_over else player.possible(),
         last=player.state.nodes[1].last,
-        looks=[look_of(player.state, v) for v in network.vertices],
+        looks=[look_of(player.state, v) for v in network.node_numbers],
         wires=player.words_under_way(),
         said=player.last_step,
         fault=player.fault,

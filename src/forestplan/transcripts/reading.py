@@ -79,11 +79,11 @@ def entry_of(line: int, fields: list[bytes], program: str, head: Head) -> Entry:
     if head.is_stamped:
         stamp, own = number_in_field(fields[0], "stamp", 2**64), fields[1:]
     match own:
-        case [vertex, step, count] if step == head.own.value.encode():
-            v = number_in_field(vertex, "node")
+        case [node, step, count] if step == head.own.value.encode():
+            v = number_in_field(node, "node")
             return Entry(line, v, head.own, None, number_in_field(count, head.own.value), stamp)
-        case [vertex, b"put" | b"take" as kind, neighbour, *of_wire] if of_wire:
-            v, w = number_in_field(vertex, "node"), number_in_field(neighbour, "neighbour")
+        case [node, b"put" | b"take" as kind, neighbour, *of_wire] if of_wire:
+            v, w = number_in_field(node, "node"), number_in_field(neighbour, "neighbour")
             wire = message_of(*of_wire) if head.own is ACT else wire_of(program, *of_wire)
             return Entry(line, v, OF_WIRES[kind], w, wire, stamp)
     code = Code.NO_ENTRY_AFTER_STAMP if head.is_stamped else Code.NO_KIND_OF_ENTRY

@@ -11,7 +11,7 @@ from forestplan.transcripts.rules import Standing, rule_of, stuck_words
 
 
 class Clock:
-    """Lamport's clock: the counter of each of the `vertices`, from 0, and of each link the stamps of the wires that
+    """Lamport's clock: the counter of each of the `nodes`, from 0, and of each link the stamps of the wires that
     were put and not taken.
 
     >>> clock = Clock([1, 2])
@@ -19,8 +19,8 @@ class Clock:
     (1, 2, 3)
     """
 
-    def __init__(self, vertices: Iterable[int]) -> None:
-        self.counters = dict.fromkeys(vertices, 0)
+    def __init__(self, nodes: Iterable[int]) -> None:
+        self.counters = dict.fromkeys(nodes, 0)
         self.links: dict[tuple[int | None, int | None], deque[int]] = {}
 
     def next(self, kind: Kind, v: int, neighbour: int | None) -> int:

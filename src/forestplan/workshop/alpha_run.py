@@ -25,10 +25,10 @@ OWN_DATA = "its own data"
 
 
 class StampedText(NamedTuple):
-    """What a node did: `words` as a transcript has them, with the neighbour's vertex; `stamp` is Lamport's."""
+    """What a node did: `words` as a transcript has them, with the neighbour's number; `stamp` is Lamport's."""
 
     stamp: int
-    vertex: int
+    node: int
     text: str
 
 
@@ -60,16 +60,16 @@ class AlphaRun:
         self.policy = policy
         self.links: dict[tuple[int, int], Link] = {}
         self.count = 0
-        self.counters = dict.fromkeys(self.network.vertices, 0)
+        self.counters = dict.fromkeys(self.network.node_numbers, 0)
         self.entries: list[StampedText] = []
         self.results: dict[int, str] = {}
-        self.pulses = dict.fromkeys(self.network.vertices, 0)
+        self.pulses = dict.fromkeys(self.network.node_numbers, 0)
         self.stop: tuple[int, NoAnswer, str] | None = None
 
     def play(self, nodes: Nodes) -> None:
         """Until nothing is on its way, a node gives no answer, or there are more entries than any right run has: then
         one of them is wrong, for certain."""
-        for v in self.network.vertices:
+        for v in self.network.node_numbers:
             if not self.is_answered(
                 nodes, v, own_data(self.network, v, "alpha", self.rounds.own_lines), OWN_DATA
             ):
@@ -132,7 +132,7 @@ class AlphaRun:
         self.entries.append(StampedText(self.counters[v], v, text))
 
     def in_order(self) -> list[StampedText]:
-        """The entries in the order of a transcript: by stamp, and then by vertex."""
+        """The entries in the order of a transcript: by stamp, and then by node."""
         return sorted(self.entries, key=lambda entry: entry[:2])
 
     def text(self) -> str:

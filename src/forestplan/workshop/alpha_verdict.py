@@ -166,7 +166,7 @@ def no_answer(
 
 def stuck(run: AlphaRun, entries: list[StampedText], verdict: Verdict) -> Finding:
     """Nothing is on its way, and not all is done: who could do something, and who waits for what."""
-    all_at = [at_node(run.rounds, entries, v) for v in run.network.vertices]
+    all_at = [at_node(run.rounds, entries, v) for v in run.network.node_numbers]
     owing = [at for at in all_at if at.dues()]
     waiting = [
         f"node {at.v} for {at.lacks}" for at in all_at if not at.dues() and at.pulse < at.last

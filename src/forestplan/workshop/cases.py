@@ -27,7 +27,7 @@ WITH_BARS = (COLOURING, "independent-set", "recolouring")
 @dataclass
 class Case:
     """One run of an assignment on a `network`, under a `policy` and a `seed`. `number` counts the runs of a seed;
-    `owners`, by vertex from 1 on, the numbers of the commands that run there; `finding` is None if it was right; `run`
+    `owners`, by node from 1 on, the numbers of the commands that run there; `finding` is None if it was right; `run`
     is what was played, and `league` what a right run of an own algorithm took; `is_part`, whether its network is what
     was left of a greater one.
 
@@ -84,8 +84,8 @@ def case_network(name: str, chance: Random) -> Network:
 def varied(network: Network, chance: Random, program: str) -> Network:
     """The same edges with other identifiers; for programs that heed bars also sometimes with other bars, and for the
     layers with identifier 1, their root, at one node in most networks."""
-    vertices = list(network.vertices)
-    own = [network.identifiers[v] for v in network.vertices]
+    nodes = list(network.node_numbers)
+    own = [network.identifiers[v] for v in network.node_numbers]
     names = identifiers(own, chance.choice(HOW[:2] if network.name in KEPT else HOW), chance)
     if program == "layers" and 1 not in names and chance.random() < 0.8:
         names[chance.randrange(len(names))] = 1
@@ -94,14 +94,14 @@ def varied(network: Network, chance: Random, program: str) -> Network:
         channels = range(1, network.greatest_degree + 2)
         bars = {
             v: chance.sample(channels, 1 + chance.randrange(2))
-            for v in vertices
+            for v in nodes
             if chance.random() < 0.3
         }
-    return replace(network, given_identifiers=dict(zip(vertices, names)), bars=bars)
+    return replace(network, given_identifiers=dict(zip(nodes, names)), bars=bars)
 
 
 def identifiers(own: list[int], how: str, chance: Random) -> list[int]:
-    """The identifiers of the vertices in order, chosen in a way of `HOW`."""
+    """The identifiers of the nodes in order, chosen in a way of `HOW`."""
     count = len(own)
     match how:
         case "moved":

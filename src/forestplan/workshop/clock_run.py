@@ -53,14 +53,14 @@ class ClockRun(PutsOfRounds, ABC):
 
     def play(self, nodes: Nodes) -> Finding | None:
         """Plays all pulses; returns what is wrong in the first pulse in which something is."""
-        questions = {v: self.first_message(v) for v in self.network.vertices}
+        questions = {v: self.first_message(v) for v in self.network.node_numbers}
         p = 0
         while True:
             self.puts.append({})
             answers = nodes.ask_all(questions)
             found = [
                 finding
-                for v in self.network.vertices
+                for v in self.network.node_numbers
                 if (finding := self.answered(p, v, answers[v]))
             ]
             if len(found) > 1:
@@ -77,7 +77,7 @@ class ClockRun(PutsOfRounds, ABC):
                     f"pulse {p}",
                     *(f"take {port} {payload}" for port, payload in self.inbox(p, v).items()),
                 ]
-                for v in self.network.vertices
+                for v in self.network.node_numbers
             }
 
     def first_message(self, v: int) -> list[str]:
@@ -257,7 +257,7 @@ class OpenRun(ClockRun):
     def judged(self, p: int) -> Finding | None:
         """The verdict of the proved check. A channel that is too great for it to be read has C6."""
         if not self.is_done():
-            silent = [v for v in self.network.vertices if v not in self.channels]
+            silent = [v for v in self.network.node_numbers if v not in self.channels]
             sentence = f"after {p} pulses " + (
                 f"{numbers_in_words('node', first_of(silent))} said no channel"
                 if silent

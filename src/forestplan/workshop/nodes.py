@@ -16,7 +16,7 @@ PATIENCE = 1.0  # seconds that programs have to end at the end of their input
 
 
 class Nodes:
-    """A program for each vertex, by the number of its command. Used in `with`, so that all are stopped, whatever
+    """A program for each node, by the number of its command. Used in `with`, so that all are stopped, whatever
     happens."""
 
     def __init__(

@@ -65,7 +65,9 @@ class CasePlayer:
 
     def play(self, case: Case) -> bool:
         """Whether it is right; what was played and found is then in the case."""
-        case.owners = case.owners or [(v - 1) % len(self.commands) for v in case.network.vertices]
+        case.owners = case.owners or [
+            (v - 1) % len(self.commands) for v in case.network.node_numbers
+        ]
         run = case.run = self.run_of(case)
         try:
             with self.nodes(case) as nodes:
@@ -91,7 +93,7 @@ class CasePlayer:
         if self.options.assignment == "rounds":
             return RoundsRun(rounds)
         return AlphaRun(
-            rounds, Policy(case.policy, case.network.vertices, case.network.edges, case.seed)
+            rounds, Policy(case.policy, case.network.node_numbers, case.network.edges, case.seed)
         )
 
     def name_owner(self, case: Case, found: Finding) -> None:
@@ -100,7 +102,9 @@ class CasePlayer:
         texts = []
         for owner, command in enumerate(self.commands):
             nodes = [
-                v for v in case.network.vertices if case.owners[v - 1] == owner and v != found.node
+                v
+                for v in case.network.node_numbers
+                if case.owners[v - 1] == owner and v != found.node
             ]
             if nodes:
                 texts.append(
@@ -159,10 +163,10 @@ class CasePlayer:
         left = 0 if case.wrong.kind in ("silent", "late") else MOST_SHRINKS
         while left and time.monotonic() < self.over:
             found = None
-            for network, vertices in smaller(case.network):
+            for network, nodes in smaller(case.network):
                 left -= 1
                 self.say(f"looking for a smaller case that is wrong, {MOST_SHRINKS - left} tried")
-                owners = [case.owners[v - 1] for v in vertices]
+                owners = [case.owners[v - 1] for v in nodes]
                 other = Case(case.number, network, case.policy, case.seed, owners, is_part=True)
                 if not self.play(other) and other.wrong.is_like(case.wrong):
                     found = other

@@ -52,7 +52,7 @@ def described(case: Case) -> list[str]:
     lines = [f"case   {case.number}: {name}{policy}; {counted(network.nodes, 'node')}, {edges}"]
     names = [
         f"node {v} is {network.identifiers[v]}"
-        for v in network.vertices
+        for v in network.node_numbers
         if network.identifiers[v] != v
     ]
     if names:

@@ -26,7 +26,8 @@ class PutsOfRounds:
         self.network = network
         self.puts: list[dict[int, dict[int, str]]] = []
         self.ports = {
-            v: {w: port for port, w in enumerate(network.neighbours[v])} for v in network.vertices
+            v: {w: port for port, w in enumerate(network.neighbours[v])}
+            for v in network.node_numbers
         }
 
     def inbox(self, p: int, v: int) -> dict[int, str]:

@@ -79,7 +79,7 @@ export function isWithin(box: [number, number, number, number], wide: number, hi
 export function labelsAt(places: [number, number][], edges: [number, number][], bends: ([number, number] | null)[], radius: number, corner: number, texts: [number, number][][], taken: [number, number, number, number][], wide: number, high: number): [number, number, number, number][];
 export function pointsOf(places: [number, number][], edges: [number, number][], bends: ([number, number] | null)[]): [number, number][];
 export function towardsOf(begin: [number, number], end: [number, number], bend: [number, number] | null): [number, number];
-export function crowdedFirst(places: [number, number][], vertices: [[number, number][], number[][], number, number, number, number, number], near: number): number[];
+export function crowdedFirst(places: [number, number][], nodes: [[number, number][], number[][], number, number, number, number, number], near: number): number[];
 export function boxesNear(place: [number, number], reach: number, boxes: [number, number, number, number][]): [number, number, number, number][];
 export function spotOf(place: [number, number], radius: number, corner: number, texts: [number, number][], circles: [number, number][], points: [number, number][], boxes: [number, number, number, number][], near: number, wide: number, high: number): [number, number, number, number];
 export function isOwn(box: [number, number, number, number], place: [number, number], others: [number, number][]): boolean;

@@ -364,14 +364,14 @@ interface RoundsCall extends OfProgram {}
 interface RoundsPageCall extends OfProgram {}
 
 interface WhyCall extends OfNetwork {
-  vertex: number;
+  node: number;
 }
 
 interface BrokenCall extends WithoutRules, OfProgram {}
 
 interface PictureCall extends AfterSteps, OfProgram {
   kind: PictureKind;
-  vertex?: number | null;
+  node?: number | null;
   forest?: number | null;
   transcript?: string | null;
   pulses?: number[] | null;
@@ -409,13 +409,13 @@ interface FileCall {
 
 interface PredictCall extends OfProgram {
   forest?: number | null;
-  vertex: number;
+  node: number;
   pulse: number;
   said: number | string;
 }
 
 interface WaitsCall extends AfterSteps, WithoutRules, OfProgram {
-  vertex: number;
+  node: number;
   said: number | string;
 }
 

@@ -323,7 +323,7 @@ const OF_PROGRAM = ["results", "rounds", ...OF_RUN];
 let kind = "rounds";
 // The node of a picture of one. Of `why` it is said if none is chosen.
 /** @param {PictureKind} kind */
-function vertexOf(kind) {
+function askedNode(kind) {
   if (!OF_NODE.includes(kind)) return null;
   if (kind === "why" && !seen.node) by("kindsaid").textContent += " None is chosen, so it is node 1.";
   return seen.node || (kind === "why" ? 1 : null);
@@ -340,15 +340,15 @@ function askPicture() {
   if (!OF_PROGRAM.includes(kind)) all("[data-panel=pictures] .option").forEach(one => { one.hidden = true; });
   by("program4").value = seen.program;
   const pulses = (/^(\d{1,6})\.\.(\d{1,6})$/.exec(by("pulses").value.trim()) || []).slice(1).map(Number);
-  by("vertex").max = String(net.nodes.length);
-  by("vertex").value = String(seen.node || "");
+  by("nodenumber").max = String(net.nodes.length);
+  by("nodenumber").value = String(seen.node || "");
   const asked = kind;
   tried("picture", "drawing", async () => {
     const isOfSteps = reacts() && OF_RUN.includes(kind), isOfRun = OF_RUN.includes(kind) && !isOfSteps;
     const transcript = isOfRun ? await tabs.run.transcript() : null, made = isOfSteps ? steps.made.join("_") : null;
     // Another picture has been asked for since.
     if (kind !== asked || isOfRun && !transcript) return;
-    const got = await call("picture", {kind, network: text(), name: net.name, program, vertex: vertexOf(kind),
+    const got = await call("picture", {kind, network: text(), name: net.name, program, node: askedNode(kind),
       transcript, forest: tabs.rounds.forest(), pulses: isOfRun ? pulses : null, steps: made});
     if (!got) return;
     hang(got, kind);
@@ -371,8 +371,8 @@ tabs.pictures = {
 };
 by("program4").onchange = () => { seen.program = by("program4").value; askPicture(); show(); };
 by("pulses").onchange = askPicture;
-by("vertex").onchange = () => {
-  const v = whole(by("vertex").value);
+by("nodenumber").onchange = () => {
+  const v = whole(by("nodenumber").value);
   seen.node = v <= net.nodes.length && v || null;
   askPicture();
   hooks.link();

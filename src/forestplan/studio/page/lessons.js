@@ -269,7 +269,7 @@ function look() {
 // A question of a tab has been answered rightly: it may be that of the exercise.
 hooks.answered = asked_ => {
   const step = stepSeen(), {lesson} = seen, is = step && step.exercise;
-  if (!lesson || !is || is.kind !== "predicted" || asked_.vertex !== is.node) return;
+  if (!lesson || !is || is.kind !== "predicted" || asked_.node !== is.node) return;
   if (("pulse" in asked_ ? asked_.pulse : 0) === is.pulse) finish(lesson, is, "done");
 };
 // A text that is made when it is opened.

@@ -137,15 +137,15 @@ function judgedSaid({right, done, other, none}, asked) {
   return said ? {...other, said: other.said.replace("\ue002", String(asked.said).trim().slice(0, 60))} : none;
 }
 /** @param {PredictCall} asked @returns {Promise<Predicted>} */
-async function predict({network, program, vertex, pulse, forest, said}) {
-  const key = `predict ${bare(network)}${program || "colouring"} ${vertex} ${pulse} ${forest || 0}`;
+async function predict({network, program, node, pulse, forest, said}) {
+  const key = `predict ${bare(network)}${program || "colouring"} ${node} ${pulse} ${forest || 0}`;
   const {found, why} = must(await find(piece => piece.questions[key]));
   return {right: small(said) === small(found), found, why};
 }
 /** @param {WaitsCall} asked @returns {Promise<Predicted>} */
 async function waits(asked) {
   const runs = await runsOf(asked), at = must(played(runs, stepsIn(asked.steps)) || undefined);
-  return judgedList(waitedFor(runs, at, asked.vertex), asked.said);
+  return judgedList(waitedFor(runs, at, asked.node), asked.said);
 }
 // Whether all of a list is said, with commas between; of none it is `nothing`.
 /** @param {Explained} is @param {unknown} answer @returns {Predicted} */

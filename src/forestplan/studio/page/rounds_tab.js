@@ -18,7 +18,7 @@ const question = new Question("question", () => {
   const found = film.question(node, p, forest);
   if (!found) return {text: p < 1 ? "Go on to pulse 1." : "This is the last pulse."};
   return {text: found[0], picks: found[1], call: "predict", compared: film.compared(node, p, forest),
-    tells: film.reasonTells(p + 1), asked: {network: text(), program: programNamed(), vertex: node, pulse: p + 1, forest}};
+    tells: film.reasonTells(p + 1), asked: {network: text(), program: programNamed(), node, pulse: p + 1, forest}};
 }, () => time.set(Math.floor(time.at) + 1));
 
 // How often the tab has been entered.
@@ -97,7 +97,7 @@ async function askWhy() {
   const place = by("why"), v = seen.program === "colouring" ? seen.node : null;
   if (!v) { rounds.why = rounds.whyOf = null; place.replaceChildren(); return show(); }
   if (rounds.whyOf === v && rounds.why) return show();
-  const got = await call("why", {network: text(), vertex: v});
+  const got = await call("why", {network: text(), node: v});
   if (!got || seen.node !== v) return;
   Object.assign(rounds, {why: got, whyOf: v});
   const [head, summary, ...lines] = got.lines, more = html("details"), list = html("ul");
@@ -114,7 +114,7 @@ function bitsOf(v) {
     kept);
   bits.ontoggle = () => {
     if (!bits.open || kept.childNodes.length) return;
-    asks("picture", {network: text(), kind: "bits", vertex: v, forest: rounds.forest}, "drawing", svg => {
+    asks("picture", {network: text(), kind: "bits", node: v, forest: rounds.forest}, "drawing", svg => {
       kept.append(picture(svg, `bit steps of node ${v}`));
       setTimeout(() => bits.scrollIntoView({block: "nearest"}), 100);
       kept.onclick = () => { if (!hello().published) go("pictures", {kind: "bits"}); };

@@ -23,7 +23,7 @@ function questionHere() {
   const look = found.looks[node - 1], kinds = look && look.pulse < found.last ? ["ack", "safe"] : ["close"];
   const choices = neighbours(node).flatMap(w => kinds.map(kind => `${kind} ${w}`));
   return {text: `What does node ${node} wait for? Tick it, or nothing.`, call: "waits", choices,
-    asked: {network: text(), program, without, steps: made.join("_"), vertex: node}};
+    asked: {network: text(), program, without, steps: made.join("_"), node}};
 }
 const question = new Question("question2", questionHere, () => {
   const is = questionHere();

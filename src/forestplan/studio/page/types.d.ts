@@ -271,7 +271,7 @@ interface Elements {
   program4: HTMLSelectElement;
   passes: HTMLInputElement;
   ofnode: HTMLElement;
-  vertex: HTMLInputElement;
+  nodenumber: HTMLInputElement;
   ofrun: HTMLElement;
   pulses: HTMLInputElement;
   keep: HTMLAnchorElement;
