@@ -64,7 +64,7 @@ def translated(source: str) -> str:
             head, *rest = function(statement)
             lines += ["export " + head, *rest]
         elif isinstance(statement, ast.Assign) and not is_type(statement.value):
-            lines += ["export " + line for line in declared(statement)]
+            lines += ["export " + line for line in constants_in(statement)]
         elif not isinstance(statement, (ast.ImportFrom, ast.Assign, ast.Expr)):
             raise untranslated(statement)
     return "".join(f"{line}\n" for line in lines)
@@ -80,7 +80,7 @@ def untranslated(node: ast.AST) -> ValueError:
     return ValueError(f"line {line}: {type(node).__name__} has no translation")
 
 
-def declared(statement: ast.Assign) -> Iterator[str]:
+def constants_in(statement: ast.Assign) -> Iterator[str]:
     """Constants of the module."""
     target, value = statement.targets[0], statement.value
     if isinstance(target, ast.Tuple) and isinstance(value, ast.Tuple):
@@ -183,7 +183,7 @@ def _(statement: ast.For) -> Iterator[str]:
         raise untranslated(statement)
     name, of = spoken(statement.target), statement.iter
     if isinstance(of, ast.Call) and spoken(of.func) == "range":
-        first, end = ends_of(of)
+        first, end = range_bounds(of)
         yield f"for ({name} = {first}; {name} < {end}; {name}++) {{"
     else:
         parts = [*taken_apart(statement.target)] if isinstance(statement.target, ast.Tuple) else []
@@ -288,19 +288,21 @@ def _(value: ast.Call) -> str:
     if name == "sorted":
         return f"{given[0]}.slice().sort((a, b) => a - b)"
     if name == "range":
-        first, end = ends_of(value)
+        first, end = range_bounds(value)
         return f"Array.from({{length: Math.max(0, {end} - {first})}}, (_, k) => k + {first})"
     if name in CALLS:
-        return CALLS[name].format(f"...{given[0]}" if is_list(name, given) else ", ".join(given))
+        return CALLS[name].format(
+            f"...{given[0]}" if takes_a_list(name, given) else ", ".join(given)
+        )
     return f"{name}({', '.join(given)})"
 
 
-def ends_of(value: ast.Call) -> tuple[str, str]:
+def range_bounds(value: ast.Call) -> tuple[str, str]:
     """The first number of a range, and the one after its last."""
     given = [spoken(one) for one in value.args]
     first, end = given if len(given) == 2 else ("0", given[0])
     return first, end
 
 
-def is_list(name: str, given: list[str]) -> bool:
+def takes_a_list(name: str, given: list[str]) -> bool:
     return name in ("min", "max") and len(given) == 1

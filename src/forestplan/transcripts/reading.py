@@ -118,7 +118,7 @@ def read_to_fault(
 ) -> tuple[Head, list[Entry], WrongEntry | None]:
     """The first line, the entries before the first line that isn't one, and that line's fault, or None."""
     lines, entries = bytes_of(text).split(b"\n"), []
-    head = head_of(lines, program)
+    head = head_in_lines(lines, program)
     program = program or head.program or COLOURING
     for line, raw in enumerate(lines[head.line :], head.line + 1):
         try:
@@ -130,7 +130,7 @@ def read_to_fault(
     return head, entries, None
 
 
-def head_of(lines: list[bytes], program: str | None) -> Head:
+def head_in_lines(lines: list[bytes], program: str | None) -> Head:
     """The first line that has a field; that it names another program than the one asked for is its first fault."""
     line, fields = first_with_fields(lines)
     named = ""
