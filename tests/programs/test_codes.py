@@ -2,6 +2,8 @@
 report."""
 import re
 
+from forestplan.networks.codes import told_of_text
+from forestplan.sentences import Sentence
 from tests.cases import Case, called, forestlab, text, text_in
 from tests.commands import EDGE, PROGRAM_OF, TRIANGLE
 from tests.programs.test_own_networks import FAULTS as NETWORK_FAULTS, call
@@ -149,6 +151,17 @@ class Codes(Case):
             (["C8", "and", "C9"], 2, "one FILE, or a code and where it is, as `C8 vertex 1`\n"),
         ):
             self.refusal(" ".join(arguments), tell(*arguments), wanted, said)
+
+    def test_what_is_said_of_some_alone(self):
+        """What follows a question mark in a sentence is left out where there is nothing to name."""
+        for name, said in ((None, "none"), ("", "none"), ("C8", "none, or C8!")):
+            found = Sentence().format("none{name:?, or ~!}", name=name)
+            self.same(f"{name!r}", found, said)
+
+    def test_other_words(self):
+        """What isn't written as a fault is none."""
+        for said in ("", "out of memory", "C8 vertex x", "8", "C"):
+            self.assertIsNone(told_of_text(said), said)
 
     def test_a_file_of_that_name(self):
         self.file("C8", "p edge 2 1\ne 1 2\n")

@@ -363,6 +363,8 @@ class OwnNetworks(Case):
                 ("wires", [2, payloads, 2, edges, last + 1, wires]),
             ):
                 self.same(f"tell of {name}: {key}", numbers(told[key]), wanted)
+            counted = told["payloads"].partition(";")[0]
+            self.same(f"tell of {name}: no bound", counted, f"{payloads:,}")
             lines = 1 + len(degrees) * last + 2 * wires
             self.same(f"tell of {name}: transcript", numbers(told["transcript"])[0], lines)
             # What is said of a network that is too large to be worked out.
@@ -372,8 +374,14 @@ class OwnNetworks(Case):
     def test_warnings(self):
         said = b"the `p` line says 99 edges, and the text has 1: is it cut?"
         self.note("a text that is cut", said in self.told_of(b"p edge 3 99\ne 1 2\n")[1])
-        for data in (b"p edge 2 1\ne 1 2\n", b"p edge 3 2\ne 1 2\ne 2 1\ne 2 3\ne 3 2\n"):
-            self.same(f"not warned of {data!r}", self.told_of(data)[1], b"")
+        # Some count each edge twice, once from each end.
+        both = b"e 1 2\ne 2 1\ne 2 3\ne 3 2\n"
+        for edges, lines, is_warned in (
+            *((b"2 1", b"e 1 2\n", False), (b"2 2", b"e 1 2\n", False), (b"2 3", b"e 1 2\n", True)),
+            *((b"3 2", both, False), (b"3 4", both, False), (b"3 6", both, True)),
+        ):
+            warned = self.told_of(b"p edge %s\n%s" % (edges, lines))[1]
+            self.same(f"whether it warns of {edges!r} and {lines!r}", bool(warned), is_warned)
 
     def test_faults(self):
         """The fault that the program reports (test_codes.py), in words."""
