@@ -32,9 +32,12 @@ def member(path: str, name: str, time: int) -> tarfile.TarInfo:
     is_run = os.access(path, os.X_OK)
     info.mode = 0o755 if is_run else 0o644
     if os.path.islink(path):
-        info.type, info.linkname, info.mode = tarfile.SYMTYPE, os.readlink(path), 0o777
+        info.type = tarfile.SYMTYPE
+        info.linkname = os.readlink(path)
+        info.mode = 0o777
     elif os.path.isdir(path):
-        info.type, info.mode = tarfile.DIRTYPE, 0o755
+        info.type = tarfile.DIRTYPE
+        info.mode = 0o755
     else:
         info.size = os.path.getsize(path)
     return info
@@ -71,7 +74,9 @@ def debian_package(control: Mapping[str, str], root: str, time: int) -> bytes:
     with tarfile.open(fileobj=said, mode="w", format=tarfile.GNU_FORMAT) as to:
         info = tarfile.TarInfo("./control")
         info.uname = info.gname = "root"
-        info.mtime, info.mode, info.size = time, 0o644, len(fields.encode())
+        info.mtime = time
+        info.mode = 0o644
+        info.size = len(fields.encode())
         to.addfile(info, io.BytesIO(fields.encode()))
     parts = {
         "debian-binary": b"2.0\n",

@@ -222,7 +222,8 @@ def write_wheel(folder: str, to: str, time: int) -> None:
     assert spec is not None and spec.loader is not None
     module = importlib.util.module_from_spec(spec)
     before = os.environ.get("SOURCE_DATE_EPOCH")
-    is_writing, sys.dont_write_bytecode = sys.dont_write_bytecode, True
+    is_writing = sys.dont_write_bytecode
+    sys.dont_write_bytecode = True
     os.environ["SOURCE_DATE_EPOCH"] = str(time)
     try:
         spec.loader.exec_module(module)

@@ -63,6 +63,14 @@ class Way:
         if self.user is not None:
             subprocess.run(["chown", "-R", str(self.user), self.folder], check=True)
 
+    def built(self, names: list[str], is_unproved: bool) -> dict[str, str]:
+        """Makes the folder and builds the programs in it, and returns their files."""
+        begin = time.monotonic()
+        self.make(names)
+        found = self.compile(names) if is_unproved else self.prove(names)
+        print(f"{self.folder}: built in {time.monotonic() - begin:.0f} seconds", flush=True)
+        return found
+
     def prove(self, names: list[str]) -> dict[str, str]:
         """Has all proved and built, and returns the files of the programs."""
         words = ["rt", "ci", *(["--anew"] if kit.keeps_proofs() else [])]
@@ -189,23 +197,23 @@ def main() -> int:
     )
     os.makedirs(folder, exist_ok=True)
     os.chmod(folder, 0o755)
-    built = []
-    for way in (second,) if given.other else (first, second):
-        begin = time.monotonic()
-        way.make(names)
-        built.append(way.compile(names) if given.unproved else way.prove(names))
-        print(f"{way.folder}: built in {time.monotonic() - begin:.0f} seconds", flush=True)
+    built = [
+        way.built(names, given.unproved) for way in ((second,) if given.other else (first, second))
+    ]
     if given.other:
         built.insert(0, {name: os.path.join(given.other, name) for name in names})
-    equal = 0
-    for name in names:
-        one, two = (contents(files[name]) for files in built)
-        equal += one == two
-        print(f"{name}: {'the same' if one == two else 'OTHER'} {len(one)} bytes, {digest(one)}")
-        for line in differences(one, two):
-            print(line)
-    print(f"same_bytes: {equal} of {len(names)} programs have the same bytes")
-    return 0 if equal == len(names) else 1
+    equal = [name for name in names if is_same(name, *(contents(files[name]) for files in built))]
+    print(f"same_bytes: {len(equal)} of {len(names)} programs have the same bytes")
+    return 0 if equal == names else 1
+
+
+def is_same(name: str, one: bytes, two: bytes) -> bool:
+    """Whether two builds of a program have the same bytes. Prints it, and where they differ."""
+    how = "the same" if one == two else "OTHER"
+    print(f"{name}: {how} {len(one)} bytes, {digest(one)}")
+    for line in differences(one, two):
+        print(line)
+    return one == two
 
 
 def digest(data: bytes) -> str:

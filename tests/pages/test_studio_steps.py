@@ -1,5 +1,5 @@
-"""The steps of the studio's lessons as they are seen, on a phone and on a desk: nothing moves while somebody aims at it,
-what a text names is found, and nothing has the answer before the question is asked."""
+"""The steps of the studio's lessons as they are seen, on a phone and on a desk: nothing moves while somebody aims at
+it, what a text names is found, and nothing has the answer before the question is asked."""
 import json
 import re
 import time
@@ -19,8 +19,8 @@ WATCH = """(() => {
   window.moved = [];
   const tops = new Map();
   window.begin = () => { tops.clear(); moved.length = 0; };
-  const nameOf = one => (one.closest('#lesson') ? 'card: ' : '') + (one.id || one.dataset.key || one.getAttribute('aria-label')
-    || one.textContent).trim().slice(0, 30);
+  const nameOf = one => (one.closest('#lesson') ? 'card: ' : '')
+    + (one.id || one.dataset.key || one.getAttribute('aria-label') || one.textContent).trim().slice(0, 30);
   const look = () => {
     document.querySelectorAll('#side :is(button, input, select, summary):not(:disabled)').forEach(one => {
       const box = one.getBoundingClientRect(), was = tops.get(one), now = Math.round(box.top + scrollY);

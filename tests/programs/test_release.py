@@ -49,6 +49,14 @@ def git(top, *words):
     return done.stdout.decode().strip()
 
 
+def text_of_member(archive, path):
+    """The bytes of a file in an archive; none if it isn't there."""
+    if path not in archive.getnames():
+        return b""
+    file = archive.extractfile(path)
+    return file.read() if file else b""
+
+
 def member(package, name):
     """A member of an archive of Debian's form, which deb(5) describes."""
     at = package.index(f"{name:<16}".encode())
@@ -135,44 +143,42 @@ class Release(Case):
         lines = files["SHA256SUMS"].decode().splitlines()
         wanted = {f"{sum_of(data)}  {name}" for name, data in files.items() if name != "SHA256SUMS"}
         self.same("SHA256SUMS", {*lines}, wanted)
-        programs = {
-            f"lib/{name}": contents(self.top, "crates", name, "made")
-            for name in ("forestplan", "forestplay")
-        }
         tar, package, wheel = (files[name] for name in archives)
         data = gzip.decompress(member(package, "data.tar.gz"))
-        for name, text, within in (
-            ("tarball", gzip.decompress(tar), f"forestplan-{number}-x86_64-linux-gnu/"),
-            ("package", data, "./usr/lib/forestplan/"),
-        ):
-            with tarfile.open(fileobj=io.BytesIO(text)) as archive:
-                self.same(f"{name}: owners", {(one.uid, one.gid) for one in archive}, {(0, 0)})
-                paths = archive.getnames()
-                self.same(f"{name}: sorted", paths, sorted(paths))
-                modes = {one.mode for one in archive if not one.issym()}
-                self.same(f"{name}: modes", modes, {0o755, 0o644})
-                lack = {
-                    one
-                    for one in (*EACH_HAS, "LICENSE-THIRD-PARTY", "docs/learn/TUTORIAL.md")
-                    if within + one not in paths
-                }
-                self.same(f"{name}: what it lacks", lack, set())
-                for one, wanted in programs.items():
-                    file = archive.extractfile(within + one)
-                    self.note(f"{name}: {one} as it was built", file and file.read() == wanted)
-                file = archive.extractfile(f"{within}VERSION")
-                said = file.read().decode() if file else ""
-                self.note(f"{name}: VERSION", said.startswith(f"forestplan {number}\n"), said)
+        within = f"forestplan-{number}-x86_64-linux-gnu/"
+        self.check_archive("tarball", gzip.decompress(tar), within, number)
+        self.check_archive("package", data, "./usr/lib/forestplan/", number)
+        self.check_wheel(wheel, number)
+        self.check_package(package, of_debian)
+
+    def check_archive(self, name, data, within, number):
+        """An archive has all that it should, sorted, owned by root, with two modes; and the programs as they were."""
+        with tarfile.open(fileobj=io.BytesIO(data)) as archive:
+            self.same(f"{name}: owners", {(one.uid, one.gid) for one in archive}, {(0, 0)})
+            paths = archive.getnames()
+            self.same(f"{name}: sorted", paths, sorted(paths))
+            modes = {one.mode for one in archive if not one.issym()}
+            self.same(f"{name}: modes", modes, {0o755, 0o644})
+            wanted = {*EACH_HAS, "LICENSE-THIRD-PARTY", "docs/learn/TUTORIAL.md"}
+            lack = {one for one in wanted if within + one not in paths}
+            self.same(f"{name}: what it lacks", lack, set())
+            for one in ("forestplan", "forestplay"):
+                made = contents(self.top, "crates", one, "made")
+                self.note(f"{name}: {one}", text_of_member(archive, f"{within}lib/{one}") == made)
+            said = text_of_member(archive, f"{within}VERSION").decode()
+            self.note(f"{name}: VERSION", said.startswith(f"forestplan {number}\n"), said)
+
+    def check_wheel(self, wheel, number):
         with zipfile.ZipFile(io.BytesIO(wheel)) as archive:
-            for one in EACH_HAS:
-                self.note(f"wheel: {one}", f"forestplan/installed/{one}" in archive.namelist())
-            info = f"forestplan-{number}.dist-info"
-            self.note(f"wheel: {info}", f"{info}/LICENSE-THIRD-PARTY" in archive.namelist())
-        with tarfile.open(
-            fileobj=io.BytesIO(gzip.decompress(member(package, "control.tar.gz")))
-        ) as it:
-            file = it.extractfile("./control")
-            said = file.read().decode() if file else ""
+            names = archive.namelist()
+        info = f"forestplan-{number}.dist-info/LICENSE-THIRD-PARTY"
+        for one in (*(f"forestplan/installed/{one}" for one in EACH_HAS), info):
+            self.note(f"wheel: {one}", one in names)
+
+    def check_package(self, package, of_debian):
+        control = gzip.decompress(member(package, "control.tar.gz"))
+        with tarfile.open(fileobj=io.BytesIO(control)) as archive:
+            said = text_of_member(archive, "./control").decode()
         self.note("control", f"\nVersion: {of_debian}\nArchitecture: amd64\n" in said, said)
         if shutil.which("dpkg-deb"):
             path = self.file("a package.deb", package)

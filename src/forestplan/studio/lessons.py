@@ -180,7 +180,8 @@ FORESTS = LessonSteps(
                     "no node has more than two neighbours",
                     "a ring has an even number of nodes",
                 ),
-                hint="Suppose that there is a ring. Which arrows of the ring leave its node with the lowest identifier?",
+                hint="Suppose that there is a ring. Which arrows of the ring leave its node with the lowest "
+                "identifier?",
                 answer="Each arrow leads to a higher identifier. Suppose that some arrows of a forest close a ring. "
                 "The node of the ring with the lowest identifier has two neighbours on the ring, both are higher, "
                 "and so two arrows leave it. But in one forest at most one arrow leaves each node.",
@@ -382,8 +383,9 @@ NO_CLOCK = LessonSteps(
                 asks="How many pulses are two neighbours apart at most?",
                 right="1",
                 hint="Stop the run at some places. Which numbers has a node, and which have its two neighbours?",
-                answer="One. Below this card you read now how far apart the pulses are at each place. A node makes pulse *p* + 1 only after each neighbour has told it that it is safe in pulse "
-                "*p*; so each neighbour is at pulse *p* at least.",
+                answer="One. Below this card you read now how far apart the pulses are at each place. A node makes "
+                "pulse *p* + 1 only after each neighbour has told it that it is safe in pulse *p*; so each neighbour "
+                "is at pulse *p* at least.",
             ),
         ),
         TableStep(
