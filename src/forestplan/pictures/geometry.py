@@ -606,7 +606,7 @@ def room_at(
     return room - 3 * max(0.0, CLEARLY * own - to_others)
 
 
-def head_of(tip: Point, direction: Point, size: float) -> list[Point]:
+def arrow_head(tip: Point, direction: Point, size: float) -> list[Point]:
     """The three corners of an arrow's head, the tip first, of which the back is a size away from the tip."""
     x, y = tip
     length = apart_by(direction[0], direction[1])

@@ -5,7 +5,7 @@ from contextlib import contextmanager
 from math import sqrt
 from textwrap import wrap
 
-from forestplan.pictures.geometry import head_of, text_wide
+from forestplan.pictures.geometry import arrow_head, text_wide
 from forestplan.pictures.palette import FONT, INK, PAPER, SOFT
 
 
@@ -265,7 +265,7 @@ class Svg:
         hollow: bool = False,
     ) -> None:
         """An arrow's head with its tip at x, y, pointing along dx, dy."""
-        (x1, y1), (x2, y2), (x3, y3) = head_of((x, y), (dx, dy), size)
+        (x1, y1), (x2, y2), (x3, y3) = arrow_head((x, y), (dx, dy), size)
         self.path(
             ["M", x1, y1, "L", x2, y2, "L", x3, y3, "Z"], colour, 1, PAPER if hollow else colour
         )

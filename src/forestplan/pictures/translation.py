@@ -187,7 +187,8 @@ def _(statement: ast.For) -> Iterator[str]:
         yield f"for ({name} = {first}; {name} < {end}; {name}++) {{"
     else:
         parts = [*taken_apart(statement.target)] if isinstance(statement.target, ast.Tuple) else []
-        yield f"for ({ITEM if parts else name} of {spoken(of)}) {{"
+        item = ITEM if parts else name
+        yield f"for ({item} of {spoken(of)}) {{"
         yield from parts
     yield from block(statement.body)
     yield "}"
@@ -290,11 +291,10 @@ def _(value: ast.Call) -> str:
     if name == "range":
         first, end = range_bounds(value)
         return f"Array.from({{length: Math.max(0, {end} - {first})}}, (_, k) => k + {first})"
+    said = ", ".join(given)
     if name in CALLS:
-        return CALLS[name].format(
-            f"...{given[0]}" if takes_a_list(name, given) else ", ".join(given)
-        )
-    return f"{name}({', '.join(given)})"
+        return CALLS[name].format("..." + said if takes_a_list(name, given) else said)
+    return f"{name}({said})"
 
 
 def range_bounds(value: ast.Call) -> tuple[str, str]:

@@ -85,5 +85,5 @@ export function spotOf(place: [number, number], radius: number, corner: number, 
 export function isOwn(box: [number, number, number, number], place: [number, number], others: [number, number][]): boolean;
 export function leastCovered(place: [number, number], radius: number, corner: number, texts: [number, number][], circles: [number, number][], boxes: [number, number, number, number][]): [number, number, number, number];
 export function roomAt(box: [number, number, number, number], place: [number, number], others: [number, number][], points: [number, number][], boxes: [number, number, number, number][], distance: number, near: number): number;
-export function headOf(tip: [number, number], direction: [number, number], size: number): [number, number][];
+export function arrowHead(tip: [number, number], direction: [number, number], size: number): [number, number][];
 export function onLink(begin: [number, number], towards: [number, number], end: [number, number], part: number, radius: number, wide: number, high: number, aside: number): [number, number];

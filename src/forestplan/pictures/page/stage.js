@@ -1,6 +1,6 @@
 // A picture of a network: where things are on the screen, what is drawn, and what is under the pointer.
-import {CORNER, SHRINK, SMALL_RADIUS, WORDS_BELOW, along, bendsOf, fitted, headOf, isCrowd, labelHalf, labelSize, labelsAt, largestIn, leastApart, marginsOf, onLink, radiusIn,
-  radiusPassed, towardsOf, wordsWide} from "./geometry.js";
+import {CORNER, SHRINK, SMALL_RADIUS, WORDS_BELOW, along, arrowHead, bendsOf, fitted, isCrowd, labelHalf, labelSize, labelsAt,
+  largestIn, leastApart, marginsOf, onLink, radiusIn, radiusPassed, towardsOf, wordsWide} from "./geometry.js";
 import {BAR_GAP, BAR_RADIUS, MOST_BARS, NEXT_RING, OUTER_RING, RING_GAP} from "./hues.js";
 import {HALO, barMark, mark, patch, textMark} from "./marks.js";
 
@@ -258,7 +258,7 @@ export class Stage {
   arrow(a, b, stroke, width, kind = "arrow") {
     const m = this.middle(a, b), dx = this.X(b) - m[0], dy = this.Y(b) - m[1], far = Math.hypot(dx, dy) || 1;
     const size = Math.max(6, Math.min(10, this.radius * 0.6)), end = (this.radius + this.around(b) + 2) / far;
-    const [tip, one, other] = headOf([this.X(b) - dx * end, this.Y(b) - dy * end], [dx, dy], size);
+    const [tip, one, other] = arrowHead([this.X(b) - dx * end, this.Y(b) - dy * end], [dx, dy], size);
     return [this.line(a, b, {stroke, "stroke-width": width, "data-mark": kind}), mark("path", {fill: stroke,
       d: `M${tip.join(" ")}L${one.join(" ")}L${other.join(" ")}Z`})];
   }
