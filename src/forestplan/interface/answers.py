@@ -4,7 +4,7 @@ from collections.abc import Iterable
 from typing import Any, NamedTuple
 
 from forestplan.interface.graphs import Licence, Node
-from forestplan.interface.programs import lab_called
+from forestplan.interface.programs import forestlab_outputs
 
 
 class Message(NamedTuple):
@@ -83,7 +83,7 @@ class _Answer:
             file.flush()
             arguments = [self.option, file.name] if self.option else []
             arguments = ["picture", self.kind, "-", *arguments, "--title", self.title]
-            return lab_called(arguments, self.network)[1] or None
+            return forestlab_outputs(arguments, self.network)[1] or None
 
 
 class Plan(_Answer, dict[Node, int]):

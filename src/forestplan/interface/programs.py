@@ -37,7 +37,7 @@ def status_and_outputs(command: Sequence[str], text: str) -> tuple[int, str, str
     return (done.returncode, done.stdout.decode(), done.stderr.decode("utf-8", "replace").strip())
 
 
-def lab_called(arguments: Sequence[str], text: str) -> tuple[int, str, str]:
+def forestlab_outputs(arguments: Sequence[str], text: str) -> tuple[int, str, str]:
     """The same of a command of forestlab."""
     return status_and_outputs([sys.executable, "-S", PACKAGE, *arguments], text)
 
