@@ -26,7 +26,7 @@ def in_graph6(data: bytes, path: str) -> None:
 
     Raises `Fault` of another number of letters than the nodes take, and of too many nodes or edges.
     """
-    nodes, letters = declared("graph6", data, path)
+    nodes, letters = nodes_declared("graph6", data, path)
     pairs = nodes * (nodes - 1) // 2
     wanted = (pairs + 5) // 6
     if len(letters) != wanted:
@@ -50,12 +50,12 @@ def in_sparse6(data: bytes, path: str) -> None:
 
     Raises `Fault` of what doesn't begin as sparse6 does, and of too many nodes or edges.
     """
-    _, letters = declared("sparse6", data, path)
+    _, letters = nodes_declared("sparse6", data, path)
     if len(letters) > LONGEST_SPARSE:
         raise Fault(Code.EDGES_ABOVE_LIMIT, InText(path, 1), most=MAX_EDGES)
 
 
-def declared(form: str, data: bytes, path: str) -> tuple[int, bytes]:
+def nodes_declared(form: str, data: bytes, path: str) -> tuple[int, bytes]:
     """How many nodes the one line of a text declares, and the letters after that number."""
     line, *others = data.strip().split(b"\n")
     if others:
@@ -94,7 +94,7 @@ def edges_in(letters: bytes) -> int:
 def from_graph6(nx: ModuleType, data: bytes) -> Graph:
     """The graph of a line that `in_graph6` takes. networkx would list all pairs of nodes first, which takes some 20 GB
     for as many nodes as a network may have."""
-    nodes, letters = declared("graph6", data, "")
+    nodes, letters = nodes_declared("graph6", data, "")
     made = nx.Graph()
     made.add_nodes_from(range(nodes))
     for found in re.finditer(rb"[^?]", letters):

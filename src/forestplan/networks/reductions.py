@@ -6,7 +6,7 @@ from forestplan.network import Network
 from forestplan.networks.numbering import network_in_order
 
 
-def without_vertex(network: Network, gone: int) -> tuple[Network, list[int]]:
+def without_node(network: Network, gone: int) -> tuple[Network, list[int]]:
     """The network without a node, and the nodes that its own were."""
     left = [v for v in network.node_numbers if v != gone]
     return replace(network_in_order(network, left, network.identifiers), names={}, places={}), left
@@ -23,7 +23,7 @@ def smaller(network: Network) -> Iterator[tuple[Network, list[int]]]:
     names = network.identifiers
     own = replace(network, given_identifiers=names, names={}, places={})
     for gone in same:
-        yield without_vertex(network, gone)
+        yield without_node(network, gone)
     for edge in network.edges:
         yield replace(own, edges=[other for other in network.edges if other != edge]), same
     for gone in network.bars:

@@ -14,7 +14,7 @@ from forestplan.pictures.marks import Map, colour_square
 from forestplan.pictures.palette import INK, PAPER, SOFT, WRONG
 from forestplan.pictures.panel import PANEL, Panel
 from forestplan.pictures.program_rounds import program_rounds
-from forestplan.pictures.results_picture import ResultVertex, draw_chosen, found_in, result_legend
+from forestplan.pictures.results_picture import ResultNode, draw_chosen, found_in, result_legend
 from forestplan.pictures.rounds_picture import COLUMN, LEFT, ROW, SQUARE, draw_rows, square_middle
 from forestplan.pictures.schedules_space import left_out_words
 from forestplan.pictures.svg import Svg, text_width, wrapped
@@ -242,7 +242,7 @@ class OfEnd:
     """Maps: what the nodes of a program have found at the end."""
 
     def __init__(
-        self, both: tuple[RuledSequel, RuledSequel], found: list[dict[int, ResultVertex]]
+        self, both: tuple[RuledSequel, RuledSequel], found: list[dict[int, ResultNode]]
     ) -> None:
         self.net, self.faults = both[0].net, [rounds.faults for rounds in both]
         self.found = found
@@ -265,9 +265,7 @@ class OfEnd:
         )
 
 
-def draw_end(
-    svg: Svg, found: dict[int, ResultVertex], faults: list[WrongResult], drawn: Map
-) -> None:
+def draw_end(svg: Svg, found: dict[int, ResultNode], faults: list[WrongResult], drawn: Map) -> None:
     """The edges that nodes have chosen, and below them a red one for each pair that isn't right; a node that isn't has
     a red ring."""
     for fault in faults:

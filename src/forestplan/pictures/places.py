@@ -20,7 +20,7 @@ def places_of(network: Network) -> Places:
     layout."""
     if all(v in network.places for v in network.node_numbers):
         return {v: network.places[v] for v in network.node_numbers}
-    return circle(network.nodes) if network.nodes <= LARGEST_CIRCLE else laid_out(network)
+    return places_on_circle(network.nodes) if network.nodes <= LARGEST_CIRCLE else laid_out(network)
 
 
 def unused_places(network: Network) -> str | None:
@@ -36,7 +36,7 @@ def turned(turn: float) -> Point:
     return round(sin(2 * pi * turn), 9), -round(cos(2 * pi * turn), 9)
 
 
-def circle(nodes: int) -> Places:
+def places_on_circle(nodes: int) -> Places:
     """Node 1 on top, then clockwise."""
     return {v: turned((v - 1) / nodes) for v in range(1, nodes + 1)}
 

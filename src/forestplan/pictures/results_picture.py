@@ -17,7 +17,7 @@ from forestplan.wording import counted
 OF_CHANNELS, SHOWN = (Colouring, Recolouring), (Matching, IndependentSet)
 
 
-class ResultVertex(MapNode):
+class ResultNode(MapNode):
     """What a node is drawn with: `colour`, from 0, and `other`, the node at the end of the edge that it has chosen,
     or None; `words` are beside it."""
 
@@ -52,8 +52,8 @@ class ResultVertex(MapNode):
         return self.before + 1
 
 
-def found_in(rounds: ProgramRounds) -> dict[int, ResultVertex]:
-    return {v: ResultVertex(rounds, v) for v in rounds.network.node_numbers}
+def found_in(rounds: ProgramRounds) -> dict[int, ResultNode]:
+    return {v: ResultNode(rounds, v) for v in rounds.network.node_numbers}
 
 
 def results_svg(rounds: ProgramRounds) -> str:
@@ -77,7 +77,7 @@ def results_svg(rounds: ProgramRounds) -> str:
     return svg.document()
 
 
-def draw_chosen(svg: Svg, drawn: Map, found: dict[int, ResultVertex]) -> None:
+def draw_chosen(svg: Svg, drawn: Map, found: dict[int, ResultNode]) -> None:
     """The edges that nodes have chosen; one that only one of its ends has chosen is an arrow."""
     for v, one in found.items():
         is_mutual = one.other and found[one.other].other == v
@@ -87,7 +87,7 @@ def draw_chosen(svg: Svg, drawn: Map, found: dict[int, ResultVertex]) -> None:
             )
 
 
-def result_legend(found: dict[int, ResultVertex]) -> str:
+def result_legend(found: dict[int, ResultNode]) -> str:
     """What the marks mean, of those that there are."""
     said = ["a thick line is an edge that a node has chosen"] * any(
         one.other for one in found.values()
@@ -99,7 +99,7 @@ def result_legend(found: dict[int, ResultVertex]) -> str:
     return f": {'; '.join(said)}" if said else ""
 
 
-def counts(found: dict[int, ResultVertex], network: Network) -> str:
+def counts(found: dict[int, ResultNode], network: Network) -> str:
     """How much there is of what is found."""
     if all(one.has_channel for one in found.values()):
         after = len({one.colour for one in found.values()})

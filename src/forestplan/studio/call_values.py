@@ -23,7 +23,7 @@ MOST_STEPS = 6_000
 UNSHOWN_OF = {MOST_RUN: Code.TOO_MANY_FOR_RUN, MOST_ROUNDS: Code.TOO_MANY_FOR_ROUNDS}
 
 
-class OfVertex(Protocol):
+class OfNode(Protocol):
     """What is asked of a node."""
 
     @property
@@ -95,7 +95,7 @@ def rules_asked(asked: WithoutRules, among: Collection[str]) -> tuple[str, ...]:
     return rules
 
 
-def vertex_asked(asked: OfVertex, network: Network) -> int:
+def node_asked(asked: OfNode, network: Network) -> int:
     if asked.node is None or asked.node not in network.node_numbers:
         raise Fault(Code.NO_NODE_OF_FIELD, node=asked.node)
     return asked.node

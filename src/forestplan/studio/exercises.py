@@ -79,7 +79,7 @@ def blank_words(left: int) -> str:
     return f"{counted(left, 'transmitter')} without a channel"
 
 
-def ends_of(network: Network) -> list[int]:
+def ends_of_row(network: Network) -> list[int]:
     """The two ends of a network that is one row; nothing of any other one."""
     degrees = {v: len(ws) for v, ws in network.neighbours.items()}
     ends = [v for v, degree in degrees.items() if degree == 1]
@@ -98,7 +98,7 @@ def row_asked(call: ExerciseCall, nodes: int) -> Network:
     if network.nodes != nodes:
         code = Code.ROW_OF_ONE if network.nodes == 1 else Code.ROW_OF_OTHER_LENGTH
         raise Fault(code, nodes=nodes, here=network.nodes)
-    if not ends_of(network):
+    if not ends_of_row(network):
         raise Fault(Code.NO_ROW_YET, nodes=nodes)
     return network
 
@@ -123,7 +123,7 @@ def two_rounds(call: ExerciseCall, session: Session, _tell: Tell) -> ExerciseJud
 
 def long_row(call: ExerciseCall, session: Session, _tell: Tell) -> ExerciseJudged:
     network = network_asked(call)
-    if network.nodes < LONG or not ends_of(network):
+    if network.nodes < LONG or not ends_of_row(network):
         return ExerciseJudged(False, f"this is no row of {LONG} nodes or more")
     said = f"{network.nodes} transmitters in a row take the rounds 0 to {last_pulse(network)}"
     return ExerciseJudged(True, said)

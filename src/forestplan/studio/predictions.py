@@ -25,7 +25,7 @@ from forestplan.studio.call_values import (
     network_asked,
     program_of_call,
     rules_asked,
-    vertex_asked,
+    node_asked,
 )
 from forestplan.studio.messages import PredictCall, SendsCall, WaitsCall
 from forestplan.studio.session import Session
@@ -42,7 +42,7 @@ def answer_predict(call: PredictCall, session: Session, _tell: Tell) -> Predicte
     """Whether it is right what is said of a node after a pulse; of the colouring in a forest, or in its merge."""
     network = network_asked(call, MOST_ROUNDS)
     program = program_of_call(call, network, session)
-    v, pulse, last = vertex_asked(call, network), call.pulse, program.last_pulse(network)
+    v, pulse, last = node_asked(call, network), call.pulse, program.last_pulse(network)
     if not 1 <= pulse <= last:
         raise Fault(Code.NO_PULSE, pulse=pulse, last=last)
     rounds: ColouringRounds | ProgramRounds = ColouringRounds(network)
@@ -112,15 +112,15 @@ def of_program(rounds: ProgramRounds, v: int, pulse: int) -> tuple[str, str]:
 def answer_waits(call: WaitsCall, session: Session, _tell: Tell) -> Predicted:
     """The same of what a node waits for after some steps, as `ack 2, safe 3`: the word, and of whom."""
     network = network_asked(call, MOST_RUN)
-    v = vertex_asked(call, network)
+    v = node_asked(call, network)
     program = program_of_call(call, network, session)
     player = Stepwise(network, program, rules_asked(call, OF_SCHEDULES))
     player.follow(call.steps.split("_"))
     found, why = waited(player.state, v, player.without, player.is_over)
-    return Predicted(is_list(call.said, found), ", ".join(found) or "nothing", why)
+    return Predicted(is_whole_list(call.said, found), ", ".join(found) or "nothing", why)
 
 
-def is_list(said: str, found: list[str]) -> bool:
+def is_whole_list(said: str, found: list[str]) -> bool:
     """Whether a student has said all of a list, with commas between; of none it is `nothing`."""
     parts = sorted(filter(None, map(small_text, said.split(","))))
     return parts == found or not found and parts == ["nothing"]
@@ -140,12 +140,14 @@ def answer_sends(call: SendsCall, session: Session, _tell: Tell) -> Predicted:
         raise Fault(Code.STEP_NOT_POSSIBLE, number=len(player.chosen) + 1, step=call.step)
     function, _ = player.ran
     if player.is_over:
-        return Predicted(is_list(call.said, []), "nothing", f"`{function}` fails: {player.fault}.")
+        return Predicted(
+            is_whole_list(call.said, []), "nothing", f"`{function}` fails: {player.fault}."
+        )
     puts = [entry for entry in player.made[before:] if entry.kind is PUT]
     sent = in_words([f"`{entry.what}` to {entry.neighbour}" for entry in puts]) or "nothing"
     found = sorted(set(map(word_and_end, puts)))
     why = f"`{function}` runs, and sends {sent}."
-    return Predicted(is_list(call.said, found), ", ".join(found) or "nothing", why)
+    return Predicted(is_whole_list(call.said, found), ", ".join(found) or "nothing", why)
 
 
 def word_and_end(put: Entry) -> str:

@@ -28,7 +28,7 @@ from forestplan.studio.call_values import (
     network_asked,
     program_of_call,
     rules_asked,
-    vertex_asked,
+    node_asked,
 )
 from forestplan.studio.judges import proved_plan, proved_rounds, verdict_on
 from forestplan.studio.messages import (
@@ -101,7 +101,7 @@ def answer_rounds_page(call: RoundsPageCall, session: Session, _tell: Tell) -> s
 def answer_why(call: WhyCall, session: Session, _tell: Tell) -> WhyFound:
     """Why a node has its channel."""
     network = network_asked(call, MOST_ROUNDS)
-    cone = why_picture.Cone(ColouringRounds(network), vertex_asked(call, network))
+    cone = why_picture.Cone(ColouringRounds(network), node_asked(call, network))
     return WhyFound(
         lines=why_picture.why_text(cone).splitlines(),
         identifiers=cone.identifiers(),
@@ -149,7 +149,7 @@ def answer_picture(call: PictureCall, session: Session, _tell: Tell) -> str:
             raise Fault(Code.NO_TRANSCRIPT_OF_FIELD)
         texts = [Text("the run", call.transcript)]
     if call.node is not None:
-        vertex_asked(call, network)
+        node_asked(call, network)
     if len(call.pulses) not in (0, 2):
         raise Fault(Code.NO_TWO_PULSES)
     return drawing_of(
