@@ -247,6 +247,8 @@ class InPython(Case):
         real = [36, 40, 44, 48]
         got = forestplan.plan(SQUARE, bars={"Ulm": {36, 99}}, licence=real)
         self.note("real channels", set(got.values()) <= {*real} and got["Ulm"] != 36, got)
+        pair = forestplan.plan({"Ulm": ["Aue"], "Aue": []}, licence=[0, 5])
+        self.same("a channel 0", sorted(pair.values()), [0, 5])
         most = forestplan.check(SQUARE, got, {"Ulm": {36}}, real)
         self.note("they are judged", most <= 4, most)
         barred, counted = {"Ulm": {36}, "Hof": {99}}, {"Ulm": {1}}

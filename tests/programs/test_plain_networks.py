@@ -4,7 +4,8 @@ import itertools
 import random
 
 from forestplan.definitions.colours import first_colours, merge, plan_text, three
-from forestplan.definitions.rounds import LAST_COLOUR, ColouringRounds
+from forestplan.definitions.rounds import LAST_COLOUR, ColouringRounds, rounds_text
+from forestplan.network import Network
 from forestplan.networks import kinds
 from forestplan.networks.kinds import KINDS
 from forestplan.networks.network_text import network_in_bytes
@@ -121,6 +122,12 @@ class Definitions(Case):
                     self.same(
                         f"{make.__name__} {nodes}", [*make(nodes).places], [*range(1, nodes + 1)]
                     )
+
+    def test_first_lines_of_rounds(self):
+        """Those of docs/claim/FORMATS.md: of two nodes, and of the same with a channel that is barred."""
+        for bars, first in (({}, b"rounds 1 2 1 1 18"), ({1: [1]}, b"rounds 2 2 1 1 1 21")):
+            found = rounds_text(Network(2, [(1, 2)], {}, bars)).split(b"\n")[0]
+            self.same(f"bars {bars}", found, first)
 
     def test_two_definitions(self):
         """The lists of src/forestplan/definitions/colours.py are what the nodes of the rounds come to, forest by
