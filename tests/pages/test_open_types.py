@@ -41,6 +41,8 @@ LOOSE = {
         "the values of an address, each of its own type",
     ),
     "src/forestplan/studio/server.py": (2, "a request and an address, as socketserver has them"),
+    "tests/by_hand/copies.py": (1, "a hook that a started process has, or none"),
+    "tests/by_hand/same_bytes.py": (2, "which user runs a program, as subprocess takes it"),
     "tests/pages/test_published.py": (
         4,
         "recorded answers of all kinds; an example is always read, so it has a network",
