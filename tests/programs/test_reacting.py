@@ -1014,6 +1014,8 @@ class Pictures(Case):
         run = data_of(page)["run"]
         idle = {"acts": 0, "able": True, "found": "idle"}
         self.same("at first", run["start"], [idle, idle])
+        # From the stamp before the first entry on.
+        self.same("its stamps", run["stamps"], [0, run["rows"][-1][0]])
         shown = [tuple(run["looks"][row[2]].values()) for row in run["rows"]]
         asks, inside = (1, False, "asks"), (1, True, "inside")
         done = (2, False, "done (visits 1)")

@@ -15,6 +15,7 @@ import time
 from unittest import mock
 
 from forestplan.schedules.policies import POLICIES
+from forestplan.studio import server
 from tests import TOP
 from tests.cases import (
     Case,
@@ -142,6 +143,19 @@ class Server(Case):
         """The row of a call that is refused in words."""
         got = self.answer(call, **asked)
         self.note(name, sentence in got.get("wrong", ""), got)
+
+
+class Tokens(Case):
+    def test_in_the_head_alone(self):
+        """A connection has the token if a line of its head has it, whatever comes after the head."""
+        own = server.Server.__new__(server.Server)
+        own.token = "abc"
+        for head, body, has_it in (
+            *((b"X-Token: abc", b"", True), (b"x-token:abc", b"X-Token: x", True)),
+            *((b"X-Token: abcd", b"", False), (b"Y: x", b"X-Token: abc", False)),
+        ):
+            received = b"POST /call/hello HTTP/1.1\r\n%s\r\n\r\n%s" % (head, body)
+            self.same(f"{received!r}", own.has_token(received), has_it)
 
 
 class Refusals(Server):
