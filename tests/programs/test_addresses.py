@@ -263,10 +263,9 @@ def read_back(place):
     opened.address.refuse()
     text = json.dumps([opened.network, opened.address.values], default=as_object)
     found = json.loads(text)
-    # How it is drawn isn't in an address.
-    found[0].pop("bends")
+    # What is written beside a node isn't in an address.
     for node in found[0]["nodes"]:
-        del node["label"], node["side"]
+        del node["label"]
     return found[0], {name: value for name, value in found[1].items() if name != "net"}
 
 
