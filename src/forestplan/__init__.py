@@ -66,8 +66,11 @@ Judge a transcript: the verdict, or a fault that says what is wrong in which lin
 >>> forestplan.transcripts.whole_run(ring, transcript, leader).verdict
 'whole run of 5 nodes, 233 entries, 22 payloads, 104 wires'
 
-Draw a picture, and write it into a file. ``forestplan.pictures.KINDS`` has the kinds.
+Draw a picture of one of these kinds, and write it into a file. ``forestplan.pictures.KINDS["plan"].does`` says what one
+of them shows.
 
+>>> print(*forestplan.pictures.KINDS)
+map plan results rounds bits why run film player watch schedules broken
 >>> svg = forestplan.pictures.drawing("plan", ring)
 >>> page = forestplan.pictures.drawing("watch", ring, transcript, program=leader)
 >>> import pathlib

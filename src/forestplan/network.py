@@ -5,6 +5,8 @@ from functools import cached_property
 
 Edge = tuple[int, int]
 Places = Mapping[int, tuple[float, float]]
+# How many edges a prompt shows.
+MOST_SHOWN = 12
 
 
 @dataclass(eq=False, repr=False)
@@ -37,6 +39,17 @@ class Network:
     names: Mapping[int, str] = field(default_factory=dict)
     places: Places = field(default_factory=dict)
     name: str = ""
+
+    def __repr__(self) -> str:
+        """What a prompt shows of it.
+
+        >>> Network(3, [(1, 2), (2, 3)], name="path3")
+        <Network path3: nodes 1 to 3, edges 1-2 2-3>
+        """
+        edges = [f" {v}-{w}" for v, w in self.edges][:MOST_SHOWN]
+        more = f" and {len(self.edges) - MOST_SHOWN} more" * (len(self.edges) > MOST_SHOWN)
+        called = f" {self.name}" if self.name else ""
+        return f"<Network{called}: nodes 1 to {self.nodes}, edges{''.join(edges) or ' none'}{more}>"
 
     def __post_init__(self) -> None:
         self.node_numbers = range(1, self.nodes + 1)

@@ -202,7 +202,7 @@ class Port(Outgoing):
 
 class AlphaNode(Node):
     """A node under synchroniser alpha. It simulates the rounds of a node of a program, `simulated`: `pulse_number` is 0
-    to `last`, and `said` means that it has said safe for this pulse. Its own steps are its pulses.
+    to `last`, and `safe_sent` means that it has said safe for this pulse. Its own steps are its pulses.
     """
 
     own = PULSE
@@ -210,7 +210,7 @@ class AlphaNode(Node):
     last: int
     ports: list[Port]
     pulse_number: int
-    said: bool
+    safe_sent: bool
 
     def __init__(self, net: Network, v: int, program: Program = COLOURING) -> None:
         self.simulated = program.node(net, v)

@@ -97,6 +97,18 @@ class Program:
     without: frozenset[str] = frozenset()
     reads_bars: bool = True
 
+    def __repr__(self) -> str:
+        """What a prompt and a signature show of it: its name, and those of its options that are chosen.
+
+        >>> from forestplan.definitions.programs import PROGRAMS, program_at
+        >>> PROGRAMS["leader"], program_at("layers", root=3)
+        (<Program leader>, <Program layers root=3>)
+        """
+        options = {"root": self.root, "passes": self.passes if self.passes > 1 else None}
+        chosen = [f"{name}={value}" for name, value in options.items() if value is not None]
+        chosen += [f"without={rule}" for rule in sorted(self.without)]
+        return f"<{' '.join(['Program', self.name, *chosen])}>"
+
 
 AnyNode = TypeVar("AnyNode", bound=RoundsNode)
 Slots = dict[int, list[Slot]]
