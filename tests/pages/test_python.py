@@ -233,6 +233,8 @@ class Python(FilesCase):
             detours = [
                 f"{word} from {origin}"
                 for origin, word in imports_of(tree)
-                if origin in names and word in names[origin][1] - names[origin][0]
+                if origin in names
+                and word in names[origin][1] - names[origin][0]
+                and f"{origin}.{word}" not in names
             ]
             self.same(f"{module}: words by a detour", detours, [])

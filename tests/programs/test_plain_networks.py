@@ -125,7 +125,11 @@ class Definitions(Case):
 
     def test_first_lines_of_rounds(self):
         """Those of docs/claim/FORMATS.md: of two nodes, and of the same with a channel that is barred."""
-        for bars, first in (({}, b"rounds 1 2 1 1 18"), ({1: [1]}, b"rounds 2 2 1 1 1 21")):
+        rows: tuple[tuple[dict[int, list[int]], bytes], ...] = (
+            ({}, b"rounds 1 2 1 1 18"),
+            ({1: [1]}, b"rounds 2 2 1 1 1 21"),
+        )
+        for bars, first in rows:
             found = rounds_text(Network(2, [(1, 2)], {}, bars)).split(b"\n")[0]
             self.same(f"bars {bars}", found, first)
 

@@ -163,10 +163,10 @@ class CasePlayer:
         left = 0 if case.wrong.kind in ("silent", "late") else MOST_SHRINKS
         while left and time.monotonic() < self.over:
             found = None
-            for network, nodes in smaller(case.network):
+            for network, kept in smaller(case.network):
                 left -= 1
                 self.say(f"looking for a smaller case that is wrong, {MOST_SHRINKS - left} tried")
-                owners = [case.owners[v - 1] for v in nodes]
+                owners = [case.owners[v - 1] for v in kept]
                 other = Case(case.number, network, case.policy, case.seed, owners, is_part=True)
                 if not self.play(other) and other.wrong.is_like(case.wrong):
                     found = other
