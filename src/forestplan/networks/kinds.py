@@ -38,8 +38,8 @@ def network_of_edges(nodes: int, edges: Iterable[Edge], places: Places | None = 
 
 def circle(nodes: Sequence[int]) -> Places:
     """The first node on top, then clockwise."""
-    turn = 2 * pi / max(1, len(nodes))
-    return {v: (sin(turn * k), -cos(turn * k)) for k, v in enumerate(nodes)}
+    angle = 2 * pi / max(1, len(nodes))
+    return {v: (sin(angle * k), -cos(angle * k)) for k, v in enumerate(nodes)}
 
 
 def path(nodes: int) -> Network:

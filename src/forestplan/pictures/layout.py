@@ -112,8 +112,8 @@ def upright(network: Network, places: dict[int, complex]) -> dict[int, complex]:
     """Turned so that as many edges as can be are level or upright, and the whole is wider than high; its least node
     is in the upper left quarter."""
     edges = [places[w] - places[v] for v in places for w in network.neighbours[v]]
-    turn = sum((edge / abs(edge)) ** 4 for edge in edges if edge)
-    back = (turn / abs(turn)) ** -0.25 if abs(turn) > 1e-6 else 1
+    square = sum((edge / abs(edge)) ** 4 for edge in edges if edge)
+    back = (square / abs(square)) ** -0.25 if abs(square) > 1e-6 else 1
     turned = {v: place * back for v, place in places.items()}
     _, wide, high = box_around(turned)
     if high > wide:

@@ -31,9 +31,10 @@ def unused_places(network: Network) -> str | None:
     return f"{network.name}: places are given for {named} of {network.nodes} nodes, so they aren't used"
 
 
-def turned(turn: float) -> Point:
-    """The unit vector turned from the top clockwise; rounded, since `sin` may differ from machine to machine."""
-    return round(sin(2 * pi * turn), 9), -round(cos(2 * pi * turn), 9)
+def turned(part: float) -> Point:
+    """The unit vector turned from the top clockwise by a part of a circle; rounded, since `sin` may differ from machine
+    to machine."""
+    return round(sin(2 * pi * part), 9), -round(cos(2 * pi * part), 9)
 
 
 def places_on_circle(nodes: int) -> Places:

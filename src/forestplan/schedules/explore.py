@@ -457,11 +457,11 @@ def event_lines(listed: list[Event], neighbours: dict[int, list[int]]) -> Iterat
     """The events with the wires that they put or take, or the pulse that is made."""
     made: Counter[int] = Counter()
     for event in listed:
-        v, turn = event.node, ", out of turn" if event.place else ""
+        v, order = event.node, ", out of turn" if event.place else ""
         if event.port is None:
             made[v] += 1
             yield f"{event}: node {v} makes pulse {made[v]}\n"
         elif event.kind is Kind.PUT:
             yield f"{event}: {event.message} for {neighbours[v][event.port]}\n"
         else:
-            yield f"{event}: {event.message} from {neighbours[v][event.port]}{turn}\n"
+            yield f"{event}: {event.message} from {neighbours[v][event.port]}{order}\n"

@@ -46,8 +46,8 @@ class Step:
         return self.node, self.neighbour or self.node
 
     @property
-    def turn(self) -> tuple[Edge, str]:
-        """When it comes, among others, if each link has its turn."""
+    def place_in_cycle(self) -> tuple[Edge, str]:
+        """When it comes, among others, under the policy `in-turn`: links come one after the other, and then again."""
         return self.link, self.kind.value
 
 
@@ -153,6 +153,6 @@ class Policy:
 
     def next_in_turn(self, steps: Sequence[Step]) -> Step:
         """The step whose link comes next after that of the last one."""
-        last = self.last.turn if self.last else ((0, 0), "")
-        after = [step for step in steps if step.turn > last]
-        return min(after or steps, key=lambda step: step.turn)
+        last = self.last.place_in_cycle if self.last else ((0, 0), "")
+        after = [step for step in steps if step.place_in_cycle > last]
+        return min(after or steps, key=lambda step: step.place_in_cycle)

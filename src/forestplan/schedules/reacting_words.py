@@ -105,8 +105,8 @@ def lines_of_list(net: Network, program: Reacting, listed: list[Event]) -> Itera
             yield f"{event}: node {v} acts{news}"
         else:
             way = "for" if event.kind is PUT else "from"
-            turn = ", out of turn" if event.place else ""
-            yield f"{event}: {event.message} {way} {net.neighbours[v][event.port]}{news}{turn}"
+            order = ", out of turn" if event.place else ""
+            yield f"{event}: {event.message} {way} {net.neighbours[v][event.port]}{news}{order}"
 
 
 def make_out_of_turn(state: NetState[ReactingNode], event: Event) -> None:
