@@ -3,7 +3,7 @@ guessed. test_written.py has files of other programs."""
 from unittest import mock
 
 from forestplan.faults import Fault
-from forestplan.networks import foreign
+from forestplan.networks import networkx_forms
 from forestplan.networks.forms import Stated
 from forestplan.networks.reading import listed_of, made_of
 from tests.cases import Case
@@ -204,11 +204,11 @@ HALVES = (
 
 class Reading(Case):
     def setUp(self):
-        self.has_networkx = foreign.networkx() is not None
+        self.has_networkx = networkx_forms.networkx() is not None
 
     def readable(self, rows):
         """The rows whose form can be read here."""
-        return [row for row in rows if self.has_networkx or row[0] not in foreign.READERS]
+        return [row for row in rows if self.has_networkx or row[0] not in networkx_forms.READERS]
 
     def test_refused(self):
         for form, text, said in self.readable(REFUSED):
@@ -266,7 +266,7 @@ class Reading(Case):
         self.same("without a heading", said[0], {frozenset("ca"), frozenset("fd")})
         self.same("a column by its number", said[2][1:], ["columns that aren't read: column 2"])
 
-    @mock.patch.object(foreign, "networkx", lambda: None)
+    @mock.patch.object(networkx_forms, "networkx", lambda: None)
     def test_without_networkx(self):
         with self.assertRaisesRegex(Fault, "python3-networkx"):
             read("graph [ ]", "gml")

@@ -12,7 +12,7 @@ import unicodedata
 from collections.abc import Callable, Iterator
 from dataclasses import dataclass
 
-from forestplan.networks import foreign, network
+from forestplan.networks import network, networkx_forms
 from forestplan.networks.forms import ENDINGS
 from forestplan.networks.network_text import read_network
 from tests.cases import Case, in_process
@@ -177,7 +177,7 @@ def networkx_writers(nx) -> list[Writer]:
 
 
 # The endings of files that networkx reads.
-BY_NETWORKX = tuple(ending for form in foreign.READERS for ending in ENDINGS[form])
+BY_NETWORKX = tuple(ending for form in networkx_forms.READERS for ending in ENDINGS[form])
 
 
 class Files(Case):
@@ -200,7 +200,7 @@ class Written(Files):
         self.read_files(spreadsheet_writers())
 
     def test_networkx(self):
-        library = foreign.networkx()
+        library = networkx_forms.networkx()
         if library is None:
             self.skipTest("networkx isn't installed")
         self.read_files(networkx_writers(library))

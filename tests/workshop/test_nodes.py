@@ -16,7 +16,7 @@ from forestplan.schedules.policies import POLICIES
 from forestplan.workshop.cases import cases_of
 from forestplan.workshop.protocol import SEQUELS
 from forestplan.workshop.right_rounds import RightRounds
-from forestplan.workshop.why import FOUND, RULES
+from forestplan.workshop.reasons import FOUND, RULES
 from tests.sentences import ACK, NO_ACK, PULSE, SAFE
 from tests.tools import needs
 from tests.workshop.base import (

@@ -1,4 +1,4 @@
-"""What the workshop says, against numbers that are worked by hand. The words of why.py are pinned here alone: other
+"""What the workshop says, against numbers that are worked by hand. The words of reasons.py are pinned here alone: other
 tests take them from its tables."""
 import contextlib
 import io
@@ -8,7 +8,7 @@ from forestplan.network import Network
 from forestplan.workshop.player import PROGRESS_SECONDS, CasePlayer
 from forestplan.workshop.processes import last_errors
 from forestplan.workshop.right_rounds import RightRounds
-from forestplan.workshop.why import Why
+from forestplan.workshop.reasons import Why
 from tests.cases import Case
 from tests.tools import needs
 from tests.workshop.base import network, options_of

@@ -35,11 +35,11 @@ No network has more nodes, edges or neighbours of one than ``help("forestplan.li
     options             the options that state it on a command line
     table               a table in CSV, and the titles of its columns
     tables              tables of pairs, sites, barred channels and licences
-    lines               edges and adjacency in lines of words
-    letters             graph6 and sparse6
+    edge_lists          edges and adjacency in lines of words
+    graph6              graph6 and sparse6
     gml                 what a GML text declares
     cross_check         what a GraphML, GEXF or JSON text declares, counted beside networkx
-    foreign             forms that networkx reads, if it is installed
+    networkx_forms      forms that networkx reads, if it is installed
     networkx_graph      what is asked of a graph of networkx
     command_line        the command line of `forestlab network`
     network             the command `forestlab network`

@@ -19,7 +19,7 @@ from forestplan.networks.cross_check import Declared, in_json, in_xml
 from forestplan.networks.fields import shown_field
 from forestplan.networks.forms import Stated, decoded_text
 from forestplan.networks.gml import in_gml, with_multigraph
-from forestplan.networks.letters import from_graph6, in_graph6, in_sparse6
+from forestplan.networks.graph6 import from_graph6, in_graph6, in_sparse6
 from forestplan.networks.listing import Listed, Where, name_of, not_read
 from forestplan.networks.networkx_graph import Attributes, Graph
 from forestplan.networks.table import FARTHEST

@@ -2,7 +2,7 @@
 from forestplan.fault_codes import Code
 from forestplan.faults import Fault, InText
 from forestplan.network import Edge, Network
-from forestplan.networks import foreign, lines, tables
+from forestplan.networks import edge_lists, networkx_forms, tables
 from forestplan.networks.fields import field_number
 from forestplan.networks.forms import Stated, decoded_text, form_of, letters_of
 from forestplan.networks.listing import Listed
@@ -19,8 +19,8 @@ def listed_of(data: bytes, name: str, form: str, stated: Stated) -> Listed:
 
     Raises `Fault` of the text's first fault, and `Unsaid` of what the user has to state.
     """
-    if form in foreign.READERS:
-        return foreign.graph_read(data, name, form, stated)
+    if form in networkx_forms.READERS:
+        return networkx_forms.graph_read(data, name, form, stated)
     if form == "dimacs":
         # Nothing is mended, not even line ends.
         encoding = stated.encoding
@@ -29,7 +29,7 @@ def listed_of(data: bytes, name: str, form: str, stated: Stated) -> Listed:
     text = decoded_text(data, name, stated.encoding)
     if form == "pairs":
         return tables.pairs(text, name, stated)
-    return {"edges": lines.edges, "adjacency": lines.adjacency}[form](text, name)
+    return {"edges": edge_lists.edges, "adjacency": edge_lists.adjacency}[form](text, name)
 
 
 def listed_in(network: Network, path: str) -> Listed:

@@ -8,7 +8,7 @@
     alpha_run       a run without a clock, whose transcript the proved program judges
     alpha_verdict   the verdict on it in words
     right_rounds    the right rounds, which the proved programs write
-    why             why a node has to do something in a pulse
+    reasons         why a node has to do something in a pulse
     findings        what is found: a run that isn't right, or a program that doesn't answer
     report          what is printed: a table, a league, the case that isn't right
     protocol        what the workshop and a node say to each other

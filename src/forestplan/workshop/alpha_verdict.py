@@ -18,7 +18,7 @@ from forestplan.workshop.findings import (
     numbers_in_words,
 )
 from forestplan.workshop.right_rounds import RightRounds, program_option
-from forestplan.workshop.why import Why
+from forestplan.workshop.reasons import Why
 
 # No run has such a pulse, so an entry that names it is refused, and the judge says what would be possible.
 IMPOSSIBLE = (1 << 32) - 1

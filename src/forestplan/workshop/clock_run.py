@@ -20,7 +20,7 @@ from forestplan.workshop.protocol import (
     start_of_output,
 )
 from forestplan.workshop.right_rounds import RightRounds, PutsOfRounds, ask
-from forestplan.workshop.why import Why
+from forestplan.workshop.reasons import Why
 
 
 class ClockRun(PutsOfRounds, ABC):
