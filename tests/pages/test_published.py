@@ -483,7 +483,7 @@ class Published(Cards):
             self.same(f"{without} {dare} after {len(made)} steps", got, wanted)
         for v in range(1, nodes + 1):
             for said in ("nothing", f"ack {v % nodes + 1}"):
-                more = {"node": v, "said": said}
+                more = {"node": v, "guess": said}
                 self.same(
                     f"waits {v}",
                     self.asked("waits", **asked, **more),
@@ -536,7 +536,7 @@ class Published(Cards):
         assert isinstance(wanted, dict)
         for step in wanted["steps"]:
             for said in ("nothing", "wave 3", "echo 1, wave 3"):
-                more = asked | {"step": step, "said": said}
+                more = asked | {"step": step, "guess": said}
                 self.same(f"{more}", self.asked("sends", **more), answer("sends", more))
         for step in (2, 5, 6):
             more = asked | {"lesson": 8, "step": step}
@@ -569,10 +569,10 @@ class Published(Cards):
             (10, 3, 0, "0"),
             (3, 20, 1, "-"),
         ):
-            asked = {"network": text, "node": node, "pulse": pulse, "forest": forest, "said": said}
+            asked = {"network": text, "node": node, "pulse": pulse, "forest": forest, "guess": said}
             self.same(f"{node} {pulse}", self.asked("predict", **asked), answer("predict", asked))
         for said in ("4", " 4 ", "5", "", "<b>"):
-            asked = {"network": "", "lesson": 1, "step": 1, "said": said}
+            asked = {"network": "", "lesson": 1, "step": 1, "guess": said}
             self.same(said, self.asked("exercise", **asked), answer("exercise", asked))
 
     def test_nothing_drawn(self) -> None:

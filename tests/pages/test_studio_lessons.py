@@ -329,11 +329,11 @@ class Judged(Case):
                 self.note(f"{name}: one of the picks", exercise.right in exercise.picks)
             else:
                 self.same(f"{name}", exercise.right, str(wanted[name]))
-            right = verdict(*name, said=f"  {exercise.right.upper()} ")
+            right = verdict(*name, guess=f"  {exercise.right.upper()} ")
             self.same(f"{name}: right", (right.done, right.said), (True, exercise.answer))
             others = [one for one in exercise.picks if one != exercise.right] or ["99", "", "x"]
             for said in others:
-                found = verdict(*name, said=said)
+                found = verdict(*name, guess=said)
                 self.note(f"{name}: {said} is wrong", not found.done, found)
                 self.note("without the answer", exercise.answer not in found.said, found)
                 is_quoted = f"“{said}”" in found.said

@@ -73,15 +73,15 @@ GOOD: list[tuple[str, dict]] = [
     ("steps", RUN | {"list": "take 1 0\n"}),
     ("steps", RUN | {"program": "echo", "steps": "2-1", "without": "fifo", "dare": "other"}),
     ("file_text", {"own": "echo", "seen": "0"}),
-    ("predict", RUN | {"node": 1, "pulse": 1, "forest": 0, "said": "layer 0"}),
-    ("predict", RUN | {"program": "colouring"} | {"node": 1, "pulse": 3, "forest": 0, "said": 1}),
-    ("waits", RUN | STEPS | {"node": 1, "said": "ack 2"}),
+    ("predict", RUN | {"node": 1, "pulse": 1, "forest": 0, "guess": "layer 0"}),
+    ("predict", RUN | {"program": "colouring"} | {"node": 1, "pulse": 3, "forest": 0, "guess": 1}),
+    ("waits", RUN | STEPS | {"node": 1, "guess": "ack 2"}),
     (
         "sends",
-        RUN | {"program": "echo", "steps": "2-1", "without": "fifo", "step": "1-2", "said": "x"},
+        RUN | {"program": "echo", "steps": "2-1", "without": "fifo", "step": "1-2", "guess": "x"},
     ),
     # An answer that is said, a typed plan, and steps that are taken.
-    ("exercise", {"network": "", "lesson": 1, "step": 1, "said": "4"}),
+    ("exercise", {"network": "", "lesson": 1, "step": 1, "guess": "4"}),
     ("exercise", {"network": EDGE, "lesson": 1, "step": 2, "plan": [1, 2]}),
     ("exercise", RUN | STEPS | {"lesson": 6, "step": 1}),
     ("build", {}),
@@ -101,7 +101,7 @@ VALUES: tuple[object, ...] = (
     *([["x", 1]], [[1, 2]] * 2, {}, {"nodes": []}, {"nodes": "9" * 5000}, {"": ""}),
 )
 # What a field may be that isn't of the type of its good value.
-ALSO = {"seed": (str, int), "said": (str, int)}
+ALSO = {"seed": (str, int), "guess": (str, int)}
 # What a field means that isn't there, in every call that has it and may lack it.
 DEFAULTS = {
     **{"nodes": 0, "edges": [], "stated": [], "program": "colouring", "slow": [], "lazy": []},
@@ -109,7 +109,7 @@ DEFAULTS = {
     **{"pulses": [], "by": 0, "in_step": False, "dare": None, "policy": None, "list": None},
 }
 # The same of a field that a call of this name may lack and another one may not.
-OWN_DEFAULTS: dict[str, dict[str, object]] = {"exercise": {"plan": [], "said": ""}}
+OWN_DEFAULTS: dict[str, dict[str, object]] = {"exercise": {"plan": [], "guess": ""}}
 # The sentence of each refusal of a malformed call. The server's other tests ask only for its beginning.
 AT_NODE = {"network": EDGE, "node": 1}
 REFUSALS: tuple[tuple[str, dict, str], ...] = (
@@ -144,8 +144,8 @@ REFUSALS: tuple[tuple[str, dict, str], ...] = (
     ),
     (
         "predict",
-        AT_NODE | {"pulse": 1, "said": []},
-        "the field said of the call: a whole number is asked for",
+        AT_NODE | {"pulse": 1, "guess": []},
+        "the field guess of the call: a whole number is asked for",
     ),
 )
 

@@ -504,7 +504,7 @@ class Answers(Server):
         )
         for network, asked, found in rows:
             for said in (f" {found.upper()} ", f"{found}1"):
-                got = self.found("predict", network=network, said=said, **asked)
+                got = self.found("predict", network=network, guess=said, **asked)
                 wanted = (said != f"{found}1", found, True)
                 self.same(f"{asked} {said}", (got["right"], got["found"], bool(got["why"])), wanted)
         for steps, found in (
@@ -512,7 +512,7 @@ class Answers(Server):
             ("1-2", "ack 2, safe 2"),
             ("2-1_1-2_1-2", "safe 2"),
         ):
-            got = self.found("waits", network=EDGE, node=1, steps=steps, said=found)
+            got = self.found("waits", network=EDGE, node=1, steps=steps, guess=found)
             self.same(f"what node 1 waits for after {steps}", got["found"], found)
 
     def test_results(self):

@@ -246,9 +246,9 @@ class States(FilesCase):
         }
         said = ", ".join(sorted(sent, reverse=True)) or "nothing"
         session = session_of(machine.program.file.path)
-        found = answer(session, "sends", **asked, said=said)
+        found = answer(session, "sends", **asked, guess=said)
         self.note(f"{at}, then {step}: {said}", found["right"], found)
-        wrong = answer(session, "sends", **asked, said=f"{said}, x 1")
+        wrong = answer(session, "sends", **asked, guess=f"{said}, x 1")
         self.same(f"{at}, then {step}: more", wrong["right"], False)
 
     def file_says(
@@ -383,11 +383,11 @@ class OwnFiles(FilesCase):
         """A question is of a step that is possible, and the answer names the function."""
         samples = map(sample, ("echo", "exclusion", "independent_set"))
         session = session_of(self.file("fails.py", FAILS), *samples)
-        asked = {"network": TRIANGLE, "program": "echo", "said": "wave 3"}
+        asked = {"network": TRIANGLE, "program": "echo", "guess": "wave 3"}
         found = answer(session, "sends", **asked, step="2-1")
         self.same("right", (found["right"], found["found"]), (True, "wave 3"))
         self.same("why", found["why"], "`on_wave` runs, and sends `wave` to 3.")
-        act = asked | {"program": "exclusion", "step": "1", "said": "ask 3, ask 2"}
+        act = asked | {"program": "exclusion", "step": "1", "guess": "ask 3, ask 2"}
         found = answer(session, "sends", **act)
         self.same("two", (found["right"], found["found"]), (True, "ask 2, ask 3"))
         for step in ("", "1", "1-2", "x"):
@@ -395,7 +395,7 @@ class OwnFiles(FilesCase):
             self.note(repr(step), "isn't possible there" in said, said)
         said = self.refused(session, "sends", **asked | {"program": "independent_set"}, step="1-2")
         self.note("of rounds", said.startswith("independent_set has rounds"), said)
-        failed = {"network": ROW, "program": "fails", "said": "nothing", "step": "1-3"}
+        failed = {"network": ROW, "program": "fails", "guess": "nothing", "step": "1-3"}
         found = answer(session, "sends", **failed)
         self.note("what fails", found["right"] and "`on_hi` fails: " in found["why"], found)
 
@@ -481,8 +481,8 @@ class OwnFiles(FilesCase):
             ("rounds", {}),
             ("run", {"policy": "random"}),
             ("picture", {"kind": "rounds"}),
-            ("predict", {"node": 1, "pulse": 1, "said": "x"}),
-            ("waits", {"node": 1, "said": "x"}),
+            ("predict", {"node": 1, "pulse": 1, "guess": "x"}),
+            ("waits", {"node": 1, "guess": "x"}),
         )
         for name, more in rows:
             said = self.refused(session, name, **asked | more)

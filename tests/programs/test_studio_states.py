@@ -168,7 +168,7 @@ class Calls(Case):
                 rounds.network.node_numbers, range(rounds.forests), (3, 6)
             ):
                 parent = rounds.parents.get((v, forest))
-                call = PredictCall(network=text, node=v, forest=forest, pulse=pulse, said="0")
+                call = PredictCall(network=text, node=v, forest=forest, pulse=pulse, guess="0")
                 why = answer_predict(call, Session(), untold).why
                 at = f"{name}: node {v} in forest {forest}, pulse {pulse}: {why}"
                 self.same(f"{at}: its parent", "its parent" in why, parent is not None)
@@ -176,7 +176,7 @@ class Calls(Case):
                 self.same(f"{at}: who", named, {v, parent} - {None})
 
     def waits(self, steps: str, said: str, rules: str) -> Predicted:
-        call = WaitsCall(network=EDGE, without=rules, steps=steps, node=1, said=said)
+        call = WaitsCall(network=EDGE, without=rules, steps=steps, node=1, guess=said)
         return answer_waits(call, Session(), untold)
 
     def test_answers(self) -> None:

@@ -45,7 +45,7 @@ def answer_exercise(call: ExerciseCall, session: Session, tell: Tell) -> Exercis
         raise Fault(Code.NO_STEP_OF_LESSON, lesson=call.lesson, steps=len(steps))
     exercise = steps[call.step - 1].exercise
     if isinstance(exercise, SaidExercise):
-        return said_right(exercise, call.said)
+        return said_right(exercise, call.guess)
     if isinstance(exercise, SeenExercise):
         return GOALS[call.lesson, exercise.name](call, session, tell)
     raise Fault(Code.NO_EXERCISE)

@@ -207,38 +207,38 @@ class FileCall:
 
 @dataclass(frozen=True, kw_only=True)
 class PredictCall(OfProgram):
-    """Asks whether a node has after a pulse what a student has said."""
+    """Asks whether a node has after a pulse what a student has guessed."""
 
     forest: int = 0
     node: int
     pulse: int
-    said: Word
+    guess: Word
 
 
 @dataclass(frozen=True, kw_only=True)
 class WaitsCall(AfterSteps, WithoutRules, OfProgram):
-    """Asks whether a node waits for what a student has said."""
+    """Asks whether a node waits for what a student has guessed."""
 
     node: int
-    said: Word
+    guess: Word
 
 
 @dataclass(frozen=True, kw_only=True)
 class SendsCall(AfterSteps, WithoutRules, OfProgram):
-    """Asks whether a node without rounds sends in a step what a student has said: the word, and to whom."""
+    """Asks whether a node without rounds sends in a step what a student has guessed: the word, and to whom."""
 
     step: str
-    said: Word
+    guess: Word
 
 
 @dataclass(frozen=True, kw_only=True)
 class ExerciseCall(AfterSteps, WithoutRules, OfProgram):
-    """Asks whether the exercise of a lesson's step is done: by what a student has said, or by the network, the typed
+    """Asks whether the exercise of a lesson's step is done: by what a student has guessed, or by the network, the typed
     plan and the steps of the page."""
 
     lesson: int
     step: int
-    said: Word = ""
+    guess: Word = ""
     plan: tuple[int, ...] = ()
 
 

@@ -49,7 +49,7 @@ def answer_predict(call: PredictCall, session: Session, _tell: Tell) -> Predicte
     if program != COLOURING:
         rounds = program_rounds(network, program)
     found, why = found_after(rounds, v, pulse, call.forest)
-    return Predicted(small_text(call.said) == small_text(found), found, why)
+    return Predicted(small_text(call.guess) == small_text(found), found, why)
 
 
 def found_after(
@@ -117,7 +117,7 @@ def answer_waits(call: WaitsCall, session: Session, _tell: Tell) -> Predicted:
     player = Stepwise(network, program, rules_asked(call, OF_SCHEDULES))
     player.follow(call.steps.split("_"))
     found, why = waited(player.state, v, player.without, player.is_over)
-    return Predicted(is_whole_list(call.said, found), ", ".join(found) or "nothing", why)
+    return Predicted(is_whole_list(call.guess, found), ", ".join(found) or "nothing", why)
 
 
 def is_whole_list(said: str, found: list[str]) -> bool:
@@ -141,13 +141,13 @@ def answer_sends(call: SendsCall, session: Session, _tell: Tell) -> Predicted:
     function, _ = player.ran
     if player.is_over:
         return Predicted(
-            is_whole_list(call.said, []), "nothing", f"`{function}` fails: {player.fault}."
+            is_whole_list(call.guess, []), "nothing", f"`{function}` fails: {player.fault}."
         )
     puts = [entry for entry in player.made[before:] if entry.kind is PUT]
     sent = in_words([f"`{entry.what}` to {entry.neighbour}" for entry in puts]) or "nothing"
     found = sorted(set(map(word_and_end, puts)))
     why = f"`{function}` runs, and sends {sent}."
-    return Predicted(is_whole_list(call.said, found), ", ".join(found) or "nothing", why)
+    return Predicted(is_whole_list(call.guess, found), ", ".join(found) or "nothing", why)
 
 
 def word_and_end(put: Entry) -> str:

@@ -133,7 +133,7 @@ class AllVerdicts:
 
 
 @dataclass(frozen=True)
-class SaidJudged:
+class GuessJudged:
     """An exercise that is answered: the right answer in small letters, and what is said of it, of any other answer, and
     of none."""
 
@@ -197,7 +197,7 @@ class Piece:
     reactions: dict[str, AllReactions] = field(default_factory=dict)
     verdicts: dict[str, AllVerdicts] = field(default_factory=dict)
     questions: dict[str, Explained] = field(default_factory=dict)
-    said: dict[str, SaidJudged] = field(default_factory=dict)
+    guesses: dict[str, GuessJudged] = field(default_factory=dict)
     steps: dict[str, StepsJudged] = field(default_factory=dict)
     reacted: dict[str, ReactionsJudged] = field(default_factory=dict)
     plans: dict[str, PlanJudged] = field(default_factory=dict)

@@ -96,7 +96,7 @@ from forestplan.studio.recorded_answers import (
     Piece,
     PlanJudged,
     ReactionsJudged,
-    SaidJudged,
+    GuessJudged,
     StepsJudged,
 )
 from forestplan.studio.rounds import of_verdict
@@ -422,11 +422,11 @@ class Recording:
         call = ExerciseCall(network="", lesson=spot.lesson, step=spot.step)
         key = f"exercise {spot.lesson} {spot.step}"
 
-        def judged(said: str) -> ExerciseJudged:
-            return answer_exercise(replace(call, said=said), self.session, tell)
+        def judged(guess: str) -> ExerciseJudged:
+            return answer_exercise(replace(call, guess=guess), self.session, tell)
 
         if isinstance(exercise, SaidExercise):
-            self.now.said[key] = SaidJudged(
+            self.now.guesses[key] = GuessJudged(
                 exercise.right, judged(exercise.right), judged(SAID), judged("")
             )
         elif isinstance(exercise, SeenExercise):

@@ -154,8 +154,8 @@ export class Stage {
     const begin = Math.atan2(y - this.Y(w), x - this.X(w));
     for (let k = 0; k < 48; k++) {
       // To the left and to the right of where it came from, and then farther away.
-      const turn = Math.ceil((k % 12) / 2) * (k % 2 ? 1 : -1) * Math.PI / 6, far = this.apart * radius * (1.05 + Math.floor(k / 12));
-      const at = [this.X(w) + far * Math.cos(begin + turn), this.Y(w) + far * Math.sin(begin + turn)];
+      const angle = Math.ceil((k % 12) / 2) * (k % 2 ? 1 : -1) * Math.PI / 6, far = this.apart * radius * (1.05 + Math.floor(k / 12));
+      const at = [this.X(w) + far * Math.cos(begin + angle), this.Y(w) + far * Math.sin(begin + angle)];
       if (onWhich(at[0], at[1], this.apart * radius) === undefined) {
         return {x: Math.round((at[0] - this.to.x) / this.to.scale), y: Math.round((at[1] - this.to.y) / this.to.scale)};
       }

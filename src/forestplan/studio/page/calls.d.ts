@@ -411,23 +411,23 @@ interface PredictCall extends OfProgram {
   forest?: number | null;
   node: number;
   pulse: number;
-  said: number | string;
+  guess: number | string;
 }
 
 interface WaitsCall extends AfterSteps, WithoutRules, OfProgram {
   node: number;
-  said: number | string;
+  guess: number | string;
 }
 
 interface SendsCall extends AfterSteps, WithoutRules, OfProgram {
   step: string;
-  said: number | string;
+  guess: number | string;
 }
 
 interface ExerciseCall extends AfterSteps, WithoutRules, OfProgram {
   lesson: number;
   step: number;
-  said?: number | string | null;
+  guess?: number | string | null;
   plan?: number[] | null;
 }
 
@@ -564,7 +564,7 @@ interface AllVerdicts {
   good: GoodPlan[];
 }
 
-interface SaidJudged {
+interface GuessJudged {
   right: string;
   done: ExerciseJudged;
   other: ExerciseJudged;
@@ -604,7 +604,7 @@ interface Piece {
   reactions: Record<string, AllReactions>;
   verdicts: Record<string, AllVerdicts>;
   questions: Record<string, Explained>;
-  said: Record<string, SaidJudged>;
+  guesses: Record<string, GuessJudged>;
   steps: Record<string, StepsJudged>;
   reacted: Record<string, ReactionsJudged>;
   plans: Record<string, PlanJudged>;

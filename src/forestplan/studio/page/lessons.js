@@ -162,11 +162,11 @@ function exerciseBox(lesson, is) {
 function form(lesson, is) {
   const place = html("form"), label = written("label", is.asks), row = html("div", null, {class: "row"});
   const field = html("input", null, {type: "text", size: 8, maxlength: 60, autocomplete: "off"});
-  /** @param {string} said */
-  const judge = async said => {
-    if (!said) return say(lesson, is, "An answer is missing.");
+  /** @param {string} guess */
+  const judge = async guess => {
+    if (!guess) return say(lesson, is, "An answer is missing.");
     const step = (seen.step || 1);
-    await judged(lesson, is, {network: "", lesson, step, said});
+    await judged(lesson, is, {network: "", lesson, step, guess});
   };
   place.onsubmit = event => { event.preventDefault(); judge(field.value.trim()); };
   if (is.picks.length) {

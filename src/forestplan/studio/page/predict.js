@@ -56,8 +56,8 @@ export class Question {
     place.className = "verdict " + kind;
     place.replaceChildren(...parts);
   }
-  /** @param {OfRounds | OfWaits | OfSends} is @param {string} said */
-  judge(is, said) {
+  /** @param {OfRounds | OfWaits | OfSends} is @param {string} guess */
+  judge(is, guess) {
     /** @param {Predicted} answer */
     const told = ({right, found, why}) => {
       this.tries++;
@@ -70,18 +70,18 @@ export class Question {
         {type: "button", class: "quiet"});
       reason.append(...coded(why + " "));
       next.onclick = this.next;
-      if (!right && this.tries === 1) return this.say("soft", notYet(is, said, is.tells ? "" : reason));
+      if (!right && this.tries === 1) return this.say("soft", notYet(is, guess, is.tells ? "" : reason));
       this.isTold = true;
       show();
-      const verdict = right ? `✓ Yes: ${found}. ` : `✗ Not ${said}: ${found}. `;
+      const verdict = right ? `✓ Yes: ${found}. ` : `✗ Not ${guess}: ${found}. `;
       // In a lesson's step the lesson leads on.
       const isOfStep = by(this.id).closest("#lesson") !== null;
       this.say(right ? "good" : "bad", isOfStep ? [verdict, reason]
         : [verdict, reason, html("span", `${score.right} of ${score.asked} at the first try. `), next]);
     };
-    if (is.call === "sends") return asks("sends", {...is.asked, said}, "looking for the answer", told);
-    return is.call === "waits" ? asks("waits", {...is.asked, said}, "looking for the answer", told)
-      : asks("predict", {...is.asked, said}, "looking for the answer", told);
+    if (is.call === "sends") return asks("sends", {...is.asked, guess}, "looking for the answer", told);
+    return is.call === "waits" ? asks("waits", {...is.asked, guess}, "looking for the answer", told)
+      : asks("predict", {...is.asked, guess}, "looking for the answer", told);
   }
 }
 /** @param {HTMLInputElement} box @param {string} between */
@@ -91,11 +91,11 @@ function labelled(box, between) {
   return label;
 }
 // What is said of a first answer that isn't right: the numbers of which it is made, below each other.
-/** @param {OfRounds | OfWaits | OfSends} is @param {string} said @param {string | HTMLElement} reason */
-function notYet({compared = []}, said, reason) {
+/** @param {OfRounds | OfWaits | OfSends} is @param {string} guess @param {string | HTMLElement} reason */
+function notYet({compared = []}, guess, reason) {
   const wide = Math.max(0, ...compared.map(([who]) => who.length));
   const digits = compared.map(([, number]) => BigInt(number).toString(2));
   const long = Math.max(0, ...digits.map(one => one.length));
   const rows = compared.map(([who, number], k) => `${who.padEnd(wide)}  ${digits[k].padStart(long, "0")} = ${number}`);
-  return [`Not yet: it isn’t ${said}. Try once more. `, reason, rows.length ? html("pre", rows.join("\n")) : ""];
+  return [`Not yet: it isn’t ${guess}. Try once more. `, reason, rows.length ? html("pre", rows.join("\n")) : ""];
 }

@@ -12,7 +12,7 @@ export function keptLine(is) {
   return html("div", said || "It keeps nothing in me.", {class: "kept"});
 }
 // Of a node at which something can happen, and else of the first one: what does it send then?
-/** @param {ReactionsFound} is @param {number | null} node @param {Omit<SendsCall, "said" | "step">} asked @returns {Asked} */
+/** @param {ReactionsFound} is @param {number | null} node @param {Omit<SendsCall, "guess" | "step">} asked @returns {Asked} */
 export function sendsQuestion(is, node, asked) {
   const step = is.steps.find(one => parseInt(one, 10) === node) || is.steps[0], kinds = wordsOfFile();
   if (!step || !kinds.length) return {text: step ? "The file is being read." : "Nothing can happen any more."};

@@ -106,13 +106,13 @@ async function checked({network, plan}) {
 /** @param {ExerciseCall} asked @returns {Promise<ExerciseJudged>} */
 async function exercise(asked) {
   const {lesson, step, network} = asked, key = `exercise ${lesson} ${step}`;
-  const own = await find(piece => piece.said[key] || piece.plans[key] || piece.steps[key] || piece.reacted[key]);
+  const own = await find(piece => piece.guesses[key] || piece.plans[key] || piece.steps[key] || piece.reacted[key]);
   if (!own) return /** @type {ExerciseJudged} */ (await kept("exercise", {lesson, step, network}));
   if ("lacks" in own) {
     const runs = await reactionsOf(asked);
     return exerciseOf(runs, must(playedReactions(runs, stepsIn(asked.steps)) || undefined), own);
   }
-  return "right" in own ? judgedSaid(own, asked) : "blank" in own ? judgedPlan(own, asked) : judgedSteps(own, asked);
+  return "right" in own ? judgedGuess(own, asked) : "blank" in own ? judgedPlan(own, asked) : judgedSteps(own, asked);
 }
 /** @param {PlanJudged} is @param {ExerciseCall} asked @returns {Promise<ExerciseJudged>} */
 async function judgedPlan(is, asked) {
@@ -130,22 +130,22 @@ async function judgedSteps({dare, enough, more, before, after}, asked) {
   const {won, said} = dareOf(runs, at, dare), isLong = enough !== null && at.made.length > enough;
   return won && isLong ? {done: false, said: said + more} : {done: won, said};
 }
-/** @param {SaidJudged} is @param {ExerciseCall} asked @returns {ExerciseJudged} */
-function judgedSaid({right, done, other, none}, asked) {
-  const said = small(asked.said || "");
-  if (said === right) return done;
-  return said ? {...other, said: other.said.replace("\ue002", String(asked.said).trim().slice(0, 60))} : none;
+/** @param {GuessJudged} is @param {ExerciseCall} asked @returns {ExerciseJudged} */
+function judgedGuess({right, done, other, none}, asked) {
+  const guess = small(asked.guess || "");
+  if (guess === right) return done;
+  return guess ? {...other, said: other.said.replace("\ue002", String(asked.guess).trim().slice(0, 60))} : none;
 }
 /** @param {PredictCall} asked @returns {Promise<Predicted>} */
-async function predict({network, program, node, pulse, forest, said}) {
+async function predict({network, program, node, pulse, forest, guess}) {
   const key = `predict ${bare(network)}${program || "colouring"} ${node} ${pulse} ${forest || 0}`;
   const {found, why} = must(await find(piece => piece.questions[key]));
-  return {right: small(said) === small(found), found, why};
+  return {right: small(guess) === small(found), found, why};
 }
 /** @param {WaitsCall} asked @returns {Promise<Predicted>} */
 async function waits(asked) {
   const runs = await runsOf(asked), at = must(played(runs, stepsIn(asked.steps)) || undefined);
-  return judgedList(waitedFor(runs, at, asked.node), asked.said);
+  return judgedList(waitedFor(runs, at, asked.node), asked.guess);
 }
 // Whether all of a list is said, with commas between; of none it is `nothing`.
 /** @param {Explained} is @param {unknown} answer @returns {Predicted} */
@@ -156,7 +156,7 @@ function judgedList({found, why}, answer) {
 /** @param {SendsCall} asked @returns {Promise<Predicted>} */
 async function sends(asked) {
   const runs = await reactionsOf(asked), at = must(playedReactions(runs, stepsIn(asked.steps)) || undefined);
-  return judgedList(must(sentIn(runs, at, asked.step) || undefined), asked.said);
+  return judgedList(must(sentIn(runs, at, asked.step) || undefined), asked.guess);
 }
 /** @param {StepsCall} asked @returns {Promise<StepsFound | ReactionsFound>} */
 async function steps(asked) {

@@ -54,8 +54,8 @@ interface Hooks {
   answered(asked: PredictOf | WaitsOf): void;
 }
 // Whose node, and which pulse, a question of a tab is about.
-type PredictOf = Omit<PredictCall, "said">;
-type WaitsOf = Omit<WaitsCall, "said">;
+type PredictOf = Omit<PredictCall, "guess">;
+type WaitsOf = Omit<WaitsCall, "guess">;
 // Copies a link to what is seen, but for what is given otherwise; the button says that it is done.
 type CopyLink = (button: HTMLButtonElement, more?: State) => Promise<void>;
 
@@ -99,7 +99,7 @@ interface OfWaits {
 interface OfSends {
   text: string;
   call: "sends";
-  asked: Omit<SendsCall, "said">;
+  asked: Omit<SendsCall, "guess">;
   choices: string[];
   picks?: undefined;
   compared?: undefined;
