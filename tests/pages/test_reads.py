@@ -61,7 +61,10 @@ OWN = {
         "src/forestplan/networks/network_text.py",
         "reading_of: read.read",
     ): "the method of `Reading` for a line",
-    ("src/forestplan/networks/networkx_forms.py", "graph_read: for in warned"): "a list of warnings",
+    (
+        "src/forestplan/networks/networkx_forms.py",
+        "graph_read: for in warned",
+    ): "a list of warnings",
     (
         "src/forestplan/networks/network.py",
         "was_read: tables.SiteTable(table, given.stated).read",

@@ -141,6 +141,17 @@ class ClassFolder(FolderCase):
         ):
             self.same(text, class_files.page_for_a_class(text, "docs/learn/A.md", paths), right)
 
+    def test_a_name_that_begins_like_one_left_out_is_copied(self):
+        for path, right in (
+            ("examples/workshop/c/greedy.c", True),
+            ("examples/workshop/mistakes.py", True),
+            ("examples/algorithms/tree.py", True),
+            ("examples/workshop/cards.md", False),
+            ("examples/workshop/python_hints.md", False),
+            ("examples/algorithms.md", False),
+        ):
+            self.same(path, class_files.is_left_out(path), right)
+
     def test_who_may_call_and_change_its_scripts(self):
         """Everybody may call them, and nobody else than their owner may change them."""
         for name in FIRST:

@@ -18,8 +18,8 @@ A transcript of another program is judged as one of it: `whole_run(network, text
     reading             the lines of a transcript: its first line and its entries, or the first fault
     fields              the fields of a line: numbers within their bounds, words of payloads
     judge               the judge: whether the entries are a whole run; an order of entries without stamps
-    stamps              Lamport's clock; why an entry isn't possible, and what a run that ends early lacks
-    rules               the rules of the four wires in words
+    stamps              why an entry isn't possible, and what a run that ends early lacks; Lamport's clock
+    rules               the words for a rule of the four wires that a judge names
     proved_judge        the verdict of the proved program, `forestplay replay`
     conversions         a transcript as JSON, for ShiViz, or by rounds
     transcript          the command `forestlab transcript`

@@ -1,4 +1,4 @@
-"""Lamport's clock; and in words why an entry isn't possible, or a run not whole."""
+"""Why an entry isn't possible, or a run not whole, in words; and Lamport's clock, which counts the stamps."""
 from collections import deque
 from collections.abc import Iterable, Iterator
 

@@ -103,8 +103,13 @@ def class_files() -> Iterator[str]:
         for folder, _, names in sorted(os.walk(source)):
             for name in sorted(names):
                 found = path + os.path.join(folder, name).removeprefix(source)
-                if not found.startswith(LEFT_OUT) and not found.endswith(".pyc"):
+                if not is_left_out(found) and not found.endswith(".pyc"):
                     yield found
+
+
+def is_left_out(path: str) -> bool:
+    """Whether a path stays with the teacher: it is in LEFT_OUT, or is below a folder of it."""
+    return any(f"{path}/".startswith(f"{left}/") for left in LEFT_OUT)
 
 
 LINK = re.compile(r"(?<!!)\[([^]]+)\]\(([^)#\s]+)(?:#[^)\s]*)?\)")
