@@ -3,7 +3,7 @@ import {pillHigh, pillWide, textWide} from "./geometry.js";
 import {BAR_SIZES, BLANK_RIM, BLANK_SIZE, FORESTS, GREYS, HUES, INK, LEAST_RING, LOOKS, MOST_DIGITS, PALE, PERIOD, PILL_RIM,
   RING_WIDTH, SQUARE_SIZES, WHITE, WIRES, WRONG} from "./hues.js";
 
-const SVG = "http://www.w3.org/2000/svg", LEAST_SIZE = 8, MOST_LETTERS = 13, NOTE = 11.5;
+const SVG = "http://www.w3.org/2000/svg", LEAST_SIZE = 8, FEWEST_LETTERS = 8, MOST_LETTERS = 15, NOTE = 11.5;
 // `inside` is a text or a list of marks.
 /** @type {(name: string, attributes?: Attributes, inside?: Inside) => Mark} */
 export function mark(name, attributes = {}, inside = null) { return {name, attributes, inside}; }
@@ -107,12 +107,14 @@ export function textMark(x, y, wanted, fill, said, more = {}) {
   return mark("text", {x, y: y + 0.36 * size, "font-size": size.toFixed(1), fill, "text-anchor": "middle", ...more},
     String(said));
 }
-// What a node has found, in words below it; what has no room, `wide` pixels, is cut, and whole in its title.
-/** @param {number} x @param {number} y @param {number} size @param {string} said @param {number} wide @returns {Marks} */
-export function resultWords(x, y, size, said, wide) {
-  const most = Math.max(4, Math.min(MOST_LETTERS, Math.floor(wide / textWide(1, size)))), fits = said.length <= most;
-  return [fits ? null : mark("title", {}, said),
-    textMark(x, y, size, "var(--ink)", fits ? said : said.slice(0, most - 1) + "…", HALO)];
+// What a node has found, in words below it. In less room than they need, `wide` pixels, they are smaller; then they are
+// cut, and whole in their title. Of too few letters nothing is seen.
+/** @param {number} x @param {number} y @param {number} wanted @param {string} said @param {number} wide @returns {Marks} */
+export function resultWords(x, y, wanted, said, wide) {
+  const size = Math.max(LEAST_SIZE, Math.min(wanted, wide / textWide(said.length, 1)));
+  const most = Math.min(MOST_LETTERS, Math.floor(wide / textWide(1, size) + 0.01)), fits = said.length <= most;
+  return [fits ? null : mark("title", {}, said), (fits || most >= FEWEST_LETTERS)
+    && textMark(x, y, size, "var(--ink)", fits ? said : said.slice(0, most - 1) + "…", HALO)];
 }
 const BOLD = {"font-weight": "bold"};
 export const HALO = {"paint-order": "stroke", stroke: "var(--paper)", "stroke-width": 3};

@@ -118,10 +118,11 @@ function showText(whole, [from, to]) {
   by("ran").hidden = !from;
   if (from) intoSight(by("codebox"), by("ran"));
 }
-// Scrolls a box, and nothing around it, until a part of it is seen.
+// Scrolls a box, and nothing around it, until a part of it is seen whole, or from its beginning.
 /** @param {HTMLElement} box @param {HTMLElement} part */
 function intoSight(box, part) {
   const outer = box.getBoundingClientRect(), inner = part.getBoundingClientRect();
-  const isSeen = inner.top >= outer.top && Math.min(inner.bottom, inner.top + 40) <= outer.bottom;
-  if (!isSeen) box.scrollTop += inner.top - outer.top - outer.height / 4;
+  const room = outer.height - inner.height, isSeen = inner.top >= outer.top && inner.bottom <= outer.bottom;
+  if (!isSeen) box.scrollTop += inner.top - outer.top - Math.max(0, Math.min(outer.height / 4, room / 2));
+  box.scrollLeft = 0;
 }
