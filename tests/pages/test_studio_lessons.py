@@ -422,13 +422,25 @@ class Judged(Case):
         exclusion = {"network": triangle3, "program": "exclusion"}
         snapshot = {"network": two, "program": "snapshot", "without": "fifo"}
         rows += [
-            (8, "tree", True, "node 2 has counts 2, after 6 steps", echo | {"steps": TREE}),
-            (8, "tree", False, "node 1 has counts 1 so far", echo | {"steps": "2-1_3-2"}),
-            (8, "tree", False, "node 2 has counts 1", echo | {"steps": "2-1_3-1_2-3_3-2_1-2_1-3"}),
+            (8, "tree", True, "node 2 is `counts 2`, after 6 steps", echo | {"steps": TREE}),
+            (
+                8,
+                "tree",
+                False,
+                "the result of node 1 is `counts 1 so far`",
+                echo | {"steps": "2-1_3-2"},
+            ),
+            (
+                8,
+                "tree",
+                False,
+                "the result of node 2 is `counts 1`",
+                echo | {"steps": "2-1_3-1_2-3_3-2_1-2_1-3"},
+            ),
             (8, "tree", False, "colouring makes rounds", {"network": triangle3}),
-            (8, "later", True, "node 3 has inside, after 6 steps", exclusion | {"steps": LATER}),
-            (8, "later", False, "node 1 has idle", exclusion | {"steps": ""}),
-            (8, "later", False, "node 3 has asks", exclusion | {"steps": "3_1"}),
+            (8, "later", True, "node 3 is `inside`, after 6 steps", exclusion | {"steps": LATER}),
+            (8, "later", False, "the result of node 1 is `idle`", exclusion | {"steps": ""}),
+            (8, "later", False, "the result of node 3 is `asks`", exclusion | {"steps": "3_1"}),
             (8, "coins", True, "17 coins are noted of 20", snapshot | {"steps": COINS}),
             (8, "coins", False, "is true here", snapshot | {"steps": COINS[:-4]}),
         ]

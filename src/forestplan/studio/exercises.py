@@ -235,7 +235,7 @@ class HasResults:
 
 
 def has_words(v: int, result: str) -> str:
-    return f"node {v} has {result}"
+    return f"the result of node {v} is `{result}`"
 
 
 def refused_state(call: ExerciseCall, session: Session, _tell: Tell) -> ExerciseJudged:

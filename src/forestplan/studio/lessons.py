@@ -90,7 +90,7 @@ CHANNELS = LessonSteps(
         TableStep(
             "example=petersen&tab=check&plan=1_2_1_2",
             "Make a proper plan yourself. Four transmitters have a channel already. Click a transmitter to give it the "
-            "next channel, or go to it with the Tab key and type a digit. A dashed line is a clash.",
+            "next channel[, or go to it with the Tab key and type a digit](keys:). A dashed line is a clash.",
             SeenExercise(
                 name="proper",
                 hint="Give a transmitter the least channel that none of its neighbours has. If you are stuck, change "
@@ -101,9 +101,9 @@ CHANNELS = LessonSteps(
         TableStep(
             "net=~&tab=draw",
             "In a row two channels are always enough. Yet the program's plan may have three, because it goes by the "
-            "numbers. Click four places to draw four transmitters (or press A four times). Then join them to a row so "
-            "that the plan takes three channels: click a transmitter, then the one to join it with. (The row "
-            "1 – 2 – 3 – 4 takes two channels.)",
+            "numbers. Click four places to draw four transmitters[ (or press A four times)](keys:). Then join them to "
+            "a row so that the plan takes three channels: click a transmitter, then the one to join it with. (The "
+            "row 1 – 2 – 3 – 4 takes two channels.)",
             SeenExercise(
                 name="row",
                 hint="Transmitter 4 lies between the transmitters 1 and 2.",
@@ -136,7 +136,7 @@ CHANNELS = LessonSteps(
         TableStep(
             "example=path&tab=draw",
             "The program needs far fewer rounds in a long row. Below *Make a network*, which is "
-            "[below this card](panel:make), choose *path*, type 400 nodes, and press *make*. Then read "
+            "[below this card](panel:make), choose *path* and 400 nodes, and press *make*. Then read "
             "[in its facts](panel:plan) how many rounds the plan took.",
             SeenExercise(
                 name="long",
@@ -551,13 +551,14 @@ MORE = LessonSteps(
             ),
         ),
         TableStep(
-            "example=path&tab=rounds&program=matching&at=18&node=2&predict=1",
-            "In this row of three, node 1 and node 2 are free, and the messages say who tells whom. Node 3 has the "
-            "next turn. Answer with the words that are below a node: *partner none*, or *partner* and the port.",
+            "example=path&tab=rounds&program=matching&at=14&node=2&predict=1",
+            "In this row of three it was node 3's turn in pulse 14. It has taken its free child, node 2, and the "
+            "message on the link tells node 2 so. Answer with the words that are below a node: *partner none*, or "
+            "*partner* and the port.",
             PredictedExercise(
                 name="partner",
-                hint="Node 3 takes its free child, node 2. Which port of node 2 leads to node 3? Its neighbours are 1 "
-                "and 3.",
+                hint="Node 2 reads now that node 3 has taken it. Which port of node 2 leads to node 3? Its neighbours "
+                "are 1 and 3.",
                 answer="partner 1: port 0 leads to node 1, and port 1 to node 3.",
             ),
         ),

@@ -68,7 +68,9 @@ export function hide(id, isHidden) { by(id).toggleAttribute("hidden", isHidden);
 export function show() { hooks.show(); }
 /** @param {TabName} tab @param {More} [more] */
 export function go(tab, more) { hooks.go(tab, more); }
-export const KEYS = matchMedia("(pointer: coarse)").matches ? "" : "Space plays, arrows step.";
+// Whether a finger points: then nothing is said of keys.
+export const isTouched = matchMedia("(pointer: coarse)").matches;
+export const KEYS = isTouched ? "" : "Space plays, arrows step.";
 // The place of the slider, as an address has it.
 export function timeAt() { return Math.round(time.at * 100) / 100; }
 // What an address asks for after the end is the end, and is said.

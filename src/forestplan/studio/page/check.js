@@ -1,5 +1,5 @@
 // The tab Check: a plan that is typed or clicked, with the verdict on it, and transcripts.
-import {announce, asks, by, capital, hello, hooks, programNamed, show, stage, tabs} from "./base.js";
+import {announce, asks, by, capital, hello, hooks, isTouched, programNamed, show, stage, tabs} from "./base.js";
 import {blank, channelCircle, html, note, noteWidth, sentence} from "./marks.js";
 import {net, neighbours, text} from "./model.js";
 
@@ -81,7 +81,7 @@ function key(event, on) {
   return true;
 }
 tabs.check = {
-  click, key, show: showPlan, hint: () => "Click a node for its next channel, or type it; Shift goes back.",
+  click, key, show: showPlan, hint: () => `Click a node for its next channel${isTouched ? "." : ", or type it; Shift goes back."}`,
   enter() {
     check.plan = net.nodes.map((_, k) => check.plan[k] || 0);
     by("judgement").replaceChildren();

@@ -1,6 +1,6 @@
 // Predict, then look: a question on the chosen node, whose answer the server judges, with the reason. A first answer
 // that isn't right may be mended; after the second one the right one is said.
-import {asks, by, hooks, show} from "./base.js";
+import {asks, by, capital, hooks, show} from "./base.js";
 import {coded, html} from "./marks.js";
 
 // How many questions were asked on this page, and how many of them were answered rightly at once.
@@ -68,7 +68,7 @@ export class Question {
       if (right && is.call !== "sends") hooks.answered(is.asked);
       const reason = html("span", null, {class: "soft"}), next = html("button", "look, and the next question",
         {type: "button", class: "quiet"});
-      reason.append(...coded(why + " "));
+      reason.append(...coded(capital(why) + " "));
       next.onclick = this.next;
       if (!right && this.tries === 1) return this.say("soft", notYet(is, guess, is.tells ? "" : reason));
       this.isTold = true;

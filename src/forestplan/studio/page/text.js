@@ -3,13 +3,14 @@
 import {html} from "./marks.js";
 
 const INLINE = /`([^`]+)`|\*\*([^*]+)\*\*|\*([^*\s][^*]*)\*|!\[([^\]]*)\]\(([^)]+)\)|\[([^\]]+)\]\(([^)]+)\)/g;
-const ITEM = /^(- |\d+\. )/, STUDIO = "http://127.0.0.1:8321/", PANEL = "panel:";
+const ITEM = /^(- |\d+\. )/, STUDIO = "http://127.0.0.1:8321/", PANEL = "panel:", KEYS = "keys:";
 
-// A link to a place of the studio leads there, and one to a part of the panel shows it; one to another page has its
-// words alone.
+// A link to a place of the studio leads there, and one to a part of the panel shows it; words on keys aren't seen where
+// a finger points; a link to another page has its words alone.
 /** @param {string} text @param {string} to */
 function link(text, to) {
   if (to.startsWith(PANEL)) return pointer(text, to.slice(PANEL.length));
+  if (to === KEYS) return html("span", text, {class: "keys"});
   const place = /^#\w+=/.test(to) ? to : to.startsWith(STUDIO + "#") ? to.slice(STUDIO.length) : null;
   return place ? html("a", text, {href: place}) : text;
 }
