@@ -4,7 +4,7 @@ import json
 import re
 import time
 
-from forestplan.studio.lessons import LESSONS
+from forestplan.studio.lessons import LESSONS, PredictedExercise, values_in
 from tests.cases import Case
 from tests.pages.test_studio_lessons import steps
 from tests.pages.test_studio_look import controls
@@ -39,6 +39,17 @@ IN_SIGHT = """(name => { const one = document.getElementById(name), box = one.ge
 # How a lesson begins whose exercises nobody has done.
 FORGET = "localStorage.removeItem('studio-ticks')"
 WRONG = "1-2_2-1_2-1_2_2"
+# Places at which a lesson's step is done, where there are more marks than at its beginning.
+DONE_AT = (
+    "example=two&tab=adversary&lesson=6&step=4&without=safes&dare=wrong&steps=" + WRONG,
+    "example=path&tab=adversary&lesson=6&step=1&steps=2-1_2-3_1-2_3-2_2-1_2-3_1-2_1-2_1",
+    "example=triangle&tab=adversary&program=exclusion&lesson=8&step=5&steps=3_1-3_2-3_1_3-1_3-2",
+    "example=petersen&tab=rounds&lesson=4&step=1&at=22",
+)
+# The words on the network that are cut.
+CUT = "Array.from(net.querySelectorAll('text'), one => one.textContent).filter(said => said.includes('…'))"
+# What is said of keys, as far as it is seen.
+OF_KEYS = "(document.body.innerText.match(/Ctrl|Shift|\\bTab key|press A\\b|Keys:|Space plays/g) || []).join()"
 
 
 class Texts(Case):
@@ -134,6 +145,58 @@ class Steps(Page):
                 )
             self.sees("but once it is answered", seen, 20)
 
+    def test_predictions(self) -> None:
+        """What a node is asked to have after the next pulse it doesn't have yet, nor does the page say so."""
+        self.open(1280, 800, False)
+        for number, k, step in steps():
+            if not isinstance(step.exercise, PredictedExercise) or "program=" not in step.place:
+                continue
+            self.step(number, k)
+            self.page.until("busy.hidden && question.querySelector('form')", 20)
+            node = values_in(step.place)["node"]
+            said = f"Array.from(net.querySelectorAll('[data-node=\"{node}\"] text'), one => one.textContent).join()"
+            before = self.value(said)
+            self.value("document.getElementById('next').click()")
+            self.sees("one pulse on", "studio.time.at % 1 === 0 && busy.hidden")
+            self.sees(f"lesson {number} step {k}: it has", f"{said} !== {json.dumps(before)}", 10)
+
+    def test_whole_legend_and_words(self) -> None:
+        """The legend of each step is seen whole, also once the step is done, and no node's words are cut."""
+        for wide, high, is_phone in WINDOWS:
+            self.open(wide, high, is_phone)
+            places = [f"lesson={number}&step={k}" for number, k, _ in steps()]
+            for place in (*places, *DONE_AT):
+                self.go_to(place)
+                self.page.until("!studio.isFollowing() && busy.hidden", 20)
+                time.sleep(0.3)
+                over = self.value("legend.scrollHeight - legend.clientHeight")
+                self.note(f"{wide}: {place}", over <= 1, (over, self.page.text("legend")))
+                self.same("no words are cut", self.value(CUT), [])
+
+    def test_keys(self) -> None:
+        """Where a finger points nothing is said of keys; elsewhere it is."""
+        for wide, high, is_phone in WINDOWS:
+            self.open(wide, high, is_phone)
+            found = []
+            for number, k, _ in steps():
+                self.step(number, k)
+                found.append(self.value(OF_KEYS))
+            self.note(f"{wide}: keys", bool("".join(found)) is not is_phone, found)
+
+    def test_nothing_to_bring_back(self) -> None:
+        """Undo is said to bring a drawing back only if there was one."""
+        self.open(1280, 800, False)
+        for number, k, _ in steps():
+            self.step(number, k)
+            said = self.page.text("hint")
+            self.note(f"lesson {number} step {k}", "brings your drawing back" not in said, said)
+        self.go_to("lesson=1&step=4")
+        self.sees("nothing is drawn", "studio.seen.step === 4 && !studio.net.nodes.length")
+        self.page.click(300, 300)
+        self.sees("a node", "studio.net.nodes.length === 1")
+        self.step(1, 5)
+        self.sees("it is said", "hint.textContent.includes('brings your drawing back')", 10)
+
     def test_what_is_won_is_seen(self) -> None:
         """The node that makes a pulse with a wrong inbox is at that pulse in the picture, too, in a red ring."""
         self.go_to(f"example=two&tab=adversary&without=safes&dare=wrong&steps={WRONG}")
@@ -163,6 +226,45 @@ class Steps(Page):
             "studio.steps.made.length === 3 && studio.steps.made[1] === '2-1'",
             10,
         )
+
+    def test_left_and_found_again(self) -> None:
+        """Who goes on and comes back finds a step as it was left; ↺ shows it from its beginning."""
+        self.open(1280, 800, False)
+        self.step(6, 3)
+        for count, step in enumerate(("1-2", "2-1"), 1):
+            button = f"possible.querySelector('[data-step=\"{step}\"]')"
+            self.sees(step, button, 10)
+            self.value(f"{button}.click()")
+            self.sees("taken", f"studio.steps.made.length === {count} && busy.hidden", 10)
+        self.value("lesson.querySelector('[data-way=on]').click()")
+        self.sees("the next step", "studio.seen.step === 4 && !studio.isFollowing()", 10)
+        self.value("lesson.querySelector('[data-way=back]').click()")
+        self.sees("back", "studio.seen.step === 3 && studio.steps.made.join() === '1-2,2-1'", 10)
+        self.value("lesson.querySelector('.arrows .quiet').click()")
+        self.sees("from its beginning", "studio.seen.step === 3 && !studio.steps.made.length", 10)
+        self.step(1, 6)
+        self.page.click(*self.at(1))
+        self.page.click(*self.at(2))
+        self.sees("parted", "studio.net.edges.length === 2", 10)
+        self.value("lesson.querySelector('[data-way=on]').click()")
+        self.sees("step 7", "studio.seen.step === 7 && studio.net.nodes.length === 3", 10)
+        self.value("lesson.querySelector('[data-way=back]').click()")
+        self.sees("as it was left", "studio.seen.step === 6 && studio.net.edges.length === 2", 10)
+
+    def test_under_way(self) -> None:
+        """What says that something is under way covers no node."""
+        for wide, high, is_phone in WINDOWS:
+            self.open(wide, high, is_phone)
+            for lesson, k in ((1, 1), (2, 1), (5, 1), (6, 1), (8, 1)):
+                self.step(lesson, k)
+                self.page.until("busy.hidden", 20)
+                covered = self.value(
+                    "(() => { busy.hidden = false; const over = busy.getBoundingClientRect();"
+                    " const found = [...net.querySelectorAll('.node circle')].map(one => one.getBoundingClientRect())"
+                    ".filter(box => box.left < over.right && box.right > over.left && box.top < over.bottom"
+                    " && box.bottom > over.top); busy.hidden = true; return found.length; })()"
+                )
+                self.same(f"{wide}: lesson {lesson} step {k}", covered, 0)
 
     def test_no_way_out(self) -> None:
         """In a lesson no button of the chosen node leads out of the step; outside of one it does."""

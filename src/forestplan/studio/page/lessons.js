@@ -97,7 +97,7 @@ function arrowsOfStep({number, steps: list}) {
   return arrows(`step ${at} of ${list.length}`, ["↺", "this step from its beginning", () => go(number, at, true)],
     at > 1 ? ["◂", "the step before", () => go(number, at - 1)]
       : before && ["◂", `the last step of lesson ${number - 1}`, () => go(number - 1, before.steps.length)],
-    at < list.length ? ["next ▸", "the next step", () => go(number, at + 1)]
+    at < list.length ? [`step ${at + 1} ▸`, "the next step", () => go(number, at + 1)]
       : next && [`lesson ${number + 1} ▸`, `the first step of lesson ${number + 1}`, () => go(number + 1, 1)]);
 }
 /** @typedef {[string, string, () => void] | undefined} Way */
@@ -115,18 +115,26 @@ function arrows(where, again, back, on) {
     button(on, {"data-way": "on", class: "primary"}));
   return box;
 }
-// Goes to a step. One without a place of its own goes on where the step before it has led to, unless its place is
-// wanted again.
+// How each step was left, by its lesson and number: an address. Who comes back by the arrows finds it so.
+/** @type {Map<string, string>} */
+const leftAt = new Map();
+// Goes to a step, as it was left, or from its beginning. One without a place of its own goes on where the step before
+// it has led to.
 /** @param {number} lesson @param {number} step @param {boolean} isAgain */
 function go(lesson, step, isAgain = false) {
   const {place} = hello().lessons[lesson - 1].steps[step - 1], isOn = seen.lesson === lesson && seen.step === step - 1;
-  if (!place && isOn && !isAgain) {
+  const from = isElsewhere() ? "" : keyOf(seen.lesson, seen.step), was = isAgain ? undefined : leftAt.get(keyOf(lesson, step));
+  if (!place && isOn && !isAgain && !was) {
+    leftAt.set(from, hooks.here());
     Object.assign(seen, {step});
     showCard();
     return hooks.link();
   }
-  hooks.open(`lesson=${lesson}&step=${step}`);
+  const left = hooks.open(was || `lesson=${lesson}&step=${step}`);
+  if (from && !isAgain) leftAt.set(from, left);
 }
+/** @param {number | null} lesson @param {number | null} step */
+function keyOf(lesson, step) { return lesson === null ? "" : `${lesson}.${step || 1}`; }
 // All lessons, each with a tick if its exercises are done.
 /** @param {Lesson} lesson */
 function footer({number}) {
@@ -227,7 +235,7 @@ function keepQuiet() {
 export function doneWords() {
   const lesson = lessonSeen(), step = seen.step || 1;
   if (!isFresh || !lesson) return "";
-  return `☑ Done. ${step < lesson.steps.length ? `Go on to step ${step + 1} with “next ▸”.` : `Lesson ${lesson.number} ends here.`}`;
+  return `☑ Done. ${step < lesson.steps.length ? `Go on with “step ${step + 1} ▸”.` : `Lesson ${lesson.number} ends here.`}`;
 }
 // What is said of an exercise, behind a box that is ticked if it is done.
 /** @param {number} lesson @param {Exercise} is @param {string} text */
@@ -263,8 +271,10 @@ function look() {
   const key = JSON.stringify(what);
   if (key === asked) return;
   asked = key;
+  // What is said of the step before isn't left beside what is seen now.
+  all("#lesson .judged").forEach(place => { place.classList.add("old"); });
   clearTimeout(asking);
-  asking = setTimeout(() => judged(lesson, is, what), 120);
+  asking = setTimeout(() => judged(lesson, is, what), 40);
 }
 // A question of a tab has been answered rightly: it may be that of the exercise.
 hooks.answered = asked_ => {

@@ -10,8 +10,10 @@ const past = [];
 const future = [];
 /** @type {((what: Change, numbers: Renumbering) => void)[]} */
 const heard = [];
-// Whether what is there has taken the place of a drawing.
+// Whether what is there has taken the place of a drawing; and whether it is one: by hand or from a file, not the network
+// of an example or of a lesson's step.
 export let replaced = false;
+let isDrawing = false;
 
 /** @param {(what: Change, numbers: Renumbering) => void} listener */
 export function onChange(listener) { heard.push(listener); }
@@ -30,6 +32,7 @@ export function change(does, key = null, what = "edit", removed = null) {
   if (key === null || key !== lastKey) { past.push({text: kept(), removed}); future.length = 0; }
   if (past.length > 200) past.shift();
   lastKey = key;
+  isDrawing = true;
   does(net);
   net.example = "";
   net.edges.sort((a, b) => a[0] - b[0] || a[1] - b[1]);
@@ -40,6 +43,7 @@ function swap(from, to) {
   const {text: before, removed} = from.pop() || {text: kept(), removed: null};
   to.push({text: kept(), removed});
   put(before);
+  isDrawing = true;
   lastKey = null;
   return removed;
 }
@@ -47,9 +51,10 @@ export function undo() { if (past.length) tell("undo", {restored: swap(past, fut
 export function redo() { if (future.length) tell("undo", {removed: swap(future, past)}); }
 export function depth() { return [past.length, future.length]; }
 /** @param {Net} found @param {string} example */
-export function load(found, example = "") {
+export function load(found, example = "", isGiven = false) {
   tell("leave");
-  replaced = net.nodes.length > 0 && !net.example;
+  replaced = net.nodes.length > 0 && !net.example && isDrawing;
+  isDrawing = !isGiven;
   if (net.nodes.length) { past.push({text: kept(), removed: null}); future.length = 0; }
   lastKey = null;
   Object.assign(net, {name: found.name || "", nodes: found.nodes, edges: found.edges, example});

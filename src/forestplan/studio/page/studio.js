@@ -1,7 +1,7 @@
 // The studio: its tabs, the mouse on the stage, keys, and the address, which says all that is seen.
 import {call, cancel, hello as greeted, token} from "./api.js";
 import {codeOf, written} from "./address.js";
-import {all, asks, by, endsOf, hello, hooks, inputs, option, say, seen, settle, show, stage, tabs, time, tried, watchOptions,
+import {all, asks, by, endsOf, hello, hooks, inputs, isTouched, option, say, seen, settle, show, stage, tabs, time, tried, watchOptions,
   wrong, zoomPicture} from "./base.js";
 import {askPlan, drawn, inspect, makeForm, openFile, save} from "./draw.js";
 import {check} from "./check.js";
@@ -40,7 +40,7 @@ hooks.show = () => {
   if (!isThere) { stage.draw({node: (v, x, y, r) => blank(x, y, r)}); say("when", ""); }
   [by("back"), by("play"), by("next"), by("change"), by("slider")].forEach(one => { one.disabled = !isThere; });
   by("empty").hidden = net.nodes.length > 0;
-  sayHint(isReplaced ? "Undo (Ctrl-Z, or in Draw) brings your drawing back." : tab.hint());
+  sayHint(isReplaced ? `Undo (${isTouched ? "" : "Ctrl-Z, or "}in Draw) brings your drawing back.` : tab.hint());
   say("name", [net.name, seen.program].filter(one => one && one !== "colouring").map(one => "· " + one).join(" "));
   document.title = titleSeen();
   by("slider").setAttribute("aria-valuetext", by("when").textContent || "");
@@ -51,7 +51,17 @@ hooks.show = () => {
   hooks.link();
 };
 // What is seen is written into the address first: a change to the place that it still says would be none.
-hooks.open = place => { link(); location.hash = place; };
+hooks.open = place => {
+  const left = hooks.here();
+  location.hash = place;
+  return left;
+};
+// The address of what is seen, which says so.
+hooks.here = () => {
+  time.stop();
+  link();
+  return location.hash.slice(1);
+};
 // What can be done on the network; or that the exercise of a lesson's step is done.
 /** @param {string} said */
 function sayHint(said) {
@@ -87,6 +97,8 @@ let isEntered = false;
 function enter(more = {}) {
   const name = seen.tab, isWelcome = Boolean(more.welcome);
   isEntered = true;
+  // The first screen may have begun to play while an address was being read.
+  time.stop();
   if (isWelcome || !by("welcome").hidden) by("speed").value = isWelcome ? "3" : "1";
   by("welcome").hidden = !isWelcome;
   document.body.classList.toggle("first", isWelcome);
@@ -347,7 +359,7 @@ function showPlaceOf({network}, given) {
   const found = isHere ? null : network || hello().opened;
   Object.assign(seen, {lesson, step: lesson && step, lecture});
   seen.tab = "draw";
-  if (found) model.load(found, example);
+  if (found) model.load(found, example, lesson !== null || lecture !== null);
   Object.assign(seen, {program, passes, root, slow, lazy, node});
   Object.values(tabs).forEach(one => one.follow(given));
   time.at = at;

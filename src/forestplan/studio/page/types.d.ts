@@ -50,7 +50,8 @@ interface Hooks {
   go(tab: TabName, more?: More): void;
   link(): void;
   copy: CopyLink;
-  open(place: string): void;
+  open(place: string): string;
+  here(): string;
   answered(asked: PredictOf | WaitsOf): void;
 }
 // Whose node, and which pulse, a question of a tab is about.
