@@ -8,6 +8,8 @@ from forestplan.interface.answers import Entry, Message, Plan, Pulse, Refused, R
 from forestplan.interface.graphs import Bars, Channels, Graph, Licence, Node, text_of, whole_value
 from forestplan.interface.programs import status_and_outputs, program_path
 from forestplan.networks import codes
+from forestplan.networks.verdicts import Verdict, parsed_verdict
+from forestplan.wording import in_words
 
 
 def plan(
@@ -143,14 +145,10 @@ def _called(command: list[str], text: str, order: list[Node]) -> str:
     status, out, said = status_and_outputs([program_path(command[0]), *command[1:]], text)
     if not status:
         return out
-    fault = said.partition(": ")[2]
-    told = codes.told_of_text(fault)
+    verdict = parsed_verdict(said) or Verdict()
+    nodes = [order[number - 1] for number in verdict.nodes]
+    place = in_words(map(repr, nodes)) or codes.fault_place(verdict.of, verdict.numbers)
+    told = codes.told_of(verdict.code, place, verdict.more)
     if told is None:
         raise RuntimeError(f"{command[0]} has ended with status {status}: {said}")
-    what, *numbers = fault.split()[1:] or [""]
-    nodes = [order[int(number) - 1] for number in numbers] if what.startswith("vert") else []
-    meant = "\n".join(codes.tell_code(told))
-    if nodes:
-        named = " and ".join(map(repr, nodes))
-        meant = meant.replace(f"{what} {' and '.join(numbers)}", named)
-    raise Refused(meant, told.name, nodes)
+    raise Refused("\n".join(codes.tell_code(told)), told.name, nodes)

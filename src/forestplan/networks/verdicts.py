@@ -18,7 +18,7 @@ WIRES = ("payload", "ack", "safe", "close")
 @dataclass(frozen=True)
 class Verdict:
     """What a program finds of a text. `code` is the name of what is wrong, and empty if nothing is; `of` is `line`,
-    `node`, `nodes` or `entry`, and `numbers` are which, entries counting from 0. Of a proper plan `of` is
+    `vertex`, `vertices` or `entry`, and `numbers` are which, entries counting from 0. Of a proper plan `of` is
     `channels`. `lacked` has the neighbours for whose wires a node waits, by the word of the wire, and `expected` is the
     wire or the pulse that is possible there; `more` is what the program says of either. `line` is its own line.
     """
