@@ -397,7 +397,7 @@ class InPython(Case):
     def test_surface(self):
         """What is public is documented; the examples of its texts are right, and its hints are there to be used."""
         self.note("it has hints", os.path.isfile(os.path.join(PACKAGE, "py.typed")))
-        self.same("dir", dir(forestplan), sorted(forestplan.__all__))
+        self.same("dir", dir(forestplan), sorted([*forestplan.__all__, *forestplan.PACKAGES]))
         for name in forestplan.__all__:
             self.note(name, getattr(forestplan, name).__doc__)
         for module in (calls, site_graphs):
