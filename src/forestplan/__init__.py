@@ -8,8 +8,9 @@
 
 G is a graph of networkx, or a dict that gives each node a list or a set of its neighbours. In such a dict each
 neighbour comes once and is a key, too. A node is anything that can be a key. Directions, weights and edges from a node
-to itself are ignored. The programs that make and check plans are proved, as README says. That this package writes G
-right for them, and reads their answers right, is only tested.
+to itself are ignored. Of a `Network`, as ``forestplan.networks`` makes them, ``network.neighbours`` is such a dict.
+The programs that make and check plans are proved, as README says. That this package writes G right for them, and reads
+their answers right, is only tested.
 
 A wrong type raises TypeError, and a value out of its range ValueError. If a program refuses a graph or a plan, the
 call raises `Refused`, which is a ValueError, too. If a program isn't built, it raises FileNotFoundError.

@@ -5,6 +5,8 @@ from functools import cached_property
 
 Edge = tuple[int, int]
 Places = Mapping[int, tuple[float, float]]
+# What a network is called that has no name.
+NAMELESS = "this network"
 # How many edges a prompt shows.
 MOST_SHOWN = 12
 
@@ -38,7 +40,7 @@ class Network:
     bars: Mapping[int, Collection[int]] = field(default_factory=dict)
     names: Mapping[int, str] = field(default_factory=dict)
     places: Places = field(default_factory=dict)
-    name: str = ""
+    name: str = NAMELESS
 
     def __repr__(self) -> str:
         """What a prompt shows of it.
@@ -48,7 +50,7 @@ class Network:
         """
         edges = [f" {v}-{w}" for v, w in self.edges][:MOST_SHOWN]
         more = f" and {len(self.edges) - MOST_SHOWN} more" * (len(self.edges) > MOST_SHOWN)
-        called = f" {self.name}" if self.name else ""
+        called = "" if self.name == NAMELESS else f" {self.name}"
         return f"<Network{called}: nodes 1 to {self.nodes}, edges{''.join(edges) or ' none'}{more}>"
 
     def __post_init__(self) -> None:

@@ -6,7 +6,7 @@ from forestplan.fault_codes import Code
 from forestplan.faults import Fault, InText
 from forestplan.files import bytes_at, text_name
 from forestplan.folders import TOP
-from forestplan.network import Network
+from forestplan.network import NAMELESS, Network
 from forestplan.networks.kinds import KINDS
 from forestplan.networks.network_text import network_in_bytes
 from forestplan.networks.texts import dimacs_text
@@ -86,5 +86,5 @@ def network_at(name: str) -> Network:
     """
     network = network_in_bytes(network_bytes(name), text_name(name))
     if name == "-":
-        network.name = "this network"
+        network.name = NAMELESS
     return network

@@ -27,7 +27,7 @@ from forestplan.definitions.rounds import ColouringRounds
 from forestplan.fault_codes import Code
 from forestplan.faults import Fault, InText, at_most
 from forestplan.files import MOST_OF_TRANSCRIPT, text_at, text_name, write_output
-from forestplan.network import Network
+from forestplan.network import NAMELESS, Network
 from forestplan.networks.network_text import network_in_bytes, stem
 from forestplan.networks.plan_text import read_plan
 from forestplan.networks.sources import network_bytes
@@ -576,7 +576,7 @@ def drawn(given: Namespace) -> str:
         return drawing_of(**vars(given), of=of)
     data = network_bytes(given.network)
     of.network = network = network_in_bytes(data, text_name(given.network))
-    network.name = given.title or ("this network" if given.network == "-" else network.name)
+    network.name = given.title or (NAMELESS if given.network == "-" else network.name)
     program = any_program_asked("picture", given, network)
     if isinstance(program, Reacting) and given.kind in ("run", "watch"):
         return reacting_run(given, network, program)

@@ -10,7 +10,7 @@ from forestplan.definitions.reacting_program import AnyProgram, Reacting, words_
 from forestplan.fault_codes import Code
 from forestplan.faults import Fault, InText
 from forestplan.limits import MAX_PASSES
-from forestplan.network import Network
+from forestplan.network import NAMELESS, Network
 from forestplan.networks.network_text import read_network
 from forestplan.studio.messages import OfNetwork, OfProgram, WithoutRules
 from forestplan.studio.session import Form, Session
@@ -38,7 +38,7 @@ def network_asked(asked: OfNetwork, most: int = MOST_DRAWN) -> Network:
         if why.code is not Code.ONE_IDENTIFIER_TWICE:
             raise
         raise Fault(Code.ONE_IDENTIFIER_NOW, None, **why.subject) from None
-    network.name = (asked.name or "this network")[:60]
+    network.name = (asked.name or NAMELESS)[:60]
     if network.nodes == 0:
         raise Fault(Code.NO_NODE_YET)
     if network.nodes > most:
