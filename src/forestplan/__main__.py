@@ -76,8 +76,8 @@ isn't right; 2 the command line is refused; 130 stopped by Ctrl-C.
 
 
 def main() -> int:
-    # Run as a folder, its own place comes first where modules are looked for.
-    python = importlib.import_module("_python")
+    # Run as a folder, its own place comes first where modules are looked for; `python3 -m forestplan` runs a package.
+    python = importlib.import_module("forestplan._python" if __package__ else "_python")
     if python.IS_TOO_OLD:
         return refused(f"{python.NEEDED} is needed, and python3 is {python.FOUND}")
     # The package is one above, maybe among others, whose modules mustn't come before Python's own; so nothing else is

@@ -43,6 +43,7 @@ COPIED = (
     "src/forestplan/network.py",
     "src/forestplan/processors.py",
     "src/forestplan/proved_programs.py",
+    "src/forestplan/public_names.py",
     "src/forestplan/build_hint.py",
     "src/forestplan/progress.py",
     "src/forestplan/interface",
