@@ -1,20 +1,18 @@
 """Copies of the tree, in which Python may be changed and tests run (tests/by_hand/mutants.py).
 
 Each call is a process in a namespace of its own, since what is changed may end any process that it sees."""
+import contextlib
 import dataclasses
 import faulthandler
 import json
-import math
 import os
-import resource
 import shutil
 import subprocess
 import sys
 import threading
-import time
 import unittest
 from collections import defaultdict
-from collections.abc import Collection, Iterator
+from collections.abc import Iterator, Mapping
 from dataclasses import dataclass
 from typing import Any
 
@@ -22,11 +20,13 @@ from tests import TOP
 from tests.by_hand.changes import Change
 from tests.settings import BUILT, NAMED
 
-# A test ends after so many seconds, and each of its processes after so many of a processor: a change may loop without
-# an end.
-LONGEST, MOST_BUSY = 300, 60
-# The same while it isn't known what a test enters: one that takes longer is asked after all others.
-UNKNOWN_LONGEST, UNKNOWN_BUSY = 12, 4
+# A change may loop without an end, so a test ends once it and what it has started have taken so many seconds of
+# processors, and after so many seconds: so many, and for each second of processors that it is known to take so many
+# more, up to a most. A test of which nothing is known yet may take so many, or else it is asked after all others.
+BUSY, BUSY_MORE, MOST_BUSY, UNKNOWN_BUSY = 5, 5, 60, 10
+LONG, LONG_MORE, LONGEST = 30, 30, 300
+# How often it is looked at, in seconds.
+MOMENT = 0.5
 # The time of the first file that is written, which an archive can keep.
 FIRST_TIME = 1_000_000_000
 # What a copy doesn't need.
@@ -131,13 +131,13 @@ class Copy:
         self.before.clear()
 
     def called(
-        self, names: list[str], seconds: float, most: int = MOST_BUSY, known: Collection[str] = ()
+        self, names: list[str], seconds: float, known: Mapping[str, float]
     ) -> tuple[list[Row], bool]:
         """The rows of tests up to the first that fails, and whether that is where the time was up: none begins after
-        so many seconds of processors, and the processes of a test end after `most`. What known tests enter isn't
-        watched."""
-        asked = {"names": names, "seconds": seconds, "rows": self.rows, "most": most}
-        asked |= {"pipe": self.entered, "known": [name for name in names if name in known]}
+        so many seconds of processors. What known tests enter, by the seconds that each takes, isn't watched.
+        """
+        asked = {"names": names, "seconds": seconds, "rows": self.rows, "pipe": self.entered}
+        asked["known"] = {name: known[name] for name in names if name in known}
         for folder in (self.tmp, self.compiled):
             os.makedirs(folder, exist_ok=True)
             os.chmod(folder, 0o1777)
@@ -213,14 +213,35 @@ def processor_seconds() -> float:
     return sum(os.times()[:4])
 
 
-def row_of(name: str, most: int, longest: int) -> Row:
-    """Runs a test up to its first row that fails."""
+def seconds_of_all() -> float:
+    """The seconds of processors of all processes that are seen here, with those that they have waited for."""
+    ticks = 0
+    for name in filter(str.isdecimal, os.listdir("/proc")):
+        with contextlib.suppress(OSError):
+            with open(f"/proc/{name}/stat", "rb") as file:
+                ticks += sum(map(int, file.read().rpartition(b")")[2].split()[11:15]))
+    return ticks / os.sysconf("SC_CLK_TCK")
+
+
+def end_after(most: float, is_over: threading.Event) -> None:
+    """Ends this process, and with it all that it has started, if these take so many seconds of processors."""
+    begin = seconds_of_all()
+    while not is_over.wait(MOMENT):
+        if seconds_of_all() - begin > most:
+            os._exit(1)
+
+
+def row_of(name: str, seconds: float | None) -> Row:
+    """Runs a test, which takes so many seconds if that is known, up to its first row that fails."""
+    most = UNKNOWN_BUSY if seconds is None else min(MOST_BUSY, BUSY + BUSY_MORE * seconds)
+    longest = LONGEST if seconds is None else min(LONGEST, LONG + LONG_MORE * seconds)
     faulthandler.dump_traceback_later(longest, exit=True)
-    most += math.ceil(time.process_time())
-    resource.setrlimit(resource.RLIMIT_CPU, (most, resource.getrlimit(resource.RLIMIT_CPU)[1]))
+    is_over = threading.Event()
+    threading.Thread(target=end_after, args=(most, is_over), daemon=True).start()
     busy, result = processor_seconds(), unittest.TestResult()
     result.failfast = True
     unittest.defaultTestLoader.loadTestsFromNames([f"tests.{name}"]).run(result)
+    is_over.set()
     is_skipped = result.testsRun == 0 or bool(result.skipped)
     return Row(name, processor_seconds() - busy, result.wasSuccessful(), is_skipped)
 
@@ -238,9 +259,7 @@ def watch(pipe: str, is_on: bool) -> None:
     sys.settrace(hook)
 
 
-def run(
-    names: list[str], seconds: float, rows: str, most: int, pipe: str, known: list[str]
-) -> None:
+def run(names: list[str], seconds: float, rows: str, pipe: str, known: dict[str, float]) -> None:
     """Runs tests, and writes a row for each, up to the first that fails, and an empty one if the time is up. The names
     of those that aren't known go into the pipe, too."""
     with open(rows, "a", encoding="utf-8") as file:
@@ -249,8 +268,7 @@ def run(
             if name not in known:
                 with open(pipe, "w", encoding="utf-8") as to:
                     to.write(f"={name}\n")
-            limits = (most, LONGEST) if name in known else (UNKNOWN_BUSY, UNKNOWN_LONGEST)
-            row = dataclasses.asdict(row_of(name, *limits))
+            row = dataclasses.asdict(row_of(name, known.get(name)))
             del row["entered"]
             file.write(json.dumps(row) + "\n")
             file.flush()

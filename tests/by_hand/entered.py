@@ -42,31 +42,28 @@ class Entered:
             with open(self.path, "w", encoding="utf-8") as to:
                 json.dump([self.seconds, self.functions], to)
 
-    def keep(self, rows: list[Row], function: str) -> bool:
-        """Keeps what tests that were good have entered, and says whether they have entered a function."""
+    def keep(self, rows: list[Row]) -> None:
+        """Keeps what tests that were good have entered."""
         for row in rows:
-            if row.is_skipped:
-                continue
-            self.seconds[row.name] = min(row.busy, self.seconds.get(row.name, row.busy))
-            if row.name not in self.functions:
-                self.functions[row.name] = sorted(row.entered)
-        return any(self.enters(row.name, function) for row in rows)
+            if not row.is_skipped:
+                self.seconds[row.name], self.functions[row.name] = row.busy, sorted(row.entered)
 
     def keep_long(self, row: Row) -> bool:
-        """Whether a test isn't known and took too long: what it has entered so far is kept."""
-        if not row.is_ended or row.name in self.functions:
+        """Whether a test took too long: what it has entered so far is kept."""
+        if not row.is_ended:
             return False
         self.seconds[row.name] = TOO_LONG
         self.functions[row.name] = sorted(row.entered)
         return True
 
-    def enters(self, name: str, function: str) -> bool | None:
-        """Whether a test enters a function, or one of a module; None as long as the test hasn't been good. What a
-        module does as it is imported is seen only of the first test of a process that imports it.
+    def enters(self, name: str, function: str) -> bool:
+        """Whether a test enters a function, or one of a module. What a module does as it is imported is seen only of
+        the first test of a process that imports it.
         """
-        if name not in self.functions:
-            return None
         file, _, line = function.rpartition(":")
-        if line == "0":
-            return any(one.startswith(f"{file}:") for one in self.functions[name]) or None
-        return function in self.functions[name]
+        entered = self.functions[name]
+        return (
+            function in entered
+            or line == "0"
+            and any(one.startswith(f"{file}:") for one in entered)
+        )

@@ -9,17 +9,17 @@ whether that is noticed.
   python3 -m tests.by_hand.mutants package [--seed 2026] [--count 300] [--package NAME ..] [--jobs 2] [--seconds 30]
     [--minutes 600] [--named FILE] [--entered FILE]
 
-  src/forestplan/: so many changes by chance, as many of each package as its share of lines, some at a time. Each is
-  made in a copy of the tree, where tests run up to the first that fails twice and was good without the change; they
-  may take so many seconds of processors. These tests are asked (tests/by_hand/trials.py): those that enter the
-  function that is changed, the shortest first, and those of its package of which that isn't known yet. What a test
-  enters is seen when it first runs (tests/by_hand/entered.py), and kept in the second FILE for a later run on the
-  same sources. After so many minutes no change is begun. Tests that need the built programs run if TESTS_PLAN and
-  TESTS_PLAY name them. It needs root, or another user who may make namespaces of processes. Each change is printed
-  with the test that noticed it, and last how many were noticed, survived and are equal, by package: those that are
-  equal stand in tests/by_hand/equal.txt, each as it is printed, with the reason in the next line, and aren't tried.
-  One that survived may be noticed by a test that wasn't asked, if not all were: write their lines to the first FILE,
-  and try these alone with more seconds.
+  src/forestplan/: so many changes by chance, as many of each package as its share of lines, some at a time. First
+  each test that needs no browser is run once as the tree is, to see what it enters (tests/by_hand/entered.py): that
+  takes minutes, and is kept in the second FILE for a later run on the same sources. Then each change is made in a copy
+  of the tree, where the tests that enter its function run, the shortest first, up to the first that fails twice and
+  was good without the change (tests/by_hand/trials.py); they may take so many seconds of processors. After so many
+  minutes no change is begun. Tests that need the built programs run if TESTS_PLAN and TESTS_PLAY name them. It needs
+  root, or another user who may make namespaces of processes. Each change is printed with the test that noticed it, and
+  last how many were noticed, survived and are equal, by package: those that are equal stand in
+  tests/by_hand/equal.txt, each as it is printed, with the reason in the next line, and aren't tried. One that survived
+  may be noticed by a test that wasn't asked, if not all were: write their lines to the first FILE, and try these alone
+  with more seconds.
 
   python3 -m tests.by_hand.mutants package --list
 
@@ -66,8 +66,8 @@ def shares(lines: dict[str, int], count: int) -> dict[str, int]:
     return found
 
 
-def drawn(seed: str, count: int, packages: list[str]) -> list[Change]:
-    """The changes to be tried, in an order by chance: what is tried first is a fair sample, too."""
+def all_changes() -> tuple[Counter[str], dict[str, list[Change]]]:
+    """The lines of each package, and all of its changes."""
     lines: Counter[str] = Counter()
     changes: dict[str, list[Change]] = defaultdict(list)
     for file in files_of_package():
@@ -75,6 +75,18 @@ def drawn(seed: str, count: int, packages: list[str]) -> list[Change]:
             data = text.read()
         lines[package_of(file)] += data.count(b"\n")
         changes[package_of(file)] += changes_of(file, data)
+    return lines, changes
+
+
+def names_of_all() -> set[str]:
+    """The names of all changes of these sources."""
+    _, changes = all_changes()
+    return {change.name for of_package in changes.values() for change in of_package}
+
+
+def drawn(seed: str, count: int, packages: list[str]) -> list[Change]:
+    """The changes to be tried, in an order by chance: what is tried first is a fair sample, too."""
+    lines, changes = all_changes()
     found = [
         change
         for package, share in shares(lines, count).items()
@@ -93,16 +105,19 @@ def lines_of(path: str) -> set[str]:
         return {line for line in file.read().splitlines() if not line.startswith(" ")}
 
 
-def try_package(given: argparse.Namespace) -> None:
-    """Tries the changes, and prints what came out."""
-    until = time.monotonic() + 60 * given.minutes
-    changes, known = drawn(given.seed, given.count, given.package), lines_of(EQUAL)
+def asked_for(given: argparse.Namespace) -> list[Change]:
+    """The changes that are drawn, or those of them that a file names."""
+    changes = drawn(given.seed, given.count, given.package)
     if given.named:
         named = lines_of(given.named)
         changes = [change for change in changes if change.name in named]
-    if given.list:
-        print("\n".join(f"{change.place} {change.name}" for change in changes))
-        return
+    return changes
+
+
+def try_package(given: argparse.Namespace) -> None:
+    """Tries the changes, and prints what came out."""
+    until = time.monotonic() + 60 * given.minutes
+    changes, known = asked_for(given), lines_of(EQUAL)
     found: dict[str, Counter[str]] = defaultdict(Counter)
 
     def tell(change: Change, kind: str, how: str) -> None:
@@ -118,9 +133,12 @@ def try_package(given: argparse.Namespace) -> None:
     for change in changes:
         if change.name in known:
             tell(change, "equal", "")
+    for name in sorted(known - names_of_all()):
+        print(f"listed as equal, and no change of these sources: {name}")
     with tempfile.TemporaryDirectory(prefix="mutants-") as room:
         os.chmod(room, 0o755)
         trial = Trial(room, given.jobs, until, given.seconds, Entered(given.entered))
+        trial.learn(lambda name: print(f"not asked, since it fails without a change: {name}"))
         trial.run([change for change in changes if change.name not in known], tried)
     whole = sum(found.values(), Counter[str]())
     print(f"seed {given.seed}: {whole.total()} of {len(changes)} changes were tried")
@@ -217,7 +235,9 @@ def main() -> None:
     given = parser.parse_args()
     # What is ended ends what it has started.
     signal.signal(signal.SIGTERM, lambda *_: sys.exit(143))
-    if given.what == "package":
+    if given.what == "package" and given.list:
+        print("\n".join(f"{change.place} {change.name}" for change in asked_for(given)))
+    elif given.what == "package":
         try_package(given)
     else:
         try_nodes()
