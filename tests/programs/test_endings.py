@@ -3,10 +3,12 @@ closed or full, the input can't be read, or someone presses Ctrl-C. All end in o
 (src/forestplan/process_exit.py), and read what they are given by one function (src/forestplan/files.py)."""
 import os
 import re
+import select
 import signal
 import subprocess
 import sys
 
+from forestplan.definitions import own_program
 from forestplan.workshop.sandbox import USERS
 from tests import FORESTLAB, SOURCES, TOP
 from tests.cases import Case, called, copied, text_in, wait_until
@@ -86,6 +88,23 @@ class Endings(Case):
             got = run.returncode, said
             self.note(f"{number} {times} times", got == wanted and out == b"", got)
 
+    def test_nothing_is_left(self):
+        """What ends a command ends the process of its own in which it calls a file of the user's, too."""
+        for number, status in ((signal.SIGINT, 130), (signal.SIGTERM, 143), (signal.SIGKILL, -9)):
+            reader, writer = os.pipe()
+            does = f"import time\nopen('/proc/self/fd/{writer}', 'w').write('begun')\ntime.sleep({LIMIT})\n"
+            path = self.file("own.py", does)
+            arguments = ["path2", "--program", path]
+            with self.begun("simulate", arguments, pass_fds=[writer]) as run:
+                os.close(writer)
+                self.same(f"{number}: the file is called", os.read(reader, 5), b"begun")
+                run.send_signal(number)
+                self.same(f"{number}: the status", run.wait(LIMIT), status)
+            # The pipe has an end when no process has its other side any more. The call ends by itself later.
+            is_left = not select.select([reader], [], [], own_program.LONGEST / 2)[0]
+            self.note(f"{number}: nothing is left", not is_left)
+            os.close(reader)
+
     def test_early_interrupt(self):
         """Ctrl-C while Python itself begins is the same."""
         late = f'#!/bin/sh\nkill -s INT $$\nexec {sys.executable} "$@"\n'
@@ -124,10 +143,11 @@ class Endings(Case):
             good = done[:2] == (status, out) and done[2].count(b"\n") == status
             self.note(f"ulimit {limit}", good, done)
 
-    def begun(self, name, arguments):
+    def begun(self, name, arguments, **more):
         # A shell has what it runs in the background ignore SIGINT.
         return subprocess.Popen(
             [FORESTLAB, name, *arguments],
+            **more,
             stdin=subprocess.PIPE,
             stdout=subprocess.PIPE,
             stderr=subprocess.PIPE,
