@@ -20,7 +20,7 @@ import shutil
 import sys
 from collections.abc import Iterable
 
-from tests.by_hand.bare_root import Roots
+from tests.by_hand.bare_root import WithoutKit
 from tests.pages.test_pages import PAGES, lines_of
 from tests.programs.test_install import shown_commands
 
@@ -91,11 +91,8 @@ sys.exit(len(wrong) > 0)
 """
 
 
-class Installed(Roots):
+class Installed(WithoutKit):
     """Roots that have a release in place of this tree, and no kit."""
-
-    bound = ()
-    path = "/usr/local/sbin:/usr/local/bin:/usr/sbin:/usr/bin:/sbin:/bin"
 
     def __init__(self, folder: str, release: str, pages: Iterable[str]) -> None:
         super().__init__(folder, None)

@@ -4,7 +4,9 @@
 
 A RUN is `nothing`, where nothing else is installed; `all`, where .ci/run installs what it can; or a package of its
 list, where all but this one is installed. Without a RUN each of them runs, in this order, and last `libseccomp2`. A run
-is good if it ends with `0 failed`. What didn't run in it is printed, with what was missing.
+is good if it ends with `0 failed`. What didn't run in it is printed, with what was missing. A RUN may also be
+`unittest` or `pytest`, which runs the tests with this command, where nothing else is installed and no kit is there; it
+is good if the command says so.
 
 It needs root, mmdebstrap or debootstrap (Debian's packages of these names), Debian's mirror, and about 4 GB in FOLDER,
 which keeps the roots for the next call, and of each run RUN.log. The tests run in a clean clone of this tree's HEAD.
@@ -23,7 +25,8 @@ import time
 from tests import TOP
 
 MIRROR = "http://deb.debian.org/debian"
-PATH = "/opt/rattle/bin:/usr/local/sbin:/usr/local/bin:/usr/sbin:/usr/bin:/sbin:/bin"
+WITHOUT_KIT = "/usr/local/sbin:/usr/local/bin:/usr/sbin:/usr/bin:/sbin:/bin"
+PATH = f"/opt/rattle/bin:{WITHOUT_KIT}"
 # Where the kit is, and what it keeps.
 KIT = ("/opt/rattle", "/opt/rattle-kept")
 BUILT = (
@@ -34,6 +37,12 @@ BUILT = (
     ),
     "checks/out/checks_tests",
 )
+# The commands that run the tests without a kit.
+RUNNERS = {
+    "unittest": "python3 -m unittest",
+    "pytest": "apt-get -qq update && apt-get -qq install --yes --no-install-recommends python3-pytest"
+    " && python3 -m pytest --quiet -rf",
+}
 # apt needs it itself, and so removes it from no root; here its file is removed.
 NEEDED = "libseccomp2"
 # The layers of a root, lowest last; what is written goes to the folder `new`. $0 is the whole root, and $1 the command.
@@ -163,6 +172,22 @@ class Roots:
         return status == 0 and last.endswith(" passed, 0 failed")
 
 
+class WithoutKit(Roots):
+    """Roots where this machine's kit isn't."""
+
+    bound = ()
+    path = WITHOUT_KIT
+
+    def try_out(self, name: str, arguments: str = "") -> bool:
+        """Whether the tests pass with another runner. Prints its last lines."""
+        begin = time.monotonic()
+        status = self.run(["base"], self.fresh("new"), RUNNERS[name], f"{name}.log")
+        print(f"{name}: {time.monotonic() - begin:.0f} seconds, status {status}")
+        for line in self.said(f"{name}.log").splitlines()[-3:]:
+            print(f"  {line}", flush=True)
+        return status == 0
+
+
 def options() -> argparse.Namespace:
     parser = argparse.ArgumentParser(
         prog="bare_root", description=__doc__, formatter_class=argparse.RawDescriptionHelpFormatter
@@ -185,7 +210,12 @@ def main() -> int:
     roots.make_base()
     runs = given.runs or ["nothing", "all", *roots.packages(), NEEDED]
     arguments = "" if given.gate else f"--jobs {given.jobs} {given.only}"
-    wrong = [name for name in runs if not roots.try_out(name, arguments)]
+    without = WithoutKit(given.folder, None)
+    wrong = [
+        name
+        for name in runs
+        if not (without if name in RUNNERS else roots).try_out(name, arguments)
+    ]
     print(
         f"bare_root: {len(runs) - len(wrong)} runs are good, and {len(wrong)} aren't: {' '.join(wrong)}"
     )
