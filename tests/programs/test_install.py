@@ -401,7 +401,7 @@ class Install(FolderCase):
     def readme_of(self, folder):
         """README in a folder has the links of the repository's, and names nothing that it alone has."""
         there = contents(folder, "README.md").decode()
-        links = {link.partition("#")[0] for link in re.findall(r"\]\(([^)]+)\)", there)}
+        links = {link.partition("#")[0] for link in re.findall(r"\]\(([^#)][^)]*)\)", there)}
         lost = {link for link in links if not os.path.isfile(os.path.join(folder, link))}
         self.note("each page that it links is there", len(links) > 10 and not lost, lost)
         alone = re.findall(r"\./\w+|\brt\b|wrong-bodies", there)

@@ -205,7 +205,8 @@ class Samples(Case):
     def test_the_page(self) -> None:
         """The page has lines of the echo, with comments of its own."""
         page = text_in("docs", "learn", "OWN_ALGORITHM.md")
-        rest = page.partition("`examples/algorithms/echo.py`:\n\n")[2].splitlines()
+        rest = page.partition("\n## Without rounds\n")[2].splitlines()
+        rest = list(itertools.dropwhile(lambda line: not line.startswith("    "), rest))
         block = list(itertools.takewhile(lambda line: not line or line.startswith("    "), rest))
         lines = [line.partition("#")[0].strip() for line in block]
         self.note("it is there", len(lines) > 20, block)
