@@ -244,6 +244,15 @@ def wait_until(what, limit, moment=0.02):
     return True
 
 
+def is_running(process: int | str) -> bool:
+    """Whether a process is there and hasn't ended. Where nobody collects it, as in a container whose first process is a
+    test, it stays as a zombie."""
+    try:
+        return text_in(f"/proc/{process}/stat").rpartition(")")[2].split()[0] not in ("Z", "X")
+    except (FileNotFoundError, ProcessLookupError):
+        return False
+
+
 def forestlab(*arguments, **more):
     """The same of a command of forestlab."""
     return called(FORESTLAB, *arguments, **more)

@@ -24,6 +24,7 @@ from tests.cases import (
     example,
     examples,
     found_in,
+    is_running,
     said_by,
     text_in,
     wait_until,
@@ -49,10 +50,6 @@ def ended(connection):
         return not connection.recv(1, socket.MSG_PEEK | socket.MSG_DONTWAIT)
     except BlockingIOError:
         return False
-
-
-def is_running(process):
-    return os.path.exists(f"/proc/{process}")
 
 
 def begin(*arguments, top=TOP):

@@ -17,7 +17,7 @@ from forestplan.schedules.simulate import played, text_of_run
 from forestplan.transcripts.judge import find_order, whole_run
 from forestplan.transcripts.reading import WrongEntry, transcript_read
 from tests import FORESTLAB, TOP
-from tests.cases import Case, called, forestlab, text, text_in, wait_until
+from tests.cases import Case, called, forestlab, is_running, text, text_in, wait_until
 from tests.programs.made_transcripts import transcript_text
 from tests.programs.test_plain_networks import networks_by_chance
 from tests.settings import PLAN, PLAY, setting
@@ -220,7 +220,7 @@ class Transcripts(Case):
                     )
                 run.send_signal(number)
                 status = run.wait(LIMIT)
-            is_left = bool(machine) and os.path.exists(f"/proc/{machine}")
+            is_left = bool(machine) and is_running(machine)
             if is_left:
                 os.kill(machine, signal.SIGKILL)
             self.note(
