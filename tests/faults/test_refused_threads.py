@@ -1,7 +1,6 @@
 """`plan` and `transcript` if a thread is refused, or memory while threads run: they end in one line or in the right
 answer, and each thread that was started comes to its end. A push to a deque that is refused changes nothing in the
 answer."""
-import time
 from itertools import product
 
 from forestplan.definitions.colours import plan_text
@@ -11,7 +10,7 @@ from forestplan.transcripts.reading import WrongEntry
 from tests.cases import Case, example, text
 from tests.commands import EDGE
 from tests.commands import TRIANGLE as THREE
-from tests.faults.test_refused_memory import LIMIT, THREADS, build_front, under
+from tests.faults.test_refused_memory import THREADS, build_front, under
 from tests.settings import PLAN, PLAY
 from tests.tools import needs
 
@@ -143,22 +142,19 @@ class RefusedThreads(Case):
                 wrong[:3] or (late, whole),
             )
 
-    def test_pushes(self, enough=8, patience=5 * LIMIT):
+    def test_pushes(self, enough=8, rounds=20, most=300):
         """Runs of several workers that are refused all memory they ask for, until `enough` of them were refused some;
-        on a busy machine few are, so after LIMIT seconds one is enough, and the row fails if none was after `patience`
-        seconds. A worker asks for none but in a push, and in this only if a thief that has claimed a place of the deque
-        is stopped before it gives it free, while the owner comes round to the place again: so the workers are stopped
-        all the time, and the networks are small. With one worker there is no thief. If a refused push dropped its node,
-        the run wouldn't end, or the nodes couldn't be gathered."""
+        where few are, after `rounds` rounds one is enough, and the row fails if none was after `most` rounds, however
+        long they take. A worker asks for none but in a push, and in this only if a thief that has claimed a place of
+        the deque is stopped before it gives it free, while the owner comes round to the place again: so the workers are
+        stopped all the time, and the networks are small. With one worker there is no thief. If a refused push dropped
+        its node, the run wouldn't end, or the nodes couldn't be gathered."""
         front = build_front(self.folder, "refuse_in_threads")
         wrong: list[tuple] = []
         counts: list[int] = []
-        begin = time.monotonic()
-        while (
-            sum(map(bool, counts)) < enough
-            and not wrong
-            and (time.monotonic() - begin < (LIMIT if any(counts) else patience))
-        ):
+        for number in range(most):
+            if wrong or sum(map(bool, counts)) >= (enough if number < rounds else 1):
+                break
             for data, workers, stop in STOPPED:
                 answer, refused = under(
                     front, [PLAN, "plan", "--workers", str(workers)], data, STOP=stop
@@ -172,5 +168,5 @@ class RefusedThreads(Case):
             f"pushes refused in the middle of a run: in {sum(map(bool, counts))} of {len(counts)} runs of plan "
             f"with up to 8 workers, {sum(counts)} refusals",
             not wrong and any(counts),
-            wrong[:3] or f"none in {patience} seconds",
+            wrong[:3] or f"none in {most} rounds",
         )
