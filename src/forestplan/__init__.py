@@ -38,7 +38,8 @@ Make a network: of a kind with its size, of your own edges, an example, or a fil
 >>> own = forestplan.networks.Network(3, [(1, 2), (2, 3)])
 >>> petersen = forestplan.networks.network_at("petersen")
 
-Run the rounds of each of the six programs, and ask a node what it has found. Two programs have an option.
+Run the rounds of each of the six programs, and ask a node what it has found. A result names a neighbour by its port,
+its place among the neighbours from 0: `partner 0` of node 3 is its first neighbour.
 
 >>> for name, program in forestplan.definitions.PROGRAMS.items():
 ...     nodes = forestplan.definitions.synchronous_run(ring, program)
@@ -49,6 +50,11 @@ layers at node 3: layer 2 by 0
 matching at node 3: partner 0
 independent-set at node 3: in
 recolouring at node 3: channel 2
+>>> ring.neighbours[3][0]
+2
+
+Two programs have an option: layers the identifier of its root, which is 1 if none is named, and recolouring its passes.
+
 >>> layers = forestplan.definitions.program_at("layers", root=3)
 >>> forestplan.definitions.synchronous_run(ring, layers)[3].result()
 'layer 0'
@@ -57,7 +63,7 @@ Play a schedule: a run without a clock, in which a policy and a seed choose what
 
 >>> leader = forestplan.definitions.PROGRAMS["leader"]
 >>> entries = forestplan.schedules.played(ring, policy="slow-link", seed=7, program=leader)
->>> transcript = forestplan.schedules.text_of_run(ring.nodes, entries, leader)
+>>> transcript = forestplan.schedules.text_of_run(ring, entries, leader)
 >>> print("\\n".join(transcript.splitlines()[:2]))
 transcript 3 leader 5
 1 1 put 2 payload 0 leader 1

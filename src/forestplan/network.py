@@ -1,12 +1,14 @@
 """What a network is: commands read it, the definitions are of it, and pictures show it."""
 from collections.abc import Collection, Mapping
-from dataclasses import dataclass, field
+from dataclasses import InitVar, dataclass, field
 from functools import cached_property
 
 Edge = tuple[int, int]
 Places = Mapping[int, tuple[float, float]]
 # What a network is called that has no name.
 NAMELESS = "this network"
+# Identifiers are below this number.
+IDENTIFIERS = 2**128
 # How many edges a prompt shows.
 MOST_SHOWN = 12
 
@@ -31,7 +33,8 @@ class Network:
     >>> path.identifiers, path.higher
     ({1: 1, 2: 17, 3: 3}, {1: [2], 2: [], 3: [2]})
 
-    Raises ValueError if an edge joins a node to itself, or names one that isn't there.
+    Raises ValueError if an edge joins a node to itself; if an edge, an identifier or a bar names a node that isn't
+    there; if two nodes have one identifier, or it isn't from 0 to 2^128 - 1; and of a barred channel below 1.
     """
 
     nodes: int
@@ -41,6 +44,8 @@ class Network:
     names: Mapping[int, str] = field(default_factory=dict)
     places: Places = field(default_factory=dict)
     name: str = NAMELESS
+    # Readers say themselves which nodes have one identifier, after what else a file has wrong.
+    may_repeat: InitVar[bool] = False
 
     def __repr__(self) -> str:
         """What a prompt shows of it.
@@ -53,9 +58,9 @@ class Network:
         called = "" if self.name == NAMELESS else f" {self.name}"
         return f"<Network{called}: nodes 1 to {self.nodes}, edges{''.join(edges) or ' none'}{more}>"
 
-    def __post_init__(self) -> None:
+    def __post_init__(self, may_repeat: bool) -> None:
         self.node_numbers = range(1, self.nodes + 1)
-        self.edges = sorted({(min(edge), max(edge)) for edge in self.edges})
+        self.edges = sorted({(min(v, w), max(v, w)) for v, w in self.edges})
         self.neighbours: dict[int, list[int]] = {v: [] for v in self.node_numbers}
         for v, w in self.edges:
             if not 1 <= v < w <= self.nodes:
@@ -67,11 +72,32 @@ class Network:
         self.identifiers: dict[int, int] = {
             v: self.given_identifiers.get(v, v) for v in self.node_numbers
         }
-        self.bars = {v: sorted(channels) for v, channels in sorted(self.bars.items()) if channels}
+        self.check_identifiers(may_repeat)
+        bars = {v: sorted(channels) for v, channels in sorted(self.bars.items()) if channels}
+        for v, channels in bars.items():
+            check_node(v, self.nodes, "bar")
+            if channels[0] < 1:
+                raise ValueError(
+                    f"channel {channels[0]} is barred at node {v}: channels begin at 1"
+                )
+        self.bars = bars
         self.greatest_degree = max(map(len, self.neighbours.values()), default=0)
         self.greatest_bars = max(map(len, self.bars.values()), default=0)
         self.span = self.greatest_degree + self.greatest_bars
         self.channels = self.span + 1
+
+    def check_identifiers(self, may_repeat: bool) -> None:
+        """Raises ValueError of an identifier of no node, or out of range, and of two that are alike."""
+        for v, number in self.given_identifiers.items():
+            check_node(v, self.nodes, "identifier")
+            if not 0 <= number < IDENTIFIERS:
+                raise ValueError(f"the identifier of node {v} isn't from 0 to 2^128 - 1")
+        if may_repeat or not self.given_identifiers:
+            return
+        owners = {number: v for v, number in self.identifiers.items()}
+        for v, number in self.identifiers.items():
+            if owners[number] != v:
+                raise ValueError(f"nodes {v} and {owners[number]} have one identifier, {number}")
 
     @cached_property
     def barred(self) -> dict[int, frozenset[int]]:
@@ -111,6 +137,12 @@ class Network:
         (2, None)
         """
         return self.higher[v][f] if f < len(self.higher[v]) else None
+
+
+def check_node(v: int, nodes: int, what: str) -> None:
+    """Raises ValueError if there is no node v, which has something, among the nodes from 1."""
+    if not 1 <= v <= nodes:
+        raise ValueError(f"there is no node {v} for the {what}: the nodes are 1 to {nodes}")
 
 
 def order(span: int, barring: bool, sweep: int) -> list[int]:

@@ -30,7 +30,7 @@ def painter(*arguments, data=b""):
 def transcript(network, seed):
     """The text of a run, of edition 2."""
     net = network_in_bytes(network)
-    return text_of_run(net.nodes, played(net, seed=f"{SEED} {seed}")).encode()
+    return text_of_run(net, played(net, seed=f"{SEED} {seed}")).encode()
 
 
 class PictureCase(Case):

@@ -120,10 +120,11 @@ class Pictures(PictureCase):
     def test_stamped(self):
         """A transcript of edition 2 is drawn as the same entries without stamps are, but for what the caption says of
         time."""
-        entries = played(network_in_bytes(APART), seed="stamped")
+        apart = network_in_bytes(APART)
+        entries = played(apart, seed="stamped")
         wanted, got = (
             self.drawn("run", APART, text=text).split("\n")
-            for text in (transcript_text(5, entries), text_of_run(5, entries).encode())
+            for text in (transcript_text(5, entries), text_of_run(apart, entries).encode())
         )
         others = [line for line in got if line not in wanted]
         self.same("as many marks", len(got), len(wanted))

@@ -78,7 +78,7 @@ class Watch(PictureCase):
         steps = Steps(player.state)
         for entry in player.entries(Policy("random", network.node_numbers, network.edges, "watch")):
             steps.add(entry)
-        text = text_of_run(network.nodes, player.made)
+        text = text_of_run(network, player.made)
         wanted = ShownRun("run", network, steps_of_text("run", network, text)).table()
         self.same("a player", ShownRun("run", network, steps.by_stamp()).table(), wanted)
 

@@ -55,6 +55,7 @@ class Run:
 
     def __init__(self, net, capacity, program=COLOURING):
         self.player, self.nodes, self.looks = AlphaPlayer(net, program), net.nodes, 0
+        self.net = net
         self.program = program
         state, pool = self.player.state, deque(net.node_numbers)
         while pool:
@@ -68,4 +69,4 @@ class Run:
         return transcript_text(self.nodes, self.player.made)
 
     def merged(self):
-        return text_of_run(self.nodes, self.player.made, self.program).encode()
+        return text_of_run(self.net, self.player.made, self.program).encode()

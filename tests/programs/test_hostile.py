@@ -180,7 +180,7 @@ class Hostile(Case):
         size, seed, found = int(setting("texts")) // 30, setting("seed"), set()
         net, before = network_in_bytes(NETWORK), NETWORK.count(b"\n")
         for name, program in PROGRAMS.items():
-            run = text_of_run(net.nodes, played(net, seed=seed, program=program), program)
+            run = text_of_run(net, played(net, seed=seed, program=program), program)
             head, rows = run.encode().split(b"\n", 1)
             spoiled_rows = islice(spoiled_texts(random.Random(f"{seed} {name}"), [rows]), size)
             puts = [b"1 1 put 2 payload 0 %s %s\n" % payload for payload in PAYLOADS]

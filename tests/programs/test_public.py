@@ -12,9 +12,14 @@ import re
 import subprocess
 import sys
 import textwrap
-from collections.abc import Iterator
+from collections.abc import Callable, Iterator
+from dataclasses import replace
 from types import FunctionType, ModuleType
 
+from forestplan import pictures, schedules
+from forestplan.definitions.matching import MATCHING
+from forestplan.definitions.nodes import COLOURING
+from forestplan.network import Network
 from tests import TOP
 from tests.cases import Case
 
@@ -103,6 +108,66 @@ def if_checked(module: ModuleType) -> Iterator[ast.ImportFrom]:
 def pairs_of(node: ast.ImportFrom) -> list[tuple[str, str]]:
     """(module, name) of what is imported."""
     return [(node.module or "", alias.name) for alias in node.names]
+
+
+EDGES = [(1, 2), (2, 3)]
+# Identifiers and bars that `Network` refuses, and the words that say why.
+NO_NETWORKS: tuple[tuple[dict[int, int], dict[int, list[int]], str], ...] = (
+    ({1: 9, 3: 9}, {}, "nodes 1 and 3 have one identifier"),
+    ({1: 2}, {}, "nodes 1 and 2 have one identifier"),
+    ({1: -5}, {}, "isn't from 0"),
+    ({1: 2**128}, {}, "isn't from 0"),
+    ({7: 9}, {}, "no node 7"),
+    ({}, {7: [2]}, "no node 7"),
+    ({}, {1: [4, 0]}, "channel 0"),
+)
+
+
+class Refused(Case):
+    """What nearly fits is refused, and not taken for something else."""
+
+    def raised(self, name: str, kind: type[Exception], what: str, do: Callable[[], object]) -> None:
+        with self.subTest(name), self.assertRaisesRegex(kind, re.escape(what)):
+            do()
+
+    def test_networks(self) -> None:
+        for given, bars, what in NO_NETWORKS:
+            self.raised(f"{given} {bars}", ValueError, what, lambda: Network(3, EDGES, given, bars))
+        same = replace(Network(3, EDGES), given_identifiers={1: 2, 2: 1})
+        self.same("exchanged identifiers", same.identifiers, {1: 2, 2: 1, 3: 3})
+
+    def test_rules(self) -> None:
+        """A rule that isn't there, one of another kind of run, and a text instead of a list."""
+        net = Network(3, EDGES)
+        for without in (["nonsense"], ["digit"], ["safes", "nonsense"], "safes", "fifo"):
+            for do in (
+                lambda: schedules.AlphaSpace(net, without=without),
+                lambda: schedules.Stepwise(net, without=without),
+            ):
+                self.raised(f"a run without {without}", ValueError, "the rules are safes", do)
+        for without in (["nonsense"], ["safes"], "digit"):
+            self.raised(
+                f"rounds without {without}",
+                ValueError,
+                "the rules are digit",
+                lambda: schedules.ruled(COLOURING, net, without),
+            )
+        self.raised(
+            "rounds of matching",
+            ValueError,
+            "the rules are partner",
+            lambda: schedules.ruled(MATCHING, net, ["digit"]),
+        )
+
+    def test_options(self) -> None:
+        for kind, option in (("why", "node"), ("broken", "without")):
+            net = Network(3, EDGES)
+            self.raised(kind, TypeError, f"'{option}'", lambda: pictures.drawing(kind, net))
+
+    def test_a_plan_in_bytes(self) -> None:
+        net, plan = Network(2, [(1, 2)]), "plan\n1 2\n2 1\n"
+        drawn = pictures.drawing("plan", net, plan.encode())
+        self.same("as of a text", drawn, pictures.drawing("plan", net, plan))
 
 
 class Public(Case):

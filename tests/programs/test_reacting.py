@@ -709,7 +709,7 @@ class Transcripts(Case):
         ):
             net, of = network_at(network), program(sample(name))
             for policy in POLICIES:
-                text = text_of_run(net.nodes, played(net, policy, "7", program=of), of)
+                text = text_of_run(net, played(net, policy, "7", program=of), of)
                 self.same(f"{name}: head", text.split("\n")[0], f"transcript 4 {name} {net.nodes}")
                 said = whole_run(net, text.encode(), of)[1]
                 entries = text.count("\n") - 1
@@ -725,8 +725,8 @@ class Transcripts(Case):
         for network in ("petersen", "star4", "path3"):
             net = network_at(network)
             for policy in ("random", "slow-link", "bursts", "newest", "in-turn", "late-acks"):
-                own = text_of_run(net.nodes, played(net, policy, "3", program=of), of)
-                built_in = text_of_run(net.nodes, played(net, policy, "3", program=LEADER), LEADER)
+                own = text_of_run(net, played(net, policy, "3", program=of), of)
+                built_in = text_of_run(net, played(net, policy, "3", program=LEADER), LEADER)
                 self.same(f"{network}, {policy}", of_alpha(own), built_in)
 
     def test_refused(self) -> None:
@@ -920,7 +920,7 @@ class Bridge(Case):
 
     def test_converted(self) -> None:
         net, of = network_at("star4"), program(sample("alpha"))
-        text = text_of_run(net.nodes, played(net, program=of), of)
+        text = text_of_run(net, played(net, program=of), of)
         self.same("rounds", self.rounds(text), (0, of_alpha(text), ""))
         done = self.rounds(text.replace("payload 0 leader", "payload 0 hops", 1))
         self.refusal(
@@ -947,7 +947,7 @@ class Bridge(Case):
         of = program(sample("alpha"))
         for name in ("triangle", "petersen", "path", "star"):
             net = network_in_bytes(example(name))
-            text = self.rounds(text_of_run(net.nodes, played(net, "bursts", program=of), of))[1]
+            text = self.rounds(text_of_run(net, played(net, "bursts", program=of), of))[1]
             arguments, data = ["replay", "--program", "leader"], example(name) + b"\n"
             status, out, fault = called(PLAY, *arguments, data=data + text.encode())
             self.same(

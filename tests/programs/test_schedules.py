@@ -302,7 +302,9 @@ class Schedules(Case):
             part = gallery.partition(f"\n### `{word}`: ")[2].partition("\n### ")[0]
             self.note(f"{word} in the gallery", f"--without {word}" in part and rule.edit in part)
             if word in rules.OF_ROUNDS:
-                said = found_in(r"(?:oken on|finds that)\s(.*?)(?:goes|[.:;]|\n *after)", part, re.S)[1]
+                said = found_in(
+                    r"(?:oken on|finds that)\s(.*?)(?:goes|[.:;]|\n *after)", part, re.S
+                )[1]
                 edges = [(int(v), int(w)) for v, w in re.findall(r"(\d)-(\d)", said)]
                 rounds = ruled_rounds.smallest_wrong_rounds([word])[0]
                 self.same(

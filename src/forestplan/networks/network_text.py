@@ -8,12 +8,11 @@ import re
 from forestplan.fault_codes import Code
 from forestplan.faults import Fault, InText
 from forestplan.limits import MAX_BARS, MAX_CHANNEL, MAX_DEGREE, MAX_EDGES, MAX_NODES
-from forestplan.network import Edge, Network
+from forestplan.network import IDENTIFIERS, Edge, Network
 from forestplan.networks.fields import fields_of, shown_field, field_number
 
 FORMATS = ("edge", "edges", "col")
 SKIPPED = {"n", "d", "v", "x"}
-IDENTIFIERS = 2**128
 
 
 def stem(path: str) -> str:
@@ -157,6 +156,7 @@ class Reading:
                 self.names,
                 self.places,
                 stem(self.path),
+                may_repeat=True,
             ),
             self.path,
         )

@@ -69,6 +69,7 @@ def made_of(found: Listed, name: str) -> tuple[Network, list[str]]:
         {v: node for node, v in number.items() if node != str(v)},
         {number[node]: place for node, place in found.places.items()},
         stem(name),
+        may_repeat=True,
     )
     checked_network(network, name)
     return network, [reading_summary(network, len(edges), found.form, by), *found.notes, *notes]

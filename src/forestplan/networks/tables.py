@@ -4,10 +4,10 @@ import re
 from forestplan.fault_codes import Code
 from forestplan.faults import Fault, InText
 from forestplan.limits import MAX_BARS, MAX_CHANNEL, MAX_EDGES, MAX_NODES
+from forestplan.network import IDENTIFIERS
 from forestplan.networks.fields import shown_field, field_number
 from forestplan.networks.forms import Stated
 from forestplan.networks.listing import Listed, Where, check_known, name_of
-from forestplan.networks.network_text import IDENTIFIERS
 from forestplan.networks.places import Place, across_of, near, on_ground, on_map
 from forestplan.networks.table import Table
 from forestplan.wording import counted

@@ -450,7 +450,11 @@ def command_line() -> Parser:
 
 
 def drawing(
-    kind: str, network: Network | None, *texts: str, program: Program = COLOURING, **options: object
+    kind: str,
+    network: Network | None,
+    *texts: str | bytes,
+    program: Program = COLOURING,
+    **options: object,
 ) -> str:
     """Draws a picture of a `kind`, one of `KINDS`, of a `network` whose nodes run a `program`; returns SVG, of player
     and watch a page in HTML, and of why in words if it is asked for with `in_words=True`.
@@ -467,16 +471,23 @@ def drawing(
     >>> print(drawing("why", ring, node=2, in_words=True).splitlines()[0])
     why node 2 of ring5 has channel 3
 
-    Raises `Fault` if the network is too large for the kind, or a text is wrong; ValueError if there is no such kind,
-    and TypeError of an option that the kind doesn't have.
+    Raises `Fault` if the network is too large for the kind, or a text is wrong; ValueError if there is no such kind or
+    rule; and TypeError of an option that the kind doesn't have, or needs: why needs a `node`, and broken `without`.
     """
     if kind not in KINDS:
         raise ValueError(f"no picture is called {kind!r}; these are: {', '.join(KINDS)}")
     if unknown := options.keys() - {*KINDS[kind].options}:
         has = ", ".join(KINDS[kind].options) or "none"
         raise TypeError(f"{kind} has no option {min(unknown)!r}; its options: {has}")
-    named = [Text("the text", text) for text in texts]
+    needed = {"why": "node", "broken": "without"}.get(kind)
+    if needed and options.get(needed) is None:
+        raise TypeError(f"{kind} needs the option {needed!r}")
+    named = [Text("the text", as_str(text)) for text in texts]
     return drawing_of(kind, Source(network, program, named, written_by_definition), **options)
+
+
+def as_str(text: str | bytes) -> str:
+    return text.decode("utf-8", "replace") if isinstance(text, bytes) else text
 
 
 def written_by_definition(of: Source, form: str) -> str:
@@ -484,7 +495,7 @@ def written_by_definition(of: Source, form: str) -> str:
     if form == "plan":
         return plan_by_definition(of.network).decode()
     entries = played(of.network, program=of.program)
-    return text_of_run(of.network.nodes, entries, of.program)
+    return text_of_run(of.network, entries, of.program)
 
 
 def drawing_of(kind: str, of: Source, **options: object) -> str:
@@ -529,7 +540,7 @@ def run_text(kind: str, network: Network, network_text: bytes, program: Program)
             Code.RUN_TOO_LONG_TO_DRAW, kind=kind, most=MOST_WIRES, name=network.name, wires=wires
         )
     if is_of_file(program):
-        return text_of_run(network.nodes, played(network, program=program), program)
+        return text_of_run(network, played(network, program=program), program)
     if program == COLOURING:
         return proved_programs.output_of("forestplan", ["transcript"], network_text)
     arguments = ["run", "--transcript", *program_words(program)]
@@ -548,7 +559,7 @@ def reacting_run(given: Namespace, network: Network, program: Reacting) -> str:
         text = Text(text_name(given.stored[0]), text_at(given.stored[0], MOST_OF_TRANSCRIPT))
     else:
         made = played(network, program=program)
-        text = Text(network.name, text_of_run(network.nodes, made, program))
+        text = Text(network.name, text_of_run(network, made, program))
     order, _ = ordered(text.text, text.name, network, program)
     draw = reacting_picture.reacting_svg if given.kind == "run" else reacting_watch.reacting_html
     return draw(given.title or stem(text.name), network, program, order.made)

@@ -6,7 +6,7 @@ Play a run by a policy, and write it as a transcript; make one step by step, in 
 >>> from forestplan.definitions import PROGRAMS
 >>> from forestplan.networks import path
 >>> from forestplan.schedules import AlphaSpace, Stepwise, played, text_of_run
->>> print("\\n".join(text_of_run(2, played(path(2), policy="oldest")).splitlines()[:2]))
+>>> print("\\n".join(text_of_run(path(2), played(path(2), policy="oldest")).splitlines()[:2]))
 transcript 2 2
 1 1 put 2 payload 0 hello 1
 >>> run = Stepwise(path(2))

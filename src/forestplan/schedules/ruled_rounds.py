@@ -29,7 +29,7 @@ from forestplan.definitions.nodes import COLOURING, DROPPED
 from forestplan.definitions.program import Payload, Program, RoundsNode, Slot, synchronous_run
 from forestplan.definitions.recolouring import Recolouring
 from forestplan.network import Edge, Network
-from forestplan.schedules.rules import OF_FORESTS
+from forestplan.schedules.rules import OF_FORESTS, OF_PROGRAMS, OF_ROUNDS, rules_named
 
 # Rows of so many nodes are tried, or networks.
 MOST_ROW, MOST_MERGED = 12, 5
@@ -54,7 +54,7 @@ class RuledRounds:
 
     def __init__(self, net: Network, without: Collection[str]) -> None:
         self.net = net
-        self.without = frozenset(without)
+        self.without = rules_named(without, OF_ROUNDS)
         self.colours: list[list[Colours]] = [[net.identifiers] for _ in range(net.forest_count)]
         self.merged = [first_colours(net)]
         self.plan: Colours | None = None
@@ -255,7 +255,8 @@ RULED = {
 
 def without_rules(program: Program, without: Collection[str]) -> Program:
     """A program that goes on where the colouring ends, with rules of its rounds left out."""
-    rules, node = frozenset(without), RULED[program.name].node
+    rules = rules_named(without, OF_PROGRAMS[program.name])
+    node = RULED[program.name].node
     # Without the rule `last`, the pulse after the last turn isn't made.
     missing = 1 if "last" in rules else 0
     return replace(
@@ -296,7 +297,7 @@ class RuledSequel:
 
 def ruled(program: Program, net: Network, without: Collection[str]) -> RuledRounds | RuledSequel:
     """The rounds of a `program` on a network `net` `without` some of its rules, which `schedules.rules.OF_PROGRAMS`
-    names. Their `sentence` says what goes wrong, and is empty if nothing does.
+    names. Their `sentence` says what goes wrong, and is empty if nothing does. Raises ValueError for another rule.
 
     >>> ruled(COLOURING, Network(3, [(1, 2), (2, 3)]), ["digit"]).sentence().partition("\\n")[0]
     'after pulse 3 node 1 and its parent 2 in forest 0 both have colour 0'

@@ -3,7 +3,7 @@
 `crate` and `edit` name that body: it is the file EDIT.edit in crates/CRATE/must-fail/ or in
 crates/CRATE/wrong-bodies/."""
 from collections import namedtuple
-from collections.abc import Collection
+from collections.abc import Collection, Mapping
 
 Rule = namedtuple("Rule", "says without crate edit")
 
@@ -141,6 +141,25 @@ OF_SEQUELS = {
 OF_PROGRAMS = {"colouring": OF_ROUNDS} | OF_SEQUELS
 OF_ANY_ROUNDS = {word: rule for of in OF_PROGRAMS.values() for word, rule in of.items()}
 ALL = OF_SCHEDULES | OF_ANY_ROUNDS
+
+
+def rules_named(without: Collection[str], known: Mapping[str, Rule]) -> frozenset[str]:
+    """The rules that are left out, each of them one of the `known` ones.
+
+    >>> sorted(rules_named(["safes", "fifo"], OF_SCHEDULES))
+    ['fifo', 'safes']
+
+    Raises ValueError for a rule that isn't known there, and for a text, which isn't a list of rules.
+    """
+    unknown = sorted({without} if isinstance(without, str) else {*without} - known.keys())
+    if unknown:
+        what = (
+            "isn't a list of rules"
+            if isinstance(without, str)
+            else "is no rule that can be left out there"
+        )
+        raise ValueError(f"{unknown[0]!r} {what}; the rules are {', '.join(known)}")
+    return frozenset(without)
 
 
 def program_with_rules(names: Collection[str]) -> str | None:

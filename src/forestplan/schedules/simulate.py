@@ -32,6 +32,7 @@ from forestplan.networks.sources import network_at
 from forestplan.parsers import add_output, add_seed, parser_of
 from forestplan.schedules.policies import POLICIES, Policy, Step
 from forestplan.schedules.ruled_node import RuledNode
+from forestplan.schedules.rules import OF_SCHEDULES, rules_named
 from forestplan.sentences import WORDS
 from forestplan.transcripts.fields import first_line, first_line_of_reactions
 from forestplan.transcripts.reading import line_of
@@ -189,8 +190,8 @@ class AlphaPlayer(Player[AlphaNode]):
 def start_without(net: Network, program: Program, without: Collection[str]) -> NetState[AlphaNode]:
     """The machine at its start, whose nodes run a program under the synchroniser, without some rules."""
     check_repeats(net, program)
-    if without:
-        return NetState(net, partial(RuledNode, without=without, program=program))
+    if rules := rules_named(without, OF_SCHEDULES):
+        return NetState(net, partial(RuledNode, without=rules, program=program))
     return alpha_start(net, program)
 
 
@@ -275,11 +276,12 @@ def events_of(
             yield line, Event(Kind(kind), int(v), int(port), place=int(place or 0))
 
 
-def text_of_run(nodes: int, entries: Iterable[Entry], program: AnyProgram = COLOURING) -> str:
-    """The transcript of a run of a `program`, with stamps: how many `nodes` there are, and a line for each of the
-    `entries`, as `played` returns them, by stamp, and lines of one stamp by node.
+def text_of_run(net: Network, entries: Iterable[Entry], program: AnyProgram = COLOURING) -> str:
+    """The transcript of a run of a `program` on a network `net`, with stamps: how many nodes there are, and a line for
+    each of the `entries`, as `played` returns them, by stamp, and lines of one stamp by node.
 
-    >>> print(text_of_run(2, played(Network(2, [(1, 2)]), policy="oldest")[:2]), end="")
+    >>> edge = Network(2, [(1, 2)])
+    >>> print(text_of_run(edge, played(edge, policy="oldest")[:2]), end="")
     transcript 2 2
     1 1 put 2 payload 0 hello 1
     1 2 put 1 payload 0 hello 2
@@ -289,8 +291,8 @@ def text_of_run(nodes: int, entries: Iterable[Entry], program: AnyProgram = COLO
         for entry in sorted(entries, key=lambda one: (one.stamp, one.node))
     ]
     if isinstance(program, Reacting):
-        return as_text([first_line_of_reactions(nodes, program.name), *lines])
-    return as_text([first_line(nodes, program.name), *lines])
+        return as_text([first_line_of_reactions(net.nodes, program.name), *lines])
+    return as_text([first_line(net.nodes, program.name), *lines])
 
 
 def edge(text: str) -> Edge:
@@ -391,7 +393,7 @@ def main(arguments: list[str]) -> int:
     check_names(net, given.slow, given.lazy)
     program = any_program_asked("simulate", given, net)
     player = run_asked(net, given, program)
-    write_output(given, text_of_run(net.nodes, player.made, program))
+    write_output(given, text_of_run(net, player.made, program))
     if why := wrong_at_end(net, program, player):
         print(f"simulate: what the nodes find at the end isn't right: {why}", file=sys.stderr)
     return int(bool(why))

@@ -43,6 +43,7 @@ from forestplan.definitions.own_program import (
 )
 from forestplan.definitions.program import ProgramFile
 from forestplan.network import Edge, Network
+from forestplan.schedules.rules import OF_SCHEDULES, rules_named
 
 REFUSED = 2**32 - 1
 
@@ -121,6 +122,7 @@ class Space(Generic[AnySearched]):
         self.node_of = node_of
         self.file = file
         self.without = tuple(without)
+        rules_named(without, OF_SCHEDULES)
         self.limit = limit
         self.asks_for_messages = asks_for_messages(file)
         self.node_numbers = net.node_numbers

@@ -17,6 +17,7 @@ from forestplan.faults import Fault, InText
 from forestplan.network import Edge, Network
 from forestplan.schedules.policies import Step
 from forestplan.schedules.ruled_node import InboxRounds, RuledNode, synchronous_rounds
+from forestplan.schedules.rules import OF_SCHEDULES, rules_named
 from forestplan.schedules.simulate import Player, events_of, start_without
 
 
@@ -29,7 +30,7 @@ class ByHand(Player[AnyNode]):
 
     def __init__(self, state: NetState[AnyNode], without: Collection[str] = ()) -> None:
         super().__init__(state)
-        self.without = without
+        self.without = rules_named(without, OF_SCHEDULES)
         self.chosen: list[str] = []
         self.lines: list[str] = []
         self.last_step = ""

@@ -103,9 +103,7 @@ def run_by_seed(
         if len(player.made) == next_part:
             next_part *= 2
             tell(part=run_part(ShownRun("the run", network, made.by_stamp())))
-    return text_of_run(network.nodes, player.made, program), ShownRun(
-        "the run", network, made.by_stamp()
-    )
+    return text_of_run(network, player.made, program), ShownRun("the run", network, made.by_stamp())
 
 
 def first_steps(steps: str, net: Network, program: Program) -> Iterator[Event]:

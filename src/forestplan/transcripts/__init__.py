@@ -5,7 +5,7 @@ Judge a transcript, and change it so that it is refused:
 >>> from forestplan.networks import path
 >>> from forestplan.schedules import played, text_of_run
 >>> from forestplan.transcripts import whole_run
->>> text = text_of_run(2, played(path(2)))
+>>> text = text_of_run(path(2), played(path(2)))
 >>> whole_run(path(2), text).verdict.partition(", ")[0]
 'whole run of 2 nodes'
 >>> whole_run(path(2), text.replace("hello 1", "hello 2", 1))
