@@ -112,6 +112,19 @@ class Index(FilesCase):
             named = sorted(set(re.findall(r"rattle-kit-\w+", text_in(page))))
             self.same(f"kits of {page}", named, kits)
 
+    def test_lists(self):
+        """No line of a paragraph begins with a sign or a number by which it would be shown as an item of a list."""
+        mark = re.compile(r" *([-+*]|\d+[.)]) ")
+        for page in PAGES:
+            above = ""
+            for number, line in enumerate(lines_of(page), 1):
+                is_item = mark.match(line) and not line.startswith("    ")
+                in_text = re.match(r"[^\s|#<]", above) and not mark.match(above)
+                self.note(f"{page}:{number}", not (is_item and in_text), line)
+                self.note(f"{page}:{number} plus", not re.match(r" *\+ ", line), line)
+                # A paragraph begins a list if its first line does.
+                above = above if above and line.strip() else line
+
     def test_crate_tables(self):
         """LAYERS has the tables that `python3 build crate-tables` writes. Each group of crates.txt has a heading and a
         crate, each crate stands below those that it names, and a head has a first sentence."""
