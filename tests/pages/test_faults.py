@@ -30,7 +30,6 @@ ALLOWED: dict[tuple[str, str], str] = {
         "src/forestplan/process_exit.py",
         "run_command",
     ): "puts what Python says of a mistake of our own into one line",
-    ("src/forestplan/interface/calls.py", "_called"): "a package of its own, which reads the line",
     (
         "src/forestplan/workshop/workshop.py",
         "draw_wrong_run",
