@@ -13,7 +13,8 @@ from forestplan.pictures.run_picture import KINDS
 from forestplan.pictures.sheet import LESSONS
 from forestplan.schedules.policies import POLICIES
 from forestplan.schedules.rules import OF_ANY_ROUNDS, OF_SCHEDULES
-from forestplan.transcripts.conversions import FORMS, ROUNDS
+from forestplan.transcripts.conversions import FORMS
+from forestplan.transcripts.transcript import ROUNDS
 from forestplan.transcripts.fields import PAYLOADS
 
 COMMANDS = ("forestplan", "forestplay", "forestlab")

@@ -4,7 +4,6 @@ error."""
 from typing import NamedTuple
 
 from forestplan.fault_codes import Code
-from forestplan.sentences import place_words, sentence_of
 
 
 class InText(NamedTuple):
@@ -18,7 +17,10 @@ class InText(NamedTuple):
     where: int | str | None = None
 
     def __str__(self) -> str:
-        return place_words(self.name, self.where)
+        if self.where is None:
+            return self.name
+        where = self.where if isinstance(self.where, str) else f"line {self.where}"
+        return f"{self.name} {where}".lstrip()
 
 
 class Fault(Exception):
@@ -37,6 +39,9 @@ class Fault(Exception):
         self.subject = subject
 
     def __str__(self) -> str:
+        # Only what is refused pays for what the import takes.
+        from forestplan.sentences import sentence_of
+
         return sentence_of(self.code, "" if self.place is None else str(self.place), self.subject)
 
 

@@ -632,14 +632,6 @@ class Sentence(string.Formatter):
         return said
 
 
-def place_words(name: str, where: int | str | None) -> str:
-    """Where something is: `net.col`, `net.col line 3`, or at another place of a text, in words."""
-    if where is None:
-        return name
-    at = where if isinstance(where, str) else f"line {where}"
-    return f"{name} {at}".lstrip()
-
-
 def sentence_of_entry(code: Code, place: str, subject: Mapping[str, object]) -> str:
     """The sentence of what is wrong with a transcript, with its word: `line 3: LinkEmpty: ..`."""
     said = sentence_of(code, "", subject)

@@ -129,7 +129,8 @@ class Transcripts(Case):
             self.note(f"{said} of {transcript[:60]!r}", got[0] == said, got)
         edge = network_in_bytes(text(EDGE))
         self.same("a run of an edge", said_of(edge, EDGE_RUN)[0], EDGE_WHOLE)
-        merged = text_of_run(edge, find_order(edge, transcript_read(EDGE_RUN)[1]).made).encode()
+        order = find_order(edge, transcript_read(EDGE_RUN)[1])
+        merged = text_of_run(edge, order.stamped()).encode()
         self.same(
             "with stamps",
             (said_of(edge, merged)[0], said_by(text(EDGE), merged)),

@@ -158,6 +158,6 @@ def ordered(
     is_drawn = is_wrong_drawn and order.first_refused() is not None
     if wrong and not (is_drawn and wrong.word not in ("X1", "NoSuch")):
         raise Fault(Code.TRANSCRIPT_REFUSED, name=name, why=wrong)
-    order.made.sort(key=lambda entry: (entry.stamp, entry.node))
+    order.made = order.stamped()
     first = order.first_refused()
     return order, (first, wrong) if wrong and first else None

@@ -31,9 +31,7 @@ from forestplan.networks.fields import shown_field
 from forestplan.networks.sources import network_at
 from forestplan.parsers import add_output, add_seed, parser_of
 from forestplan.schedules.policies import POLICIES, Policy, Step
-from forestplan.schedules.ruled_node import RuledNode
 from forestplan.schedules.rules import OF_SCHEDULES, rules_named
-from forestplan.sentences import WORDS
 from forestplan.transcripts.fields import first_line, first_line_of_reactions
 from forestplan.transcripts.reading import line_of
 from forestplan.transcripts.stamps import Clock, unfinished
@@ -149,6 +147,9 @@ class Player(Generic[AnyNode]):
             try:
                 self.make(event)
             except NotPossible as refused:
+                # Only what is refused pays for what the import takes.
+                from forestplan.sentences import WORDS
+
                 missing = missing_words(self.state, event)
                 raise Fault(
                     Code.EVENT_REFUSED,
@@ -191,6 +192,9 @@ def start_without(net: Network, program: Program, without: Collection[str]) -> N
     """The machine at its start, whose nodes run a program under the synchroniser, without some rules."""
     check_repeats(net, program)
     if rules := rules_named(without, OF_SCHEDULES):
+        # Only this option pays for what the import takes.
+        from forestplan.schedules.ruled_node import RuledNode
+
         return NetState(net, partial(RuledNode, without=rules, program=program))
     return alpha_start(net, program)
 

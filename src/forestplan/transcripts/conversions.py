@@ -108,8 +108,6 @@ def as_shiviz(head: Head, entries: Made) -> Iterator[str]:
 
 
 FORMS = {"json": json_lines, "shiviz": as_shiviz}
-# The form that needs a program, too.
-ROUNDS = "rounds"
 
 
 def as_rounds(head: Head, entries: Made, program: str) -> Iterator[str]:

@@ -21,14 +21,15 @@ from forestplan.transcripts.stamps import Clock, check_whole, refusal, unfinishe
 
 
 class FoundOrder:
-    """What is found of entries: those `made`, in an order that is a run, each with its stamp, and the `state` after
-    them; and of each node whose entries can't all be made, those that are `left`, and the code of the refusal of the
+    """What is found of entries: those `made`, in an order that is a run, their `stamps`, and the `state` after them;
+    and of each node whose entries can't all be made, those that are `left`, and the code of the refusal of the
     first one."""
 
     def __init__(self, net: Network, entries: list[Entry], program: AnyProgram) -> None:
         self.entries, self.is_stamped = entries, bool(entries) and entries[0].stamp is not None
         self.state, self.clock = start_of(net, program), Clock(net.neighbours)
         self.made: list[Entry] = []
+        self.stamps: list[int] = []
         self.left: dict[int, deque[Entry]] = {}
         self.refusals: dict[int, Code] = {}
         for entry in entries:
@@ -43,14 +44,19 @@ class FoundOrder:
             self.refusals[v] = refused.code
             return
         stamp = self.clock.next(entry.kind, v, entry.neighbour)
-        last = self.made[-1] if self.made else entry
-        if not self.is_stamped:
-            entry = replace(entry, stamp=stamp)
-        elif entry.stamp != stamp or (last.stamp or 0, last.node) > (stamp, v):
-            self.refusals[v] = Code.WRONG_STAMP
-            return
+        if self.is_stamped:
+            last = self.made[-1] if self.made else entry
+            if entry.stamp != stamp or (last.stamp or 0, last.node) > (stamp, v):
+                self.refusals[v] = Code.WRONG_STAMP
+                return
         self.left[v].popleft()
         self.made.append(entry)
+        self.stamps.append(stamp)
+
+    def stamped(self) -> list[Entry]:
+        """The entries that were made, each with its stamp, by stamp and then by node."""
+        made = [replace(entry, stamp=stamp) for entry, stamp in zip(self.made, self.stamps)]
+        return sorted(made, key=lambda entry: (entry.stamp, entry.node))
 
     def first_refused(self) -> Entry | None:
         """Of the entries that are next and not possible: with stamps the first. Else the first that its own node can't

@@ -5,7 +5,6 @@ from typing import NamedTuple
 from forestplan.definitions.events import ACT, PULSE, PUT, TAKE, Entry, Kind
 from forestplan.fault_codes import Code
 from forestplan.faults import Fault, InText
-from forestplan.sentences import WORDS, sentence_of, sentence_of_entry
 from forestplan.transcripts.fields import (
     COLOURING,
     NoEntry,
@@ -21,6 +20,8 @@ from forestplan.transcripts.fields import (
 NETWORK = (b"p", b"c", b"e", b"i", b"b")
 # The kinds of the entries that name a wire.
 OF_WIRES = {b"put": PUT, b"take": TAKE}
+# The words of a node's own steps.
+OF_OWN_STEPS = {PULSE: b"pulse", ACT: b"act"}
 
 
 class Head(NamedTuple):
@@ -61,13 +62,25 @@ class WrongEntry(Fault):
     def __init__(self, line: int | None, code: Code, **subject: object) -> None:
         super().__init__(code, None if line is None else InText("", line), **subject)
         self.line = line
-        self.word = WORDS[code]
+
+    # Only what is refused pays for what the imports take.
+
+    @property
+    def word(self) -> str:
+        """What is wrong, in a word, as the proved machine has it."""
+        from forestplan.sentences import WORDS
+
+        return WORDS[self.code]
 
     def sentence(self) -> str:
         """What is wrong, without its line and its word."""
+        from forestplan.sentences import sentence_of
+
         return sentence_of(self.code, "", self.subject)
 
     def __str__(self) -> str:
+        from forestplan.sentences import sentence_of_entry
+
         return sentence_of_entry(
             self.code, "" if self.place is None else str(self.place), self.subject
         )
@@ -75,19 +88,19 @@ class WrongEntry(Fault):
 
 def entry_of(line: int, fields: list[bytes], program: str, head: Head) -> Entry:
     """The entry of a line's fields, of which the first is its stamp if the text is stamped."""
-    stamp, own = None, fields
+    stamp, own, own_kind = None, fields, head.own
     if head.is_stamped:
         stamp, own = number_in_field(fields[0], "stamp", 2**64), fields[1:]
     match own:
-        case [node, step, count] if step == head.own.value.encode():
+        case [node, step, count] if step == OF_OWN_STEPS[own_kind]:
             v = number_in_field(node, "node")
-            return Entry(line, v, head.own, None, number_in_field(count, head.own.value), stamp)
+            return Entry(line, v, own_kind, None, number_in_field(count, own_kind.value), stamp)
         case [node, b"put" | b"take" as kind, neighbour, *of_wire] if of_wire:
             v, w = number_in_field(node, "node"), number_in_field(neighbour, "neighbour")
-            wire = message_of(*of_wire) if head.own is ACT else wire_of(program, *of_wire)
+            wire = message_of(*of_wire) if own_kind is ACT else wire_of(program, *of_wire)
             return Entry(line, v, OF_WIRES[kind], w, wire, stamp)
     code = Code.NO_ENTRY_AFTER_STAMP if head.is_stamped else Code.NO_KIND_OF_ENTRY
-    step_words, what = ("act K", "MESSAGE") if head.own is ACT else ("pulse P", "WIRE")
+    step_words, what = ("act K", "MESSAGE") if own_kind is ACT else ("pulse P", "WIRE")
     raise NoEntry(code, words=field_words(b" ".join(own)), step=step_words, what=what)
 
 

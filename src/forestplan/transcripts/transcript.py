@@ -1,10 +1,9 @@
 """`forestlab transcript`: checks, replays and converts transcripts, whoever wrote them."""
 from argparse import ArgumentParser, Namespace
+from collections.abc import Mapping
 import gc
-import json
 import sys
 
-from forestplan import proved_programs
 from forestplan.definitions.own_program import wrong_end
 from forestplan.definitions.program import Program
 from forestplan.definitions.programs import PROGRAMS, add_program, any_program_asked, program_words
@@ -16,7 +15,6 @@ from forestplan.network import Network
 from forestplan.networks.network_text import network_in_bytes
 from forestplan.networks.sources import network_bytes
 from forestplan.parsers import add_command, add_commands, add_output, parser_of
-from forestplan.transcripts.conversions import FORMS, ROUNDS, as_rounds, entries_of
 from forestplan.transcripts.judge import transcript_in_order, not_right, whole_run
 from forestplan.transcripts.reading import WrongEntry
 from forestplan.wording import as_text
@@ -33,6 +31,8 @@ Judges a transcript of a run without a clock, whoever wrote it.
 Status: 0 done, 1 the transcript isn't right, a file can't be read, or forestplay isn't
 built, 2 the command line is refused; else what forestplay ends with.
 """
+# The form that needs a program, too.
+ROUNDS = "rounds"
 # By command: its words, what it does, more of that, and an example.
 COMMANDS = {
     "check": (
@@ -123,7 +123,10 @@ def command_line() -> ArgumentParser:
         command = add_command(commands, f"transcript {name}", *does)
         if name == "convert":
             command.add_argument(
-                "form", choices=[*FORMS, ROUNDS], metavar="FORM", help="json, shiviz or rounds"
+                "form",
+                choices=["json", "shiviz", ROUNDS],
+                metavar="FORM",
+                help="json, shiviz or rounds",
             )
             command.add_argument(
                 "--program",
@@ -169,26 +172,42 @@ def right_verdict(given: Namespace) -> str:
     _, said = whole_run(net, text, program)
     if isinstance(program, Program) and (why := wrong_end(net, program)):
         raise not_right(said, why)
-    return (json.dumps({"right": True, "words": said}) if given.json else said) + "\n"
+    return (as_json({"right": True, "words": said}) if given.json else said) + "\n"
 
 
-def replay_output(given: Namespace) -> str:
-    """What the proved machine prints of a transcript in the order found."""
+def as_json(found: Mapping[str, object]) -> str:
+    # Only this option pays for what the import takes.
+    import json
+
+    return json.dumps(found)
+
+
+def replay(given: Namespace) -> int:
+    """Has the proved machine play a transcript in the order found; returns the status."""
+    # Only this command pays for what the import takes.
+    from forestplan import proved_programs
+
     net, network, text, program = texts_of(given)
     if isinstance(program, Reacting) or program.file is not None:
         raise Fault(Code.NO_PROVED_PROGRAM, name=program.name)
     made, _ = whole_run(net, text, program)
     # The network may not end in a line feed.
-    return proved_programs.output_of(
-        "forestplay",
-        ["replay", *program_words(program)],
-        network + b"\n" + transcript_in_order(made, text),
-    )
+    both = network + b"\n" + transcript_in_order(made, text)
+    command = ["replay", *program_words(program)]
+    try:
+        write_output(given, proved_programs.output_of("forestplay", command, both))
+    except proved_programs.ProgramRefused as why:
+        sys.stderr.write(why.message)
+        return why.status
+    return 0
 
 
 def converted(given: Namespace) -> str:
     if (given.form == ROUNDS) != (given.program is not None):
         raise Fault(Code.PROGRAM_FOR_ROUNDS)
+    # Only this command pays for what the import takes.
+    from forestplan.transcripts.conversions import FORMS, as_rounds, entries_of
+
     head, entries = entries_of(bytes_at(given.transcript, MOST_OF_TRANSCRIPT))
     if given.program is not None:
         return as_text(as_rounds(head, entries, given.program))
@@ -200,12 +219,9 @@ def main(arguments: list[str]) -> int:
     # Nothing that is made here goes round in a circle that would have to be collected before the end.
     gc.disable()
     try:
-        write_output(
-            given,
-            {"check": right_verdict, "replay": replay_output, "convert": converted}[given.command](
-                given
-            ),
-        )
+        if given.command == "replay":
+            return replay(given)
+        write_output(given, right_verdict(given) if given.command == "check" else converted(given))
     except WrongEntry as wrong:
         if getattr(given, "json", False):
             found = {
@@ -214,11 +230,8 @@ def main(arguments: list[str]) -> int:
                 "code": wrong.word,
                 "words": wrong.sentence(),
             }
-            write_output(given, json.dumps(found) + "\n")
+            write_output(given, as_json(found) + "\n")
         else:
             print(wrong, file=sys.stderr)
         return 1
-    except proved_programs.ProgramRefused as why:
-        sys.stderr.write(why.message)
-        return why.status
     return 0
