@@ -539,13 +539,13 @@ MORE = LessonSteps(
             "Two neighbours can become *partners*, and each node has at most one. After pulse 12 each forest has a "
             "turn for each of its three colours, one after another. In the first pulse of a turn all free nodes tell "
             "their parents that they are free. In the second, each free node of the turn's colour takes one of its "
-            "free children. Below a node is the port of its partner. (A port counts a node's neighbours, the lowest "
+            "free children. At a node is the port of its partner. (A port counts a node's neighbours, the lowest "
             "first, from 0.) Press *next change* until the end.",
             SaidExercise(
                 name="alone",
                 asks="Which node has no partner in the end?",
                 right="1",
-                hint="Below a node without a partner is *partner none*.",
+                hint="At a node without a partner is *partner none*.",
                 answer="Node 1. Both its neighbours are partners of each other, so nobody is left for it: the matching "
                 "is *maximal*.",
             ),
@@ -553,7 +553,7 @@ MORE = LessonSteps(
         TableStep(
             "example=path&tab=rounds&program=matching&at=14&node=2&predict=1",
             "In this row of three it was node 3's turn in pulse 14. It has taken its free child, node 2, and the "
-            "message on the link tells node 2 so. Answer with the words that are below a node: *partner none*, or "
+            "message on the link tells node 2 so. Answer with the words that are at a node: *partner none*, or "
             "*partner* and the port.",
             PredictedExercise(
                 name="partner",
@@ -582,7 +582,7 @@ MORE = LessonSteps(
                 name="in",
                 asks="How many of the ten nodes are in the set?",
                 right="3",
-                hint="Count the nodes with *in* below them.",
+                hint="Count the nodes with *in* at them.",
                 answer="Three: 3, 5 and 9. Each of the other seven has one of them as a neighbour, so no further node "
                 "can join.",
             ),
@@ -610,8 +610,8 @@ REACTIONS = LessonSteps(
             "example=triangle&tab=adversary&program=echo",
             "Node 1 wants to know how many nodes there are, and has sent a `wave` to both others. No synchroniser runs "
             "here: a node does something whenever it takes a message, as its file says. The file is next to the "
-            "network, and the function that ran last is marked. Choose messages until nothing is left. Below a node "
-            "is its result.",
+            "network, and the function that ran last is marked. Choose messages until nothing is left. At a node is "
+            "its result.",
             SaidExercise(
                 name="messages",
                 asks="How many messages do the nodes send in all?",

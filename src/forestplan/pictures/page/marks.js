@@ -107,7 +107,7 @@ export function textMark(x, y, wanted, fill, said, more = {}) {
   return mark("text", {x, y: y + 0.36 * size, "font-size": size.toFixed(1), fill, "text-anchor": "middle", ...more},
     String(said));
 }
-// What a node has found, in words below it. In less room than they need, `wide` pixels, they are smaller; then they are
+// What a node has found, in words at it. In less room than they need, `wide` pixels, they are smaller; then they are
 // cut, and whole in their title. Of too few letters nothing is seen.
 /** @param {number} x @param {number} y @param {number} wanted @param {string} said @param {number} wide @returns {Marks} */
 export function resultWords(x, y, wanted, said, wide) {

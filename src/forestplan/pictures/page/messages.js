@@ -17,12 +17,12 @@ export const MESSAGES = {
   shown: (said, isLong) => isLong && said.length <= 16 ? said : said[0] + (said.split(" ")[1] || "").slice(0, 3),
   look: said => ({fill: hueOf(said)[0], stroke: "var(--rim)", ink: hueOf(said)[1], "data-mark": "message"}),
 };
-// A node, with how often it has acted, and below it what it has found.
-/** @param {Stage} stage @param {ReactedLook} is @param {number} x @param {number} y @param {number} r @returns {Marks} */
-export function reactedMarks(stage, is, x, y, r) {
+// A node, with how often it has acted, and at it what it has found.
+/** @param {Stage} stage @param {ReactedLook} is @param {number} v @param {number} x @param {number} y @param {number} r @returns {Marks} */
+export function reactedMarks(stage, is, v, x, y, r) {
   return [mark("circle", {cx: x, cy: y, r, fill: "var(--paper)", stroke: "var(--ink)", "stroke-width": BLANK_RIM, "data-mark": "reacting"}),
     textMark(x, y, r * BLANK_SIZE, "var(--ink)", is.acts || "", {"font-weight": "bold"}),
-    ...resultWords(x, y + r + 14, stage.largest / 2, is.found, stage.roomBelow(x, y))];
+    ...resultWords(x, stage.wordsAt(v, 14), stage.largest / 2, is.found, stage.roomBeyond(v))];
 }
 // What a node has found, how often it has acted and whether it may, in words.
 /** @param {ReactedLook} is @param {boolean} isBrief */

@@ -113,7 +113,7 @@ export class RoundsFilm {
     const [fill, ink] = discOf(colour || 0);
     const disc = colour === null ? blank(x, y, r, v) : [mark("circle", {cx: x, cy: y, r, fill,
       stroke: "var(--ink)", class: "found-colour", "data-mark": "found"}), textMark(x, y, r * BLANK_SIZE, ink, v)];
-    return [...disc, ...resultWords(x, y + r + 12, Math.min(11.5, r), pulse.results[v - 1], stage.roomBelow(x, y))];
+    return [...disc, ...resultWords(x, stage.wordsAt(v, 12), Math.min(11.5, r), pulse.results[v - 1], stage.roomBeyond(v))];
   }
   // The colour of a node in a forest after one of the pulses 2 to 12.
   /** @param {number} p @param {number} v @param {number} forest */

@@ -54,7 +54,7 @@ export function alphaMarks(stage, is, v, x, y, r) {
   const parts = [mark("circle", {cx: x, cy: y, r, fill, stroke: "var(--ink)", "stroke-width": BLANK_RIM, "data-mark": kind}),
     textMark(x, y, r * BLANK_SIZE, "var(--ink)", is.pulse, {"font-weight": "bold"})];
   parts.push(...portMarks(stage, is, v, x, y, r));
-  if (typeof is.found === "string") parts.push(...resultWords(x, y + r + 10, 11, is.found, stage.roomBelow(x, y)));
+  if (typeof is.found === "string") parts.push(...resultWords(x, stage.wordsAt(v, 10), 11, is.found, stage.roomBeyond(v)));
   else if (is.found) parts.push(...channelCircle(x + 0.95 * r, y + 0.75 * r, Math.max(6, r * 0.5), is.found));
   return parts;
 }

@@ -202,26 +202,38 @@ export class Stage {
     if (this.isFresh) this.radius = Math.max(SMALL_RADIUS, SHRINK * this.radius);
     return this.isFresh;
   }
-  // How wide what is written below a node may be, whose circle is here.
-  /** @param {number} x @param {number} y */
-  roomBelow(x, y) { return wordsWide(this.places, [x, y], this.radius, this.least); }
+  // Whether what a node has found is written above it: all its links lead down. Else it is below.
+  /** @param {number} v */
+  isTop(v) {
+    const near = this.near(v), low = this.Y(v) + this.radius;
+    return near.length > 0 && near.every(w => this.Y(w) > low);
+  }
+  // How wide what is written below a node may be, or above it.
+  /** @param {number} v */
+  roomBeyond(v) {
+    const [x, y] = this.place(v), at = this.isTop(v) ? y - 2 * this.radius - WORDS_BELOW - 1 : y;
+    return wordsWide(this.places, [x, at], this.radius, this.least);
+  }
+  // The height at which it is written, so far from the circle.
+  /** @param {number} v @param {number} far */
+  wordsAt(v, far) { return this.Y(v) + (this.isTop(v) ? -1 : 1) * (this.radius + far); }
   carryLabel() {
     const v = this.dragged, [text, side, x, y] = this.spots[v - 1], [toX, toY] = this.places[v - 1], [fromX, fromY] = this.measured[v - 1];
     this.spots[v - 1] = [text, side, x + toX - fromX, y + toY - fromY];
     this.measured[v - 1] = [toX, toY];
   }
-  // Where something else is: words or a pair below nodes, and their barred channels.
+  // Where something else is: words or a pair at nodes, and their barred channels.
   /** @param {boolean} isBelow @param {boolean} hasWords @param {boolean} isBarred @returns {Box[]} */
   taken(isBelow, hasWords, isBarred) {
     const r = this.radius;
     /** @type {Box[]} */
     const found = [];
-    /** @type {(x: number, y: number) => Box} */
-    const below = (x, y) => hasWords ? [x, y + r + WORDS_BELOW / 2, Math.min(44, this.roomBelow(x, y) / 2), WORDS_BELOW / 2]
+    /** @type {(v: number, x: number, y: number) => Box} */
+    const below = (v, x, y) => hasWords ? [x, this.wordsAt(v, WORDS_BELOW / 2), Math.min(44, this.roomBeyond(v) / 2), WORDS_BELOW / 2]
       : [x - 0.45 * r, y + 1.55 * r, 0.9 * r, 0.45 * r];
     this.places.forEach(([x, y], k) => {
       const bars = isBarred ? Math.min(this.net.nodes[k].bars.length, MOST_BARS + 1) : 0;
-      if (isBelow) found.push(below(x, y));
+      if (isBelow) found.push(below(k + 1, x, y));
       if (bars) found.push([x + r - 1 + bars * BAR_STEP / 2, y + r + 5, bars * BAR_STEP / 2, BAR_RADIUS]);
     });
     return found;

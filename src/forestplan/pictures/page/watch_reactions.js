@@ -35,7 +35,7 @@ function messagesAt(stamp) {
 function show(stamp) {
   at = firstOf(run.rows, one => one[0] <= stamp);
   const last = at ? run.rows[at - 1] : null;
-  picture.draw({node: (v, x, y, r) => reactedMarks(picture, lookOf_(v), x, y, r), bars: false, apart: 4.6, below: true,
+  picture.draw({node: (v, x, y, r) => reactedMarks(picture, lookOf_(v), v, x, y, r), bars: false, apart: 4.6, below: true,
     above: () => messagesAt(stamp), says: v => reactedWords(lookOf_(v)), label: v => nameOf(net, v),
     rings: v => [last && last[1] === v && "var(--glow)", v === chosen && "var(--edge)"].filter(isColour)});
   element("when").textContent = "stamp " + Math.floor(stamp);

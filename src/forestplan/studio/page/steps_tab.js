@@ -97,7 +97,7 @@ function nodesDrawn(is) {
     const {nodes} = is;
     return {below: true, says: (/** @type {number} */ v) => reactedWords(nodes[v - 1]),
       node: (/** @type {number} */ v, /** @type {number} */ x, /** @type {number} */ y, /** @type {number} */ r) =>
-        reactedMarks(stage, nodes[v - 1], x, y, r)};
+        reactedMarks(stage, nodes[v - 1], v, x, y, r)};
   }
   // What is asked of a node isn't on the network before it is answered.
   const hidden = hiddenNode(), {looks} = is;

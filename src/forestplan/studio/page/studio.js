@@ -45,11 +45,17 @@ hooks.show = () => {
   document.title = titleSeen();
   by("slider").setAttribute("aria-valuetext", by("when").textContent || "");
   by("legend").hidden = seen.tab === "pictures";
-  const meanings = seen.tab === "adversary" && reacts() ? {ring_good: "it may act now: click it"} : LEGENDS[seen.tab];
-  legend(by("legend"), [stage.svg, by("second")].filter(one => !one.hasAttribute("hidden")), meanings);
+  legend(by("legend"), [stage.svg, by("second")].filter(one => !one.hasAttribute("hidden")), meaningsHere());
   showCard();
   hooks.link();
 };
+// What some marks mean in the tab, of the program that is chosen.
+/** @returns {Record<string, string>} */
+function meaningsHere() {
+  if (seen.tab === "adversary" && reacts()) return {ring_good: "it may act now: click it"};
+  const here = LEGENDS[seen.tab] || {};
+  return seen.tab === "rounds" && seen.program !== "colouring" ? {...here, blank: "a node, with its number"} : here;
+}
 // What is seen is written into the address first: a change to the place that it still says would be none.
 hooks.open = place => {
   const left = hooks.here();
