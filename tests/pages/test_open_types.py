@@ -8,6 +8,7 @@ from tests import TOP
 from tests.cases import FilesCase
 
 FOLDERS = ("src", "build", "tests")
+OPEN = ("Any", "cast")
 # By the file: how many places it has, and the reason.
 LOOSE = {
     "src/forestplan/networks/networkx_graph.py": (
@@ -52,13 +53,29 @@ LOOSE = {
 
 
 def loose_in_python(text: str) -> list[str]:
-    """The words of a module by which a type is left open."""
-    tree = ast.parse(text)
-    names = [node.id for node in ast.walk(tree) if isinstance(node, ast.Name)]
-    return [
-        *(name for name in names if name in ("Any", "cast")),
-        *re.findall(r"# type:\s*ignore\b", text),
-    ]
+    """The words of a module by which a type is left open: as names, as `typing.Any` or imported by another name, and
+    in hints that are written as texts."""
+    found = []
+    for node in ast.walk(ast.parse(text)):
+        match node:
+            case ast.Name(id=name) | ast.Attribute(attr=name) if name in OPEN:
+                found.append(name)
+            case ast.alias(name=name, asname=str()) if name in OPEN:
+                found.append(name)
+            case ast.AnnAssign(annotation=hint) | ast.arg(annotation=hint) | ast.FunctionDef(
+                returns=hint
+            ):
+                found += names_in_text_of(hint)
+    return [*found, *re.findall(r"# type:\s*ignore\b", text)]
+
+
+def names_in_text_of(hint: ast.expr | None) -> list[str]:
+    """The same words of the texts in a hint."""
+    texts = (
+        [node.value for node in ast.walk(hint) if isinstance(node, ast.Constant)] if hint else []
+    )
+    words = [word for text in texts if isinstance(text, str) for word in re.findall(r"\w+", text)]
+    return [word for word in words if word in OPEN]
 
 
 def loose_in_javascript(text: str) -> list[str]:
@@ -78,6 +95,19 @@ FINDERS = {".py": loose_in_python, ".js": loose_in_javascript, ".ts": loose_in_t
 
 
 class Loose(FilesCase):
+    def test_found(self) -> None:
+        """However it is written, an open type is found."""
+        for text, count in (
+            ("from typing import Any\nx: Any = 1", 1),
+            ("import typing\nx: typing.Any = 1", 1),
+            ("import typing as t\nx = t.cast(int, 1)", 1),
+            ("from typing import Any as Other\nx: Other = 1", 1),
+            ('def f(x: "list[Any]") -> "Any": ...', 2),
+            ('x: "list[int]" = [] # type:{} ignore'.format(""), 1),
+            ('x: object = "Any"', 0),
+        ):
+            self.same(text, len(loose_in_python(text)), count)
+
     def test_all_are_listed(self) -> None:
         found = {}
         for folder in FOLDERS:
