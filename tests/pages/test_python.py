@@ -11,7 +11,6 @@ nothing, and no place is above the limits that the linter doesn't have.
   module may call, and each method of a dataclass, has a hint for each parameter and its result."""
 
 import ast
-import os
 import pathlib
 import subprocess
 
@@ -21,14 +20,43 @@ from tests.tools import need
 
 FOLDERS = ("src", "build", "tests", "bench", "examples")
 HINTED = ("network.py", "definitions/", "transcripts/", "networks/", "schedules/")
-# Here a statement gives one value to one name; in one line are swaps, whose values need the old ones, and these pairs.
-ONE_A_LINE = (
-    "src/forestplan/networks/",
-    "src/forestplan/workshop/",
-    "src/forestplan/interface/",
-    "build/",
-)
-PAIRS = {"v w", "x y", "xs ys", "north east"}
+# Here a statement gives one value to one name; in one line are swaps, whose values need the old ones, and these, which
+# belong together: a node and its neighbour, what is across and what is up, the sides of a room, its width and height,
+# and where something begins and ends.
+ONE_A_LINE = ("src/", "build/")
+TOGETHER = {
+    *(
+        "v w",
+        "x y",
+        "xs ys",
+        "north east",
+        "dx dy",
+        "ex ey",
+        "x1 y1",
+        "x2 y2",
+        "x1 x2",
+        "across up",
+        "across down",
+    ),
+    *(
+        "left top",
+        "left right",
+        "top bottom",
+        "right down",
+        "left top right bottom",
+        "x1 y1 x2 y2",
+        "x1 y1 y2",
+    ),
+    *(
+        "wide high",
+        "width height",
+        "self.width self.height",
+        "columns rows",
+        "begin end",
+        "first last",
+    ),
+    *("tip_x tip_y", "end_x end_y", "back_x back_y", "PILL_WIDE PILL_HIGH", "WIDE HIGH"),
+}
 MOST_WAYS, MOST_PARTS, MOST_LOOPS = 12, 4, 2
 
 FUNCTIONS = (ast.FunctionDef, ast.AsyncFunctionDef)
@@ -165,7 +193,7 @@ def is_several(node):
     names = [ast.unparse(name) for name in node.targets[0].elts]
     read = [{ast.unparse(part) for part in ast.walk(value)} for value in node.value.elts]
     needs = any(name in later for at, name in enumerate(names) for later in read[at + 1 :])
-    return not needs and " ".join(names) not in PAIRS
+    return not needs and " ".join(names) not in TOGETHER
 
 
 def called(decorator):
@@ -215,7 +243,7 @@ class Python(FilesCase):
 
     def test_one_assignment_a_line(self):
         for file in files():
-            if file.startswith(ONE_A_LINE) or os.path.dirname(file) in ("src", "src/forestplan"):
+            if file.startswith(ONE_A_LINE):
                 tree = ast.parse(pathlib.Path(TOP, file).read_text())
                 places = [f"{file}:{node.lineno}" for node in ast.walk(tree) if is_several(node)]
                 self.same(f"{file}: several values in one line", places, [])

@@ -103,7 +103,8 @@ class NetState(Generic[AnyNode]):
     def carried(self, event: Event) -> int | Message:
         """What an event carries that is possible now: the number of a node's own step, or the message that is put or
         taken."""
-        v, port = event.node, event.port
+        v = event.node
+        port = event.port
         if v not in self.nodes or port is not None and port >= len(self.nodes[v].ports):
             raise NotPossible(Code.NO_SUCH)
         node = self.nodes[v]
@@ -121,7 +122,8 @@ class NetState(Generic[AnyNode]):
         carried = self.carried(event)
         if what is not None and what is not carried and what != carried:
             raise NotPossible(Code.WRONG_WIRE)
-        v, port = event.node, event.port
+        v = event.node
+        port = event.port
         if port is None or isinstance(carried, int):
             self.nodes[v].act()
         elif event.kind is PUT:
@@ -146,7 +148,8 @@ class NetState(Generic[AnyNode]):
 def missing_words(state: NetState[Node], event: Event) -> str:
     """What comes after the line of an event that isn't possible: what a node's own step waits for, or the out-list or
     the link that is empty."""
-    v, port = event.node, event.port
+    v = event.node
+    port = event.port
     if v not in state.nodes or port is not None and port >= len(state.nodes[v].ports):
         return ""
     if port is not None:

@@ -145,7 +145,8 @@ class Colouring:
         width = self.span + 1
         forest, step = divmod(t, 3 * width)
         if step == 0:
-            self.old, self.chosen = self.merged, set()
+            self.old = self.merged
+            self.chosen = set()
         self.chosen |= {slot.number for slot in inbox if slot}
         if not self.has_turn((forest, *divmod(step, width))):
             return [None] * self.degree
@@ -278,16 +279,20 @@ class AlphaNode(Node):
         if not self.may_act():
             raise NotPossible(Code.NOT_READY)
         sent = self.simulated.next(self.pulse_number + 1, [port.present for port in self.ports])
-        self.pulse_number, self.safe_sent = self.pulse_number + 1, False
+        self.pulse_number = self.pulse_number + 1
+        self.safe_sent = False
         for port in self.ports:
-            port.present, port.early = port.early, None
-            port.safe, port.early_safe = port.early_safe, False
+            port.present = port.early
+            port.early = None
+            port.safe = port.early_safe
+            port.early_safe = False
         self.enter(sent)
 
     def is_due(self, port: Port, wire: Message) -> bool:
         """Whether a wire may come by a port that isn't closed: the 36 cells, as one condition for each word. Which
         refusal it is isn't said."""
-        p, expected = self.pulse_number, self.pulse_number + port.safes()
+        p = self.pulse_number
+        expected = self.pulse_number + port.safes()
         # The pulse to which a neighbour may have come.
         horizon = min(p + 1, self.last) if self.safe_sent else p
         match wire.word, wire.fields:

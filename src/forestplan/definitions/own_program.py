@@ -383,7 +383,8 @@ class OwnNode:
 
     def drawn(self) -> tuple[int | None, int | None]:
         """Colour and port for pictures, if the file says them."""
-        path, drawing = self.of_file.path, self.of_file.drawing
+        path = self.of_file.path
+        drawing = self.of_file.drawing
         if drawing is None:
             return None, None
         where = f"`drawn` of the node of identifier {self.id}"

@@ -57,7 +57,8 @@ def program_at(name: str, lots: str = "1", **options: int | None) -> Program:
 def by_rounds(program: AnyProgram) -> Program:
     """A program, if its nodes make rounds."""
     if isinstance(program, Reacting):
-        path, word = program.file.path, words_taken(program.file)[0]
+        path = program.file.path
+        word = words_taken(program.file)[0]
         raise Fault(Code.NO_ROUNDS, file=path, word=word)
     return program
 

@@ -161,7 +161,8 @@ class ReactingNode(Node):
 
     def play(self, name: str, function: Callable[..., object], *values: object) -> None:
         """It does what a function of the file says."""
-        file, where = self.of_file, self.where(name)
+        file = self.of_file
+        where = self.where(name)
         call(file.path, where, self.react, name, partial(function, self.me, *values))
         if file.asking is not None:
             self.is_able = call(file.path, self.where("may_act"), self.says_able, file.asking)
@@ -199,7 +200,8 @@ class ReactingNode(Node):
 
     def check_variables(self, name: str) -> None:
         """Refuses a function that has changed a variable of the file, of which all copies of the node have one."""
-        file, where = self.of_file, self.where(name)
+        file = self.of_file
+        where = self.where(name)
         if changed := file.changed_variable():
             file.is_changed = True
             raise Fault(Code.VARIABLE_CHANGED, InText(file.path), where=where, name=changed)

@@ -41,7 +41,8 @@ class Recolouring(Sequel):
         """The pulse of the nodes of a colour. When all have had theirs, a sweep begins."""
         sweep, later = divmod(pulse, 1 + self.span)
         if not later:
-            self.old, self.held = self.present(), set()
+            self.old = self.present()
+            self.held = set()
         self.held |= {slot.number for slot in inbox if slot}
         if self.old != order(self.span, self.barring, sweep)[later]:
             return [None] * self.degree

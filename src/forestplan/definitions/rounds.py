@@ -17,7 +17,8 @@ from forestplan.network import Edge, Network
 # A payload that is sent: from, to, and its words.
 Put = tuple[int, int, str, int]
 
-SEED, FIRST_MERGE = 2, 13
+SEED = 2
+FIRST_MERGE = 13
 LAST_COLOUR = FIRST_MERGE - 1
 WORK_NAMES = ["step"] * 4 + ["shift", "drop"] * 3
 

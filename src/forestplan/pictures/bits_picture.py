@@ -9,8 +9,11 @@ from forestplan.pictures.svg import Svg
 from forestplan.wording import counted
 
 RING = "#D55E00"
-FIRST, LAST = 2, 6
-LEFT, TOP, STEP = 150, 106, 84
+FIRST = 2
+LAST = 6
+LEFT = 150
+TOP = 106
+STEP = 84
 # How wide a digit is drawn, of numbers of more digits than these.
 CELLS = ((80, 7), (40, 11), (8, 18), (0, 26))
 
@@ -75,7 +78,8 @@ def draw_pair(
     cell: int,
 ) -> None:
     """The two numbers after a pulse, and what the child makes of them in the next."""
-    (_, own), (_, above) = child, parent
+    _, own = child
+    _, above = parent
     is_last = pulse == LAST
     place = -1 if is_last else bit_step(own, above) // 2
     length = max(digits(own), digits(above))
@@ -85,7 +89,8 @@ def draw_pair(
         svg.note(LEFT - 8, y + 13, f"{label} {node}", 10.5, "end")
         for at in range(length):
             x = LEFT + (most - 1 - at) * cell
-            digit, is_ringed = number >> at & 1, at == place
+            digit = number >> at & 1
+            is_ringed = at == place
             svg.rect(
                 x + 1,
                 y,

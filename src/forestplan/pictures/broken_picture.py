@@ -28,7 +28,9 @@ from forestplan.schedules.ruled_rounds import (
 )
 from forestplan.wording import in_words
 
-MOST_DRAWN, OVER, LEAST_WIDTH = 40, 48, 620
+MOST_DRAWN = 40
+OVER = 48
+LEAST_WIDTH = 620
 
 
 def drawn_by(
@@ -85,7 +87,8 @@ def broken_svg(
     if rounds is None:
         raise Fault(Code.GOES_RIGHT, where=where, without=",".join(without))
     picture = drawn_by(rounds, ruled(program, rounds.net, ()))
-    width, (right, down) = max(picture.width, LEAST_WIDTH), picture.step
+    width = max(picture.width, LEAST_WIDTH)
+    right, down = picture.step
     said = [
         f"{line[0].upper()}{line[1:]}.".replace("'", "’")
         for line in [where, *rounds.sentence().split("\n")]
@@ -140,7 +143,10 @@ class OfForest:
     the one after which it does."""
 
     def __init__(self, pulse: int, *both: RuledRounds) -> None:
-        self.pulse, self.both, self.clash, net = pulse, both, clash_of(both[0]), both[0].net
+        self.pulse = pulse
+        self.both = both
+        self.clash = clash_of(both[0])
+        net = both[0].net
         v: int | None = self.clash.v
         above: list[tuple[int, int | None]] = []
         # A colour after pulse P hangs on P - 2 nodes above it.
@@ -149,7 +155,9 @@ class OfForest:
             v = above[-1][1]
         self.parents = dict(reversed(above))
         block = LEFT + max(pulse - 1, 5) * COLUMN + 24
-        self.width, self.height, self.step = 2 * block, OVER + 32 + len(above) * ROW, (block, 0)
+        self.width = 2 * block
+        self.height = OVER + 32 + len(above) * ROW
+        self.step = (block, 0)
         self.legend = (
             f"Square: the node’s colour in forest {self.clash.forest} after the pulse; grey: still a name. "
             "An arrow leads to the parent."
@@ -189,7 +197,9 @@ class OfMerge:
 
     def __init__(self, *both: RuledRounds) -> None:
         check_size(both[0])
-        self.both, self.clash, self.net = both, clash_of(both[0]), both[0].net
+        self.both = both
+        self.clash = clash_of(both[0])
+        self.net = both[0].net
         self.panel = Panel(self.net)
         self.forest_of = {e: self.net.number[frozenset(e)] for e in self.net.edges}
         room = (
@@ -197,10 +207,14 @@ class OfMerge:
             + 10
         )
         block = self.panel.height + OVER
-        self.width, self.height, self.step = 40 + 3 * PANEL + room, 2 * block, (0, block)
+        self.width = 40 + 3 * PANEL + room
+        self.height = 2 * block
+        self.step = (0, block)
 
     def draw(self, svg: Svg, left: float, top: float, number: int) -> None:
-        rounds, f, left = self.both[number], self.clash.forest, left + 20
+        rounds = self.both[number]
+        f = self.clash.forest
+        left = left + 20
         parents = {v: parent for v in self.net.node_numbers if (parent := self.net.parent(f, v))}
         titles = "channels before this merge", f"colours in forest {f}", "channels after this merge"
         for at, label in enumerate(titles):
@@ -220,8 +234,11 @@ class OfMerge:
 
     def chooses(self, rounds: RuledRounds) -> list[str]:
         """How the two nodes that go wrong choose: in words, two lines for each."""
-        f, without = self.clash.forest, rounds.without
-        three, old, new = rounds.colours[f][-1], rounds.merged[f], rounds.merged[f + 1]
+        f = self.clash.forest
+        without = rounds.without
+        three = rounds.colours[f][-1]
+        old = rounds.merged[f]
+        new = rounds.merged[f + 1]
         turn = {v: (three[v],) if "pair" in without else (three[v], old[v]) for v in three}
         lines = []
         for v in sorted((self.clash.v, self.clash.w), key=lambda v: (turn[v], v)):
@@ -244,12 +261,15 @@ class OfEnd:
     def __init__(
         self, both: tuple[RuledSequel, RuledSequel], found: list[dict[int, ResultNode]]
     ) -> None:
-        self.net, self.faults = both[0].net, [rounds.faults for rounds in both]
+        self.net = both[0].net
+        self.faults = [rounds.faults for rounds in both]
         self.found = found
         self.box = map_box(
             self.net, [one for found in self.found for one in found.values()], LEAST_WIDTH / 2, 0
         )
-        self.width, self.height, self.step = 2 * self.box[0], self.box[1] + OVER, (self.box[0], 0)
+        self.width = 2 * self.box[0]
+        self.height = self.box[1] + OVER
+        self.step = (self.box[0], 0)
         self.legend = f"What each node has found at the end{result_legend(self.found[1])}. Red: what isn’t right."
 
     def draw(self, svg: Svg, left: float, top: float, number: int) -> None:

@@ -16,9 +16,13 @@ from forestplan.pictures.svg import Svg, wrapped
 from forestplan.wording import counted
 
 # Seconds of a round, and of the end; the part of a round after which its messages have arrived.
-ROUND, END, ARRIVED = 1.6, 5.0, 0.8
+ROUND = 1.6
+END = 5.0
+ARRIVED = 0.8
 # Lines of what is said of a round, at most; and the size of its letters, and of a message's.
-LINES, SIZE, MESSAGE = 4, 11.5, 9
+LINES = 4
+SIZE = 11.5
+MESSAGE = 9
 # A picture of more messages is too large for a page.
 MOST_MESSAGES = 1_000
 
@@ -41,7 +45,8 @@ class Film:
     def shown(self, first: int, end: int) -> str:
         """The class of what is shown from a round on, up to another one, or to the end."""
         name = f"s{first}_{end}"
-        at, until = self.part(ROUND * first), self.part(ROUND * end)
+        at = self.part(ROUND * first)
+        until = self.part(ROUND * end)
         steps = "0%{opacity:0}" if first else ""
         steps += at + "{opacity:1}"
         if end < self.scenes:
@@ -51,7 +56,8 @@ class Film:
 
     def moving(self, number: int) -> str:
         """The class of the messages of a round, which move by --x and --y."""
-        name, begin = f"m{number}", ROUND * number
+        name = f"m{number}"
+        begin = ROUND * number
         there = "transform:translate(var(--x),var(--y))"
         self.styles[name] = (
             f"0%,{self.part(begin)}{{opacity:0;transform:none}}"
@@ -159,7 +165,8 @@ def draw_message(
 ) -> None:
     """A message, at its sender: its number in a pill."""
     sender, receiver, word, number = put
-    (x, y), (to_x, to_y) = drawn.places[sender], drawn.places[receiver]
+    x, y = drawn.places[sender]
+    to_x, to_y = drawn.places[receiver]
     with svg.group(
         style,
         f"round {pulse.number}: {word} {number} from {sender} to {receiver}",

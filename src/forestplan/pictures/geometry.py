@@ -26,10 +26,15 @@ LETTER = 0.6
 # Digits are wider: a label has so much more room.
 MORE_FOR_DIGITS = 1.07
 # What is at least between a circle and an edge that passes it, in radii and in pixels.
-PASSING, LEAST_PASSING = 0.3, 3.0
+PASSING = 0.3
+LEAST_PASSING = 3.0
 # How far an edge is bent at least, in its lengths, besides what it passes; by how much farther each time, and how often
 # that is tried; and how far at most, in its lengths and in what it passes.
-BENT, FARTHER, TRIES, MOST_BENT, MOST_PASSED = 0.03, 1.3, 12, 0.35, 2.0
+BENT = 0.03
+FARTHER = 1.3
+TRIES = 12
+MOST_BENT = 0.35
+MOST_PASSED = 2.0
 # A bend that leaves the room is as bad as one that passes a node by so many pixels less.
 OUTSIDE = 1000.0
 # An edge is looked at as so many straight pieces.
@@ -44,14 +49,17 @@ SIGHT = 3.0
 # The most columns and rows of a grid.
 MOST_CELLS = 256
 # A text of about this half width is as near to its node at the side as above it; a wider one is moved aside.
-SHORT, LITTLE = 5.0, 1.5
+SHORT = 5.0
+LITTLE = 1.5
 # The order in which a label tries the sides of its node, which are counted clockwise from the top; and the sines of a
 # quarter of them.
 UPPER_FIRST = (2, 14, 1, 15, 3, 13, 0, 4, 12, 6, 10, 5, 11, 7, 9, 8)
 SINES = (0.0, 0.382683432, 0.707106781, 0.923879533, 1.0)
 # What is at least between a circle and what is written, what is usual, and how much nearer a label may be if there is
 # no room for it.
-BESIDE, USUALLY, NEARER = 2.0, 5.0, 2.5
+BESIDE = 2.0
+USUALLY = 5.0
+NEARER = 2.5
 # How much farther out the corner of a square is than its sides, in halves of a side; of a circle nothing is.
 CORNER = 0.8
 # How many times as near a label is to its own node as to any other one, if it can be.
@@ -60,16 +68,26 @@ CLEARLY = 1.5
 SURELY = 3.0
 # On a page circles have at most this part of the room as their radius, of its width and of its height; and so many
 # times their usual radius.
-PART_OF_ROOM, PART_OF_WIDTH, PART_OF_HEIGHT, MUCH_ROOM = 18.0, 16.0, 10.0, 1.4
+PART_OF_ROOM = 18.0
+PART_OF_WIDTH = 16.0
+PART_OF_HEIGHT = 10.0
+MUCH_ROOM = 1.4
 # How far below a node the pair of its turn is drawn, in radii.
 PAIR_BELOW = 2.1
 # What rings take around a circle, a label above it, and words below it; half the width of these. The least size of a
 # label.
-AROUND, LABEL_HIGH, WORDS_BELOW, WORDS_HALF, LEAST_LABEL = 8.0, 14.0, 18.0, 46.0, 10.0
+AROUND = 8.0
+LABEL_HIGH = 14.0
+WORDS_BELOW = 18.0
+WORDS_HALF = 46.0
+LEAST_LABEL = 10.0
 # Circles are smaller by this, so many times at most, if an edge would run through one of them.
-SHRINK, SHRINKS = 0.88, 6
+SHRINK = 0.88
+SHRINKS = 6
 # On a page circles are never smaller; and up to this radius they may be so near to each other, in radii.
-LEAST_RADIUS, SMALL_RADIUS, NEAREST = 5.0, 8.0, 2.4
+LEAST_RADIUS = 5.0
+SMALL_RADIUS = 8.0
+NEAREST = 2.4
 # Half the width of an arrow's head, in its lengths.
 HEAD = 0.42
 # A message's pill: what is to the left and to the right of its words together, and above and below them.
@@ -541,14 +559,16 @@ def spot_of(
         half_wide, half_high = texts[text]
         for nearer in (0.0, NEARER):
             distance = radius + USUALLY - nearer + half_high
-            best, most = -1, -inf
+            best = -1
+            most = -inf
             for side in UPPER_FIRST:
                 box = box_beside(place, side, distance, corner, half_wide, half_high)
                 covered = covered_by(box, circles, radius + BESIDE, boxes)
                 if covered <= 0 and is_own(box, place, others) and is_within(box, wide, high):
                     room = room_at(box, place, others, points, boxes, distance, near)
                     if room > most + 1:
-                        best, most = side, room
+                        best = side
+                        most = room
             if best >= 0:
                 box = box_beside(place, best, distance, corner, half_wide, half_high)
                 return (text, best, box[0], box[1])
@@ -611,7 +631,9 @@ def arrow_head(tip: Point, direction: Point, size: float) -> list[Point]:
     x, y = tip
     length = apart_by(direction[0], direction[1])
     dx, dy = (0.0, 0.0) if length <= 0 else (direction[0] / length, direction[1] / length)
-    back_x, back_y, half = x - dx * size, y - dy * size, size * HEAD
+    back_x = x - dx * size
+    back_y = y - dy * size
+    half = size * HEAD
     return [tip, (back_x - dy * half, back_y + dx * half), (back_x + dy * half, back_y - dx * half)]
 
 

@@ -7,10 +7,13 @@ from math import sqrt
 from forestplan.network import Network
 
 # Each node pays attention to those near to it, and to some that are far apart.
-NEAR, LANDMARKS = 3, 32
-SWEEPS, STILL = 200, 0.001
+NEAR = 3
+LANDMARKS = 32
+SWEEPS = 200
+STILL = 0.001
 # Of a large network not as many, so that it is laid out in seconds: the pulls of all nodes times the sweeps.
-MOST_PULLS, LEAST_SWEEPS = 2_000_000, 20
+MOST_PULLS = 2_000_000
+LEAST_SWEEPS = 20
 SPACE = 1.0
 
 
@@ -23,7 +26,8 @@ def laid_out(network: Network) -> dict[int, tuple[float, float]]:
 
 def parts_of(network: Network) -> list[list[int]]:
     """The nodes of each connected part, ascending."""
-    seen, parts = set(), []
+    seen = set()
+    parts = []
     for v in network.node_numbers:
         if v not in seen:
             part = sorted(distances(network.neighbours, v))
@@ -36,7 +40,9 @@ def distances(
     neighbours: dict[int, list[int]], start: int, most: int | None = None
 ) -> dict[int, int]:
     """{node: edges on a shortest way to it}, up to a number of edges."""
-    found, layer, far = {start: 0}, [start], 0
+    found = {start: 0}
+    layer = [start]
+    far = 0
     while layer and far != most:
         far += 1
         layer = [w for v in layer for w in neighbours[v] if found.setdefault(w, far) == far]
@@ -61,9 +67,8 @@ def landmarks_of(network: Network, part: list[int]) -> list[tuple[int, dict[int,
 
 def placed(network: Network, part: list[int]) -> dict[int, complex]:
     """The places of one part."""
-    landmarks, pulls = landmarks_of(network, part), {
-        v: distances(network.neighbours, v, NEAR) for v in part
-    }
+    landmarks = landmarks_of(network, part)
+    pulls = {v: distances(network.neighbours, v, NEAR) for v in part}
     for mark, ways in landmarks:
         for v, far in ways.items():
             pulls[v][mark] = pulls[mark][v] = far
@@ -96,9 +101,12 @@ def relaxed(
     for _ in range(min(SWEEPS, max(LEAST_SWEEPS, MOST_PULLS // max(1, count)))):
         moved = 0.0
         for v, ways in pulls.items():
-            place, wanted, weights = places[v], 0j, 0.0
+            place = places[v]
+            wanted = 0j
+            weights = 0.0
             for w, far in ways:
-                away, weight = place - places[w], 1 / (far * far)
+                away = place - places[w]
+                weight = 1 / (far * far)
                 wanted += weight * (places[w] + away * (far / (abs(away) or 1)))
                 weights += weight
             places[v] = wanted / (weights or 1)
@@ -118,7 +126,8 @@ def upright(network: Network, places: dict[int, complex]) -> dict[int, complex]:
     _, wide, high = box_around(turned)
     if high > wide:
         turned = {v: place * 1j for v, place in turned.items()}
-    first, centre = turned[min(turned)], sum(turned.values()) / len(turned)
+    first = turned[min(turned)]
+    centre = sum(turned.values()) / len(turned)
     across, down = (-1 if first.real > centre.real else 1), (-1 if first.imag > centre.imag else 1)
     return {v: complex(across * place.real, down * place.imag) for v, place in turned.items()}
 
@@ -131,12 +140,17 @@ def in_rows(parts: list[dict[int, complex]]) -> dict[int, complex]:
         max(wide for _, wide, _ in boxes),
     )
     found: dict[int, complex] = {}
-    left, top, tallest = 0.0, 0.0, 0.0
+    left = 0.0
+    top = 0.0
+    tallest = 0.0
     for places, (corner, wide, high) in zip(parts, boxes):
         if left and left + wide > row:
-            left, top, tallest = 0.0, top + tallest + SPACE, 0.0
+            left = 0.0
+            top = top + tallest + SPACE
+            tallest = 0.0
         found |= {v: place - corner + complex(left, top) for v, place in places.items()}
-        left, tallest = left + wide + SPACE, max(tallest, high)
+        left = left + wide + SPACE
+        tallest = max(tallest, high)
     return found
 
 

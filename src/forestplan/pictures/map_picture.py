@@ -20,7 +20,8 @@ from forestplan.pictures.places import box_height, places_of
 from forestplan.pictures.svg import Svg, text_width
 from forestplan.wording import counted
 
-MARGIN, GAP = 48, 3
+MARGIN = 48
+GAP = 3
 # The colour and the width of an edge.
 EDGE = SOFT, 1.4
 
@@ -39,7 +40,8 @@ class MapNode:
 
     def __init__(self, network: Network, v: int) -> None:
         number = str(network.identifiers[v]) if network.identifiers[v] != v else ""
-        self.v, self.bars = v, network.bars.get(v, [])
+        self.v = v
+        self.bars = network.bars.get(v, [])
         self.title = f"node {v}" + (f", identifier {number}" if number else "")
         self.size = 8.5 if network.nodes > LARGE else 12
         number = number if len(number) <= 12 else number[:5] + "…" + number[-5:]
@@ -65,7 +67,8 @@ class MapNode:
 
     def draw_beside(self, svg: Svg, spot: Point) -> None:
         """Its words, and its barred channels."""
-        left, width = spot[0] - self.room() / 2, text_width(self.label, self.size)
+        left = spot[0] - self.room() / 2
+        width = text_width(self.label, self.size)
         if self.label:
             svg.text(
                 left + width / 2,
@@ -92,7 +95,8 @@ def begun(
     network: Network, nodes: Mapping[int, MapNode], title: str, *heading: str
 ) -> tuple[Svg, Box]:
     """A picture with its heading, as wide as that and the map need; and the map's box."""
-    svg, top = Svg(0, 0, title), 26 + 16 * len(heading)
+    svg = Svg(0, 0, title)
+    top = 26 + 16 * len(heading)
     svg.heading(*heading)
     svg.width, height, *_ = box = map_box(network, nodes.values(), svg.width, top)
     svg.height = top + height + 10
@@ -102,7 +106,8 @@ def begun(
 def map_box(network: Network, nodes: Iterable[MapNode], least: float, top: float) -> Box:
     """The box of a map, at least so wide: width, height, how much of the width is for what is beside the circles on
     each side, and its upper edge."""
-    beside, width = max(one.room() for one in nodes), width_of_map(network)
+    beside = max(one.room() for one in nodes)
+    width = width_of_map(network)
     height = min(640, box_height(places_of(network), width, MARGIN, 130))
     return max(width + 2 * beside, least), height, beside, top
 

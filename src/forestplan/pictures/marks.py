@@ -41,7 +41,8 @@ from forestplan.pictures.places import OF_CIRCLES, Places, moved_places, spaced
 from forestplan.pictures.svg import Svg
 
 # Maps of more nodes than these are wider, and of more than the second have smaller circles and straight edges.
-SMALL, LARGE = 12, 40
+SMALL = 12
+LARGE = 40
 
 
 Value = TypeVar("Value")
@@ -77,7 +78,8 @@ def blank_circle(
     svg: Svg, x: float, y: float, radius: float, said: int | str, fill: str = PAPER
 ) -> None:
     """A node without a channel, or one that is filled: its number."""
-    mark, size = "blank" if fill == PAPER else "filled", radius * BLANK_SIZE
+    mark = "blank" if fill == PAPER else "filled"
+    size = radius * BLANK_SIZE
     svg.circle(x, y, radius, fill, INK, BLANK_RIM, mark=mark)
     svg.label(x, y + 0.36 * size, said, round(size, 1), text_on(fill) if fill != PAPER else INK)
 
@@ -138,7 +140,8 @@ def colour_square(
 ) -> None:
     """A colour of 0 to 5 in one forest; or a name, or another number that is no such colour yet: grey, darker the
     longer it is."""
-    is_grey, text = is_name or colour >= len(FOREST_COLOURS), short(colour)
+    is_grey = is_name or colour >= len(FOREST_COLOURS)
+    text = short(colour)
     fill, ink = (
         grey(colour) if is_grey else (FOREST_COLOURS[colour], text_on(FOREST_COLOURS[colour]))
     )
@@ -186,12 +189,14 @@ class Map:
         top: float = 0,
     ) -> None:
         places, self.radius = spaced(places, width, height, margin, radius, least, apart)
-        self.network, self.places = network, moved_places(places, left, top)
+        self.network = network
+        self.places = moved_places(places, left, top)
         self.labels: Places = {}
         # By how much the point is moved aside towards which each edge that is bent is drawn.
         self.bend: dict[Edge, Point] = {}
         if network.nodes <= LARGE:
-            edges, room = list(network.edges), (left, top, left + width, top + height)
+            edges = list(network.edges)
+            room = (left, top, left + width, top + height)
             self.radius = radius_passed(self.all_places(), edges, self.radius, room)
             bends = bends_of(self.all_places(), edges, self.radius, room)
             self.bend = {edge: bend for edge, bend in zip(edges, bends) if bend is not None}
@@ -216,9 +221,8 @@ class Map:
     def at(self: Drawing, left: float, top: float) -> Drawing:
         """The same map elsewhere."""
         other = copy(self)
-        other.places, other.labels = moved_places(self.places, left, top), moved_places(
-            self.labels, left, top
-        )
+        other.places = moved_places(self.places, left, top)
+        other.labels = moved_places(self.labels, left, top)
         return other
 
     def edge(
@@ -233,7 +237,9 @@ class Map:
         mark: str = "edge",
     ) -> None:
         """An edge from a to b; with a head, an arrow whose tip is at this distance of b."""
-        (x1, y1), (x2, y2), (mx, my) = (self.places[a], self.places[b], self.towards(a, b))
+        x1, y1 = self.places[a]
+        x2, y2 = self.places[b]
+        mx, my = self.towards(a, b)
         ex, ey = x2 - mx, y2 - my
         length = sqrt(ex * ex + ey * ey) or 1
         ex, ey = ex / length, ey / length

@@ -22,7 +22,12 @@ MODULES = ("marks", "legend", "stage", "time", "rounds", "run")
 MORE = {"watch_reactions": ("messages",)}
 # In pixels of a large screen; the radius of a node at most and at least (of a hundred and fewer; of more all are
 # smaller), and how many radii two are apart.
-WIDE, HIGH, MARGIN, RADIUS, LEAST, APART = 1000, 700, 70, 22, 9, 3
+WIDE = 1000
+HIGH = 700
+MARGIN = 70
+RADIUS = 22
+LEAST = 9
+APART = 3
 # The most digits of an identifier that are written.
 MOST_DIGITS = 8
 

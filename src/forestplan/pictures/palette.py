@@ -5,10 +5,14 @@ tritanopia (Machado's simulation) are 16 and more for any two channels, 22 and m
 What a mark looks like is decided here, for stored pictures and for pages. The pages get it as the module hues.js."""
 from typing import NamedTuple
 
-INK, SOFT, PAPER = "#1B1B1B", "#6B6B6B", "#FFFFFF"
+INK = "#1B1B1B"
+SOFT = "#6B6B6B"
+PAPER = "#FFFFFF"
 # Numbers on fills: INK has too little contrast on some of them.
 BLACK = "#000000"
-BAND, BORDER, PULSE = "#F3EFE4", "#B7A98A", "#7A6A45"
+BAND = "#F3EFE4"
+BORDER = "#B7A98A"
+PULSE = "#7A6A45"
 WRONG = "#CC0000"
 FONT = "DejaVu Sans, Verdana, Arial, sans-serif"
 
@@ -35,17 +39,25 @@ DARK_FILLS = {"#0072B2", "#444444", "#004488", "#994455"}
 
 # How large a number is: in radii of its circle, or in halves of the side of its square, by the letters that it has. The
 # last of the sizes is that of all longer numbers. In a ring a number is smaller.
-CHANNEL_SIZES, SQUARE_SIZES, BAR_SIZES = (1.12, 0.92), (1.1, 1.1, 0.8), (1.2, 1.0, 0.8, 0.62)
+CHANNEL_SIZES = (1.12, 0.92)
+SQUARE_SIZES = (1.1, 1.1, 0.8)
+BAR_SIZES = (1.2, 1.0, 0.8, 0.62)
 IN_RING = 0.85
 # How wide a ring is: in radii, and at least.
-RING_WIDTH, LEAST_RING = 0.25, 2
+RING_WIDTH = 0.25
+LEAST_RING = 2
 # How wide the rim of a node without a channel is, and that of a message; and how large the number of such a node is, in
 # radii.
-BLANK_RIM, PILL_RIM, BLANK_SIZE = 1.6, 1.6, 0.9
+BLANK_RIM = 1.6
+PILL_RIM = 1.6
+BLANK_SIZE = 0.9
 # The radius of a barred channel beside a node, and what is between two of them.
-BAR_RADIUS, BAR_GAP = 9, 2
+BAR_RADIUS = 9
+BAR_GAP = 2
 # A ring around a node: how wide it is, what is between it and the node, and how much farther out the next one is.
-OUTER_RING, RING_GAP, NEXT_RING = 3.5, 1.5, 4.5
+OUTER_RING = 3.5
+RING_GAP = 1.5
+NEXT_RING = 4.5
 # The most barred channels of a node that are drawn.
 MOST_BARS = 4
 # A number of more digits than these is written as the number of its binary digits.
@@ -91,7 +103,8 @@ class ChannelLook(NamedTuple):
 
 
 def channel_look(channel: int) -> ChannelLook:
-    hue, is_ringed = channel_hue(channel), is_ring(channel)
+    hue = channel_hue(channel)
+    is_ringed = is_ring(channel)
     size = size_in(CHANNEL_SIZES, str(channel)) * (IN_RING if is_ringed else 1)
     return ChannelLook(hue, is_ringed, INK if is_ringed else text_on(hue), size)
 

@@ -7,7 +7,8 @@ from forestplan.pictures.places import OF_SQUARES, Places, box_height, places_of
 from forestplan.pictures.svg import Svg, text_width
 
 PANEL = 250
-FAINT, BEFORE = "#E6E6E6", "#9A9A9A"
+FAINT = "#E6E6E6"
+BEFORE = "#9A9A9A"
 
 
 class Panel(Map):
@@ -16,7 +17,8 @@ class Panel(Map):
     def __init__(self, network: Network) -> None:
         self.is_large = network.nodes > LARGE
         radius, least = by_size(network, (4.5, 3), (10, 7), (13, 10))
-        places, margin = places_of(network), 14 if self.is_large else 34
+        places = places_of(network)
+        margin = 14 if self.is_large else 34
         self.height = box_height(places, PANEL, margin, 100)
         super().__init__(network, places, PANEL, self.height, margin, radius, least, OF_SQUARES)
         if not self.is_large:
@@ -27,7 +29,9 @@ class Panel(Map):
         self, svg: Svg, left: float, top: float, parents: dict[int, int], colours: dict[int, int]
     ) -> None:
         """A forest's edges as arrows to the parents, and colours in it; a pale chip where a node has no edge."""
-        drawn, radius, thin = self.at(left, top), self.radius, 0.6 if self.is_large else 1
+        drawn = self.at(left, top)
+        radius = self.radius
+        thin = 0.6 if self.is_large else 1
         joined = {v for edge in parents.items() for v in edge}
         for v, w in self.network.edges:
             if parents.get(v) != w and parents.get(w) != v:
@@ -53,7 +57,8 @@ class Panel(Map):
     ) -> None:
         """The channels once the forests up to `last` are merged: edges of forest `now` in ink, of others in grey; red
         is what has one channel."""
-        drawn, thin = self.at(left, top), 0.6 if self.is_large else 1
+        drawn = self.at(left, top)
+        thin = 0.6 if self.is_large else 1
         wrong = {(v, w) for v, w in self.network.edges if merged[v] == merged[w]}
         wrong = {e for e in wrong if forest_of[e] <= last}
         for e in sorted(self.network.edges, key=lambda e: (forest_of[e] <= last, forest_of[e])):

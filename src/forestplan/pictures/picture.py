@@ -109,7 +109,9 @@ class Source:
 
     def run(self, is_wrong_drawn: bool | None = False) -> Run:
         """The run of a transcript."""
-        text, network, program = self.text("transcript"), self.network, self.program
+        text = self.text("transcript")
+        network = self.network
+        program = self.program
         found = ordered(text.text, text.name, network, program, is_wrong_drawn)
         return Run(self.title or stem(text.name), network, program, *found)
 

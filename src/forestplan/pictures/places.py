@@ -11,7 +11,8 @@ Places = dict[int, Point]
 LARGEST_CIRCLE = 6
 # How far apart two nodes are at least, in radii: circles don't touch then; and neither do squares of twice that
 # width.
-OF_CIRCLES, OF_SQUARES = 2.3, 2.95
+OF_CIRCLES = 2.3
+OF_SQUARES = 2.95
 PUSHES = 200
 
 
@@ -94,13 +95,15 @@ def pushed_apart(places: Places, near: Iterable[Edge], least: float) -> Places:
     """Moves each of the near pairs apart, along its line; a pair on one point in a direction of its own."""
     places = dict(places)
     for v, w in near:
-        (x1, y1), (x2, y2) = places[v], places[w]
+        x1, y1 = places[v]
+        x2, y2 = places[w]
         far = gap(places[v], places[w])
         dx, dy = (
             ((x2 - x1) / far, (y2 - y1) / far) if far > 1e-6 else turned((5 * v + 3 * w) % 16 / 16)
         )
         push = max(0, (least - far) / 2 + 0.01)
-        places[v], places[w] = (x1 - dx * push, y1 - dy * push), (x2 + dx * push, y2 + dy * push)
+        places[v] = (x1 - dx * push, y1 - dy * push)
+        places[w] = (x2 + dx * push, y2 + dy * push)
     return places
 
 

@@ -17,11 +17,13 @@ class Planned(MapNode):
 
     def __init__(self, network: Network, v: int, channel: int) -> None:
         super().__init__(network, v)
-        self.channel, self.label = channel, f"{v} {short_name(network, v)}".rstrip()
+        self.channel = channel
+        self.label = f"{v} {short_name(network, v)}".rstrip()
         said = f", barred {', '.join(map(str, self.bars))}" if self.bars else ""
         self.title = f"node {self.label}: channel {channel}{said}"
         if network.nodes > LARGEST_NUMBERED:
-            self.label, self.bars = "", []
+            self.label = ""
+            self.bars = []
 
 
 def plan_svg(network: Network, plan: dict[int, int]) -> str:

@@ -64,7 +64,8 @@ def film_of(rounds: ColouringRounds | ProgramRounds) -> RoundsFound:
 
 def pulse_of_colouring(rounds: ColouringRounds, pulse: Pulse) -> PulseOfColouring:
     title, said = caption(rounds, pulse.number)
-    forests, colours = range(rounds.forests), None
+    forests = range(rounds.forests)
+    colours = None
     if pulse.colours:
         colours = [
             [script_number(pulse.colours[v, f]) for f in forests]
@@ -108,11 +109,11 @@ def script_number(value: int) -> Numeral:
 
 def caption(rounds: ColouringRounds, number: int) -> tuple[str, str]:
     """The title of a pulse, and a sentence of what is done in it."""
-    pulse, forests = rounds.pulses[number], rounds.forests
+    pulse = rounds.pulses[number]
+    forests = rounds.forests
     # The pulses 8, 10 and 12 drop the colours 5, 4 and 3.
-    title, said = f"pulse {number} of {rounds.last} · {pulse.phase}", SAY[pulse.phase].format(
-        9 - number // 2
-    )
+    title = f"pulse {number} of {rounds.last} · {pulse.phase}"
+    said = SAY[pulse.phase].format(9 - number // 2)
     if not forests and number >= SEED:
         least = "the least channel that isn't barred" if rounds.network.bars else "channel 1"
         return title, "No node has a neighbour, so there is no forest" + (

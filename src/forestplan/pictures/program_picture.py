@@ -7,12 +7,16 @@ from forestplan.pictures.program_rounds import ProgramRounds
 from forestplan.pictures.svg import Svg, text_width
 
 MOST_COLUMNS = 60
-LEFT, TOP, ROW, SIZE = 64, 112, 46, 11
+LEFT = 64
+TOP = 112
+ROW = 46
+SIZE = 11
 
 
 def program_svg(rounds: ProgramRounds, pulses: tuple[int, int] | None = None) -> str:
     """All pulses at which something is sent or found, or those of A to B."""
-    network, shown = rounds.network, drawn_pulses(rounds, pulses)
+    network = rounds.network
+    shown = drawn_pulses(rounds, pulses)
     at_most(
         "rounds",
         len(shown),
@@ -22,7 +26,8 @@ def program_svg(rounds: ProgramRounds, pulses: tuple[int, int] | None = None) ->
     )
     results = [result for pulse in rounds.pulses for result in pulse.results.values()]
     column = max(88, max(text_width(result, SIZE) for result in results) + 22)
-    height, undrawn = network.nodes * ROW, rounds.last + 1 - len(shown)
+    height = network.nodes * ROW
+    undrawn = rounds.last + 1 - len(shown)
     svg = Svg(
         max(LEFT + len(shown) * column + 24, 760),
         TOP + height + 30,

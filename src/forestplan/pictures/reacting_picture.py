@@ -12,7 +12,11 @@ from forestplan.pictures.svg import Svg, text_width
 from forestplan.pictures.transcripts import Wire, stamp_of, wires_by_stamp
 from forestplan.wording import counted
 
-TOP, ROW, SCALE, LEFT, WIDEST = 112, 78, 40, 64, 1214
+TOP = 112
+ROW = 78
+SCALE = 40
+LEFT = 64
+WIDEST = 1214
 MOST_STEPS = 200
 TIME_WORDS = (
     "Time is the transcript's stamps, by Lamport's clock: one more than the node's last, and of a take also than the "
@@ -95,7 +99,8 @@ def draw_results(
     }
     for entry in made:
         make_entry(state, entry)
-        v, x = entry.node, window.x(stamp_of(entry))
+        v = entry.node
+        x = window.x(stamp_of(entry))
         if entry.neighbour is None:
             y = window.y(v)
             svg.line(x, y - 10, x, y + 10, INK, 3.4, mark="tick")

@@ -53,7 +53,9 @@ class Watched:
             if entry.neighbour is None or entry.kind is not PUT:
                 continue
             assert isinstance(entry.what, Message)
-            v, w, later = entry.node, entry.neighbour, takes.get((entry.node, entry.neighbour))
+            v = entry.node
+            w = entry.neighbour
+            later = takes.get((entry.node, entry.neighbour))
             take = later.popleft() if later else None
             stamp = None if take is None else stamp_of(made[take])
             yield WireRow(v, w, self.text(str(entry.what)), at, stamp_of(entry), take, stamp)

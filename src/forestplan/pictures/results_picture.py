@@ -14,7 +14,8 @@ from forestplan.wording import counted
 
 # Programs whose colours are channels: in the circle is the channel, and the node's number beside it; and those of which
 # the marks show all.
-OF_CHANNELS, SHOWN = (Colouring, Recolouring), (Matching, IndependentSet)
+OF_CHANNELS = (Colouring, Recolouring)
+SHOWN = (Matching, IndependentSet)
 
 
 class ResultNode(MapNode):
@@ -28,7 +29,8 @@ class ResultNode(MapNode):
         node = rounds.nodes[v]
         self.result = node.result()
         self.colour, self.other = rounds.pulses[-1].drawn.get(v, (None, None))
-        self.has_channel, is_shown = isinstance(node, OF_CHANNELS), isinstance(node, SHOWN)
+        self.has_channel = isinstance(node, OF_CHANNELS)
+        is_shown = isinstance(node, SHOWN)
         self.before = node.first.merged if isinstance(node, Recolouring) else self.colour
         if self.colour is not None and self.has_channel:
             self.channel = self.colour + 1
@@ -57,7 +59,8 @@ def found_in(rounds: ProgramRounds) -> dict[int, ResultNode]:
 
 
 def results_svg(rounds: ProgramRounds) -> str:
-    network, found = rounds.network, found_in(rounds)
+    network = rounds.network
+    found = found_in(rounds)
     lines = [
         f"What each node has found after pulse {rounds.last}{result_legend(found)}.",
         counts(found, network) + ".",

@@ -14,10 +14,16 @@ from forestplan.pictures.svg import Svg, text_width
 if TYPE_CHECKING:
     from forestplan.pictures.why_picture import Cone
 
-MOST_ROWS, USUAL_ROWS = 400, 40
-COLUMN, ROW, LEFT, TOP = 27, 27, 112, 100
-FULL_STEPS, SQUARE = 40, COLUMN / 2 - 2.5
-HEAD, FOOT = 68, 30
+MOST_ROWS = 400
+USUAL_ROWS = 40
+COLUMN = 27
+ROW = 27
+LEFT = 112
+TOP = 100
+FULL_STEPS = 40
+SQUARE = COLUMN / 2 - 2.5
+HEAD = 68
+FOOT = 30
 BAR = 8
 GROUPS = [
     (2, 2, "start"),
@@ -172,8 +178,14 @@ class Strip:
         column: int,
         cone: "Cone | None",
     ) -> None:
-        self.svg, self.rounds, self.forest, self.top, self.cone = svg, rounds, forest, top, cone
-        self.steps, self.column, self.nodes = steps, column, rounds.network.nodes
+        self.svg = svg
+        self.rounds = rounds
+        self.forest = forest
+        self.top = top
+        self.cone = cone
+        self.steps = steps
+        self.column = column
+        self.nodes = rounds.network.nodes
         self.right = MERGES + len(steps) * column + 44 + bars_room(rounds.network)
 
     def row(self, v: int) -> float:
@@ -215,7 +227,8 @@ class Strip:
 
     def merge(self, is_full: bool) -> None:
         """Right: who chooses at which step, with a pale line of the channel that each node has before and after."""
-        svg, top = self.svg, self.top
+        svg = self.svg
+        top = self.top
         label = f"merge of forest {self.forest}"
         svg.text(MERGES, top + 20, label, 13.5, INK, bold=True)
         if not is_full:
@@ -237,11 +250,13 @@ class Strip:
 
     def step_heads(self) -> None:
         """Pulse numbers, and the pair (colour in this forest, merged colour) whose turn it is."""
-        svg, before = self.svg, None
+        svg = self.svg
+        before = None
         svg.note(MERGES - 6, self.top + 36, "K", 9.5, "end")
         svg.note(MERGES - 6, self.top + 50, "J", 9.5, "end")
         for index, pulse in enumerate(self.steps):
-            x, (_, colour, old) = MERGES + index * self.column, pulse.turn()
+            x = MERGES + index * self.column
+            _, colour, old = pulse.turn()
             if colour != before:
                 if index:
                     svg.line(x, self.top + 26, x, self.top + HEAD + self.nodes * ROW, "#C4C4C4", 1)
@@ -265,7 +280,8 @@ class Strip:
             )
 
     def choices_of(self, v: int, channel: int | None, end: float) -> None:
-        svg, y = self.svg, self.row(v)
+        svg = self.svg
+        y = self.row(v)
         x0: float = MERGES
         chosen = [
             (MERGES + (index + 0.5) * self.column, pulse)
@@ -275,7 +291,8 @@ class Strip:
         for x, pulse in chosen:
             if channel is not None:
                 svg.line(x0, y, x, y, channel_hue(channel + 1), 3, opacity="0.35")
-            channel, x0 = pulse.chosen[v], x
+            channel = pulse.chosen[v]
+            x0 = x
         after = 1 + (channel or 0)
         svg.line(x0, y, end + 12, y, channel_hue(after), 3, opacity="0.35")
         for x, pulse in chosen:

@@ -16,7 +16,9 @@ from forestplan.pictures.transcripts import Run, Wire
 from forestplan.pictures.wrong_run import draw_wrong, stop_words
 from forestplan.wording import counted
 
-LEFT, TOP, WIDTH = 64, 136, 1214
+LEFT = 64
+TOP = 136
+WIDTH = 1214
 KINDS = ("payload", "ack", "safe", "close")
 NAMES = {"payload": "payload", "ack": "acknowledgement", "safe": "safe", "close": "close"}
 MOST_STEPS = 400
@@ -32,13 +34,13 @@ class Window:
     def __init__(
         self, run: Run, pulses: tuple[int, int], top: float, row: int, least: float
     ) -> None:
-        self.run, self.network, self.nodes, (self.first, self.last) = (
-            run,
-            run.network,
-            run.network.node_numbers,
-            pulses,
-        )
-        self.top, self.row, self.over = top, row, min(30, 0.4 * row)
+        self.run = run
+        self.network = run.network
+        self.nodes = run.network.node_numbers
+        self.first, self.last = pulses
+        self.top = top
+        self.row = row
+        self.over = min(30, 0.4 * row)
         # To the left of the nodes' lines are their numbers and names.
         names = [
             text_width(short_name(run.network, v), 10) for v in run.network.names if v in self.nodes
@@ -195,7 +197,8 @@ def draw_wire_legend(svg: Svg, kinds: tuple[str, ...]) -> None:
 
 def draw_bands(svg: Svg, window: Window) -> None:
     """A band for each pulse, from tick p of every node to its tick p + 1, and its number above, where there is room."""
-    thin, y = min(1.2, 0.2 * window.column), window.top - window.over - 6
+    thin = min(1.2, 0.2 * window.column)
+    y = window.top - window.over - 6
     free: float = 0
     svg.text(20, y, "pulse", 11.5, PULSE, bold=True)
     for pulse in range(window.first, window.last + 1):
@@ -273,7 +276,8 @@ def write_words(
 
 def draw_ticks(svg: Svg, window: Window) -> None:
     """Each node's pulses; those outside the window are grey."""
-    half, width = min(10, 0.2 * window.row), min(3.4, 0.07 * window.row, 0.3 * window.column)
+    half = min(10, 0.2 * window.row)
+    width = min(3.4, 0.07 * window.row, 0.3 * window.column)
     for v, ticks in window.run.ticks.items():
         for pulse, time in sorted(ticks.items()):
             x, y = window.x(time), window.y(v)

@@ -18,8 +18,14 @@ from forestplan.schedules.explore import events_words, rounded
 # Where a step ends: at a state, or at (state, number of the step) if it is refused there.
 End = int | tuple[int, int]
 
-COLUMNS, MOST_COLUMNS, STEPS, MOST_STEPS = 36, 108, 6_000, 12_000
-LEFT, HIGH, WIDE, LEAST_WIDTH = 44, 560, 1150, 860
+COLUMNS = 36
+MOST_COLUMNS = 108
+STEPS = 6_000
+MOST_STEPS = 12_000
+LEFT = 44
+HIGH = 560
+WIDE = 1150
+LEAST_WIDTH = 860
 APART = [BAND, "#CFE3F1", "#8FBBDD", "#56B4E9"]
 
 
@@ -70,7 +76,8 @@ def columns_with_room(space: AlphaSpace) -> int:
 
 def to_fault(space: AlphaSpace) -> list[tuple[int, int]]:
     """A shortest run that goes wrong."""
-    s, found = 0, []
+    s = 0
+    found = []
     for event in space.path_to_fault():
         steps = space.steps(s)
         e = next(e for e, (other, _) in enumerate(steps) if other == event)
@@ -84,7 +91,8 @@ def to_fault(space: AlphaSpace) -> list[tuple[int, int]]:
 
 def in_step(space: AlphaSpace) -> list[tuple[int, int]]:
     """All messages come before a node makes a pulse, and then the node that has made the fewest."""
-    s, found = 0, []
+    s = 0
+    found = []
     while steps := space.steps(s):
         pulses = space.nodes(s)
         e = min(
@@ -114,8 +122,11 @@ class Lattice:
     def __init__(
         self, network: Network, space: AlphaSpace, low: int, high: int, bold: list[tuple[int, int]]
     ) -> None:
-        self.network, self.space = network, space
-        self.low, self.high, self.bold = low, high, set(bold)
+        self.network = network
+        self.space = space
+        self.low = low
+        self.high = high
+        self.bold = set(bold)
         self.passed = {0, *(s for s, _ in bold), *(space.steps(s)[e][1] for s, e in bold)}
         self.columns: list[list[End]] = [[] for _ in range(low, high + 1)]
         for state in range(space.count):
@@ -199,7 +210,8 @@ class Lattice:
         return svg
 
     def fact(self) -> str:
-        space, title = self.space, self.network.name
+        space = self.space
+        title = self.network.name
         if space.without:
             title += f" without {' and '.join(space.without)}"
         if space.faults:
@@ -240,7 +252,8 @@ class Lattice:
     def draw_steps(self, svg: Svg) -> None:
         for s, e, event, end in sorted(self.steps, key=lambda step: step[:2] in self.bold):
             x1, y1, x2, y2 = self.x(s), self.y(s), self.x(end), self.y(end)
-            is_bold, is_wrong = (s, e) in self.bold, (s, e) in self.space.faults
+            is_bold = (s, e) in self.bold
+            is_wrong = (s, e) in self.space.faults
             title = self.title_of(event)
             with svg.group("bold" if is_bold else "step", title):
                 if is_bold:
@@ -276,7 +289,8 @@ class Lattice:
                 svg.circle(x, y, self.radius, WRONG, INK, 1)
                 svg.label(x, y + self.radius * 0.42, "×", round(1.5 * self.radius, 1), PAPER)
             return
-        is_wrong, is_bold = self.is_wrong(s), s in self.passed
+        is_wrong = self.is_wrong(s)
+        is_bold = s in self.passed
         texts = [node_words(v, node) for v, node in self.space.nodes(s).items()]
         with svg.group("state wrong" if is_wrong else "state", ", ".join(texts)):
             hue = WRONG if is_wrong else APART[self.apart(s)]

@@ -25,7 +25,10 @@ LESSONS = (1, 2, 3, 4, 5)
 MOST_SHEETS = 200
 # Each sheet's network: connected, no node with more neighbours than three and some with three, and two forests. So
 # each has the same last pulse, 12 + 3·2·4 = 36.
-NODES, EDGES, NEIGHBOURS, FORESTS = 8, 9, 3, 2
+NODES = 8
+EDGES = 9
+NEIGHBOURS = 3
+FORESTS = 2
 MAP = 400, 270
 
 HELP = f"""\
@@ -53,10 +56,12 @@ class Sheet:
     """One network, and its questions. `answers` says whether they are filled in."""
 
     def __init__(self, name: str, answers: bool) -> None:
-        self.name, self.answers = name, answers
+        self.name = name
+        self.answers = answers
         self.source = random.Random(name)
         self.net = network_by(self.source)
-        self.rounds, self.node_numbers = ColouringRounds(self.net), self.net.node_numbers
+        self.rounds = ColouringRounds(self.net)
+        self.node_numbers = self.net.node_numbers
         self.edges = [*self.net.edges]
 
     def any_of(self, things: Sequence[Thing]) -> Thing:
@@ -178,7 +183,8 @@ class Sheet:
             )
         ]
         yield "<p>Merge the two forests; all begin with colour 0.</p>" + self.table("node", rows)
-        v, f = self.any_of(self.node_numbers), FORESTS - 1
+        v = self.any_of(self.node_numbers)
+        f = FORESTS - 1
         turn = self.rounds.turns[f, v]
         yield (
             f"<p>At which pulse does node {v} choose in the merge of forest {f}? {self.filled(turn)} Which pulse is "
@@ -226,7 +232,8 @@ def farthest(net: Network, edge: tuple[int, int]) -> dict[int, int]:
     state = alpha_start(net)
 
     def is_free(event: Event) -> bool:
-        v, port = event.node, event.port
+        v = event.node
+        port = event.port
         return port is None or {v, state.neighbours[v][port]} != set(edge)
 
     while event := next(filter(is_free, state.possible()), None):

@@ -74,7 +74,9 @@ class Svg:
     """Elements in the order in which they are drawn; what comes later lies on top."""
 
     def __init__(self, width: float, height: float, title: str) -> None:
-        self.width, self.height, self.title = width, height, title
+        self.width = width
+        self.height = height
+        self.title = title
         self.parts: list[str] = []
 
     def element(self, name: str, text: Attribute = None, **attributes: Attribute) -> None:

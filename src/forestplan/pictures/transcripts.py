@@ -76,15 +76,19 @@ class Run:
         order: FoundOrder,
         wrong: tuple[Entry, WrongEntry] | None,
     ) -> None:
-        self.name, self.network, self.program = name, network, program
-        self.is_stamped, self.whole, self.wrong = order.is_stamped, order.is_whole(), wrong
+        self.name = name
+        self.network = network
+        self.program = program
+        self.is_stamped = order.is_stamped
+        self.whole = order.is_whole()
+        self.wrong = wrong
         # With stamps what comes after the fault isn't drawn.
         line = wrong[1].line if wrong and self.is_stamped else None
         self.made = [entry for entry in order.made if line is None or entry.line < line]
-        self.last, self.wires = program.last_pulse(network), wires_by_stamp(self.made)
-        self.ticks, self.reached = {v: {0: 0} for v in network.node_numbers}, dict.fromkeys(
-            network.node_numbers, 0
-        )
+        self.last = program.last_pulse(network)
+        self.wires = wires_by_stamp(self.made)
+        self.ticks = {v: {0: 0} for v in network.node_numbers}
+        self.reached = dict.fromkeys(network.node_numbers, 0)
         for entry in self.made:
             self.reached[entry.node] = stamp_of(entry)
             if isinstance(entry.what, int):
@@ -126,7 +130,9 @@ def wires_by_stamp(made: list[Entry]) -> list[Wire]:
             taken.setdefault((entry.neighbour, entry.node), deque()).append(entry.stamp)
     found = []
     for entry in made:
-        v, w, put = entry.node, entry.neighbour, entry.stamp
+        v = entry.node
+        w = entry.neighbour
+        put = entry.stamp
         if w is None or put is None or entry.kind is not Kind.PUT:
             continue
         if isinstance(entry.what, Message):

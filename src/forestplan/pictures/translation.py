@@ -82,7 +82,8 @@ def untranslated(node: ast.AST) -> ValueError:
 
 def constants_in(statement: ast.Assign) -> Iterator[str]:
     """Constants of the module."""
-    target, value = statement.targets[0], statement.value
+    target = statement.targets[0]
+    value = statement.value
     if isinstance(target, ast.Tuple) and isinstance(value, ast.Tuple):
         for one, its in zip(target.elts, value.elts, strict=True):
             yield f"const {spoken(one)} = {spoken(its)};"
@@ -122,7 +123,8 @@ def done(statement: ast.stmt) -> Iterator[str]:
 
 @done.register
 def _(statement: ast.Assign) -> Iterator[str]:
-    target, value = statement.targets[0], statement.value
+    target = statement.targets[0]
+    value = statement.value
     if isinstance(target, ast.Tuple) and not isinstance(value, ast.Tuple):
         yield f"{ITEM} = {spoken(value)};"
         yield from taken_apart(target)
@@ -181,7 +183,8 @@ def _(statement: ast.If) -> Iterator[str]:
 def _(statement: ast.For) -> Iterator[str]:
     if statement.orelse:
         raise untranslated(statement)
-    name, of = spoken(statement.target), statement.iter
+    name = spoken(statement.target)
+    of = statement.iter
     if isinstance(of, ast.Call) and spoken(of.func) == "range":
         first, end = range_bounds(of)
         yield f"for ({name} = {first}; {name} < {end}; {name}++) {{"
@@ -268,7 +271,8 @@ def _(value: ast.ListComp) -> str:
     if len(value.generators) != 1:
         raise untranslated(value)
     one = value.generators[0]
-    list_, names = spoken(one.iter), f"({spoken(one.target)})"
+    list_ = spoken(one.iter)
+    names = f"({spoken(one.target)})"
     for test in one.ifs:
         list_ = f"{list_}.filter({names} => {spoken(test)})"
     return f"{list_}.map({names} => {spoken(value.elt)})"

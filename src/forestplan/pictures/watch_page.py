@@ -92,7 +92,8 @@ class Steps:
     after it; `start` is what is shown of each node before the first one."""
 
     def __init__(self, state: NetState[AlphaNode]) -> None:
-        self.state, self.start = state, {v: look_of(state, v) for v in state.nodes}
+        self.state = state
+        self.start = {v: look_of(state, v) for v in state.nodes}
         self.every: list[Step] = []
 
     def add(self, entry: Entry) -> None:
@@ -115,7 +116,8 @@ def steps_of_text(
 ) -> Steps:
     """The steps of a transcript, as far as they are needed for these pulses; or its first fault in words."""
     order, _ = ordered(text, name, network, program)
-    state, made = alpha_start(network, program), dict.fromkeys(network.node_numbers, 0)
+    state = alpha_start(network, program)
+    made = dict.fromkeys(network.node_numbers, 0)
     steps = Steps(state)
     for entry in order.made:
         make_entry(state, entry)
@@ -139,8 +141,11 @@ class ShownRun:
     def __init__(
         self, name: str, network: Network, steps: Steps, pulses: tuple[int, int] | None = None
     ) -> None:
-        self.name, self.network, nodes = name, network, steps.state.nodes
-        self.last, self.is_whole = nodes[1].last, all(node.drained() for node in nodes.values())
+        self.name = name
+        self.network = network
+        nodes = steps.state.nodes
+        self.last = nodes[1].last
+        self.is_whole = all(node.drained() for node in nodes.values())
         every = steps.every if pulses else steps.every[: MOST_ENTRIES + 1]
         self.at_pulse = {v: {0: 0} for v in network.node_numbers}
         for entry, *_ in every:
@@ -253,7 +258,9 @@ def flights_of(every: list[Step], first: int) -> list[Flight]:
     flying: dict[Edge, deque[int]] = {}
     found: list[Flight] = []
     for at, (entry, *_) in enumerate(every, -first):
-        v, w, wire = entry.node, entry.neighbour, entry.what
+        v = entry.node
+        w = entry.neighbour
+        wire = entry.what
         if w is None or not isinstance(wire, Message):
             continue
         if entry.kind is Kind.PUT:
@@ -267,7 +274,8 @@ def flights_of(every: list[Step], first: int) -> list[Flight]:
 
 def watch_html(runs: list[ShownRun]) -> str:
     """The page of one run, or of two of one network."""
-    network, first = runs[0].network, runs[0]
+    network = runs[0].network
+    first = runs[0]
     pulses = max(run.pulses[0] for run in runs), min(run.pulses[1] for run in runs)
     title = "a run without a clock" if len(runs) == 1 else "two orders of events, the same rounds"
     each = range(pulses[0], pulses[1] + 1) if len(runs) == 2 else ()

@@ -28,7 +28,8 @@ class Cone:
     """The facts on which the channel of `node` depends, and the messages that carried them."""
 
     def __init__(self, rounds: ColouringRounds, node: int | None) -> None:
-        self.rounds, self.network = rounds, rounds.network
+        self.rounds = rounds
+        self.network = rounds.network
         if node is None or node not in self.network.node_numbers:
             raise Fault(Code.NO_NODE_OF_NETWORK, name=self.network.name, node=node)
         self.node = node
@@ -40,7 +41,8 @@ class Cone:
 
     def behind(self, fact: Fact) -> set[Fact]:
         """A fact and all those on which it depends."""
-        found, left = {fact}, [fact]
+        found = {fact}
+        left = [fact]
         while left:
             new = set(self.causes_of(*left.pop())) - found
             found |= new
@@ -74,7 +76,8 @@ class Cone:
 
     def takers(self, v: int, f: int) -> Iterator[tuple[int, int, int]]:
         """(lower colour, pulse, neighbour that took it first) of v's choice; 0 and 0 of one that is barred."""
-        rounds, merged = self.rounds, self.rounds.merged[f + 1]
+        rounds = self.rounds
+        merged = self.rounds.merged[f + 1]
         near = [
             (rounds.turns[f, w], w)
             for w in self.network.neighbours[v]
@@ -95,8 +98,10 @@ class Cone:
         if p == SEED:
             yield "identifier", v
             return
-        parent, pulses = self.rounds.parents.get((v, f)), self.rounds.pulses
-        phase, before = pulses[p].phase, pulses[p - 1].colours
+        parent = self.rounds.parents.get((v, f))
+        pulses = self.rounds.pulses
+        phase = pulses[p].phase
+        before = pulses[p - 1].colours
         if phase == "shift":
             yield from [self.told(v, parent, f, p)] if parent else [("colour", v, f, p - 1)]
             return
@@ -169,7 +174,8 @@ def message_words(cone: Cone, pulse: int, v: int, w: int, said: str) -> str:
 
 
 def choice_lines(cone: Cone, v: int, f: int) -> Iterator[str]:
-    pulse, colour = cone.rounds.turns[f, v], cone.rounds.merged[f + 1][v]
+    pulse = cone.rounds.turns[f, v]
+    colour = cone.rounds.merged[f + 1][v]
     _, three, old = cone.rounds.pulses[pulse].turn()
     yield (
         f"pulse {pulse}, merge of forest {f}: the turn of node {v}, with colour {three} in the forest and {old} so "
@@ -196,7 +202,8 @@ def colour_line(cone: Cone, v: int, f: int) -> str:
 
 def why_svg(cone: Cone) -> str:
     """The rounds, with all that didn't matter faded."""
-    rounds, network = cone.rounds, cone.network
+    rounds = cone.rounds
+    network = cone.network
     forests = cone.forests()
     if not forests:
         raise Fault(Code.NODE_IN_NO_FOREST, node=cone.node, name=network.name)

@@ -11,7 +11,8 @@ from forestplan.pictures.svg import Svg
 from forestplan.pictures.transcripts import Run
 
 # How long the arrow of a wire that nobody took is: a part of the way to the neighbour's row, and steps of time.
-PART_OF_ROW, STEPS = 0.55, 2.2
+PART_OF_ROW = 0.55
+STEPS = 2.2
 
 
 if TYPE_CHECKING:
@@ -50,7 +51,8 @@ def draw_wrong(svg: Svg, window: "Window", kinds: Collection[str], stopped: int 
     if run.wrong:
         # Its stamp may be what is wrong with it: so it is after all that its node did before.
         entry, why = run.wrong
-        v, time = entry.node, run.reached[entry.node] + 1
+        v = entry.node
+        time = run.reached[entry.node] + 1
         with svg.group("wrong", f"line {why.line}, not possible"):
             if entry.neighbour is None:
                 svg.line(

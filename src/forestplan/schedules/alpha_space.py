@@ -150,7 +150,8 @@ class AlphaSpace(Space[RuledNode]):
 
     def stage_of(self, v: int, node: RuledNode) -> tuple[str, list[tuple[str, int]]]:
         """How far a node is in its pulse, and the wires for which it waits there."""
-        p, ports = node.pulse_number, list(zip(self.ports[v], node.ports))
+        p = node.pulse_number
+        ports = list(zip(self.ports[v], node.ports))
         if p == self.last:
             waits = [("close", w) for w, port in ports if not port.closed]
             return ("last" if waits else "whole"), waits
@@ -182,7 +183,8 @@ class AlphaSpace(Space[RuledNode]):
         """How many lists of events lead from the start to an end; None if they have different numbers of events."""
         if self.expanded < self.count:
             return None
-        ways, found = [0] * self.count, 0
+        ways = [0] * self.count
+        found = 0
         ways[0] = 1
         for s in range(self.count):
             targets = self.target[self.first[s] : self.first[s + 1]]

@@ -35,7 +35,9 @@ from forestplan.schedules.rules import (
 from forestplan.schedules.space import AnySearched, Space
 from forestplan.wording import as_text, counted
 
-MOST_NODES, LIMIT, BYTES_A_STATE = 4, 1_000_000, 420
+MOST_NODES = 4
+LIMIT = 1_000_000
+BYTES_A_STATE = 420
 # The most networks by chance.
 MOST_NETWORKS = 10_000
 MOST_RUNS = 100_000
@@ -457,7 +459,8 @@ def event_lines(listed: list[Event], neighbours: dict[int, list[int]]) -> Iterat
     """The events with the wires that they put or take, or the pulse that is made."""
     made: Counter[int] = Counter()
     for event in listed:
-        v, order = event.node, ", out of turn" if event.place else ""
+        v = event.node
+        order = ", out of turn" if event.place else ""
         if event.port is None:
             made[v] += 1
             yield f"{event}: node {v} makes pulse {made[v]}\n"

@@ -53,18 +53,21 @@ def extent_of(space: Space[AnySearched]) -> Extent | None:
     >>> extent_of(AlphaSpace(Network(2, [(1, 2)]), program=LEADER).search()).acts
     (4, 4)
     """
-    ways, done = [0] * space.count, 0
+    ways = [0] * space.count
+    done = 0
     ways[0] = 1
     left = array("I", bytes(4 * space.count))
     for t in space.target:
         left[t] += 1
-    takes, acts = Bounds(space.count), Bounds(space.count)
+    takes = Bounds(space.count)
+    acts = Bounds(space.count)
     work = [] if left[0] else [0]
     while work:
         s = work.pop()
         done += 1
         for k in range(space.first[s], space.first[s + 1]):
-            t, is_take = space.target[k], space.events[space.event_of[k]].kind is TAKE
+            t = space.target[k]
+            is_take = space.events[space.event_of[k]].kind is TAKE
             ways[t] += ways[s]
             takes.reach(t, s, is_take)
             acts.reach(t, s, not is_take)
@@ -85,12 +88,14 @@ def endless(space: Space[AnySearched]) -> list[int]:
     for t in range(space.count):
         before[t + 1] += before[t]
     # The states from which a step leads to t are sources[before[t]] to sources[before[t + 1] - 1].
-    sources, place = array("I", bytes(4 * len(space.target))), before[:]
+    sources = array("I", bytes(4 * len(space.target)))
+    place = before[:]
     for s in range(space.count):
         for t in space.target[space.first[s] : space.first[s + 1]]:
             sources[place[t]] = s
             place[t] += 1
-    reached, work = bytearray(space.count), list(space.ends)
+    reached = bytearray(space.count)
+    work = list(space.ends)
     for s in work:
         reached[s] = 1
     while work:

@@ -15,7 +15,8 @@ from forestplan.networks.texts import plain_text
 from forestplan.wording import as_text, counted, in_words
 
 # The most nodes of a network by chance, and how many smaller networks are tried in place of one that is wrong.
-MOST_NODES, MOST_TRIED = 12, 2000
+MOST_NODES = 12
+MOST_TRIED = 2000
 
 
 def own_rounds_text(net: Network, program: Program) -> str:
@@ -77,7 +78,8 @@ def by_chance(count: int, seed: str, connected: bool) -> Iterator[Network]:
 
 
 def is_connected(net: Network) -> bool:
-    reached, work = {1}, [1]
+    reached = {1}
+    work = [1]
     while work:
         new = set(net.neighbours[work.pop()]) - reached
         reached |= new

@@ -55,7 +55,8 @@ class ReactingSpace(Space[ReactingNode]):
 
 def count_of_parts(key: Hashable) -> int:
     """How many parts a key of what a node keeps has."""
-    count, work = 0, [key]
+    count = 0
+    work = [key]
     while work:
         part = work.pop()
         count += 1

@@ -89,7 +89,8 @@ class ReactingStepwise(ByHand[ReactingNode]):
     def kept_by(self, v: int) -> Iterator[tuple[str, str]]:
         """What a node keeps in `me`, by name, as Python writes it; what every node knows from the start isn't among
         it."""
-        node, given = self.state.nodes[v], known(self.net, v, self.program.file.seed)
+        node = self.state.nodes[v]
+        given = known(self.net, v, self.program.file.seed)
         for name, value in vars(node.me).items():
             if name not in HIDDEN and name not in given:
                 where = f"`{name}` of the node of identifier {node.id}"
@@ -105,7 +106,11 @@ def in_python(value: object) -> str:
     """A value as Python writes it, cut, and without the place in memory that differs from call to call; of what Python
     doesn't write, its type."""
     short = reprlib.Repr()
-    short.maxlevel, short.maxlist, short.maxtuple, short.maxdict, short.maxset = 3, 12, 12, 12, 12
+    short.maxlevel = 3
+    short.maxlist = 12
+    short.maxtuple = 12
+    short.maxdict = 12
+    short.maxset = 12
     short.maxstring = short.maxlong = short.maxother = MOST_LETTERS
     try:
         said = re.sub(" at 0x[0-9a-f]+", "", short.repr(value))

@@ -56,7 +56,8 @@ class RuledNode(AlphaNode, SearchedNode):
         self.key_of_simulated = kept(frozen, self.simulated)
 
     def on_wire(self, at: int, wire: Message) -> None:
-        without, port = self.without, self.ports[at]
+        without = self.without
+        port = self.ports[at]
         match wire:
             case Message("payload") if without & {"safes", "early"}:
                 self.take_payload(port, wire)
@@ -71,7 +72,8 @@ class RuledNode(AlphaNode, SearchedNode):
 
     def fault_of_pulse(self, v: int, rounds: "InboxRounds") -> tuple[str | None, bool]:
         """What is wrong with its next pulse, or None; and whether its program refuses that pulse."""
-        pulse, inbox = self.pulse_number + 1, [port.present for port in self.ports]
+        pulse = self.pulse_number + 1
+        inbox = [port.present for port in self.ports]
         fault = rounds.fault(v, pulse, inbox)
         if (fault or self.wrong) and inbox_refused(self.simulated, pulse, inbox):
             return fault or f"the program of node {v} refuses the inbox of pulse {pulse}", True

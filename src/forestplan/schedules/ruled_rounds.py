@@ -32,7 +32,8 @@ from forestplan.network import Edge, Network
 from forestplan.schedules.rules import OF_FORESTS, OF_PROGRAMS, OF_ROUNDS, rules_named
 
 # Rows of so many nodes are tried, or networks.
-MOST_ROW, MOST_MERGED = 12, 5
+MOST_ROW = 12
+MOST_MERGED = 5
 Nodes = dict[int, RoundsNode]
 
 
@@ -77,7 +78,9 @@ class RuledRounds:
 
     def next_colours(self, pulse: int, f: int) -> Colours:
         """A bit step, twice the place and the digit there; a shift; or a drop of 5, 4 or 3."""
-        net, without, c = self.net, self.without, self.colours[f][-1]
+        net = self.net
+        without = self.without
+        c = self.colours[f][-1]
         if pulse <= 6:
             return {
                 v: colour - colour % 2 if "digit" in without else colour
@@ -103,7 +106,8 @@ class RuledRounds:
         return other_than(*taken)
 
     def next_merged(self, f: int) -> Colours:
-        net, old = self.net, self.merged[-1]
+        net = self.net
+        old = self.merged[-1]
         if "pair" in self.without:
             old = dict.fromkeys(old, 0)
         if "earlier" in self.without:
@@ -331,7 +335,8 @@ def smallest_wrong_rounds(
     most, what = (
         (MOST_ROW, "rows") if set(without) <= set(OF_FORESTS) else (MOST_MERGED, "networks")
     )
-    tried, bars = 0, {1: [1]} if "bars" in without else {}
+    tried = 0
+    bars = {1: [1]} if "bars" in without else {}
     for nodes in range(2, most + 1):
         for edges in networks(nodes, without):
             tried += 1

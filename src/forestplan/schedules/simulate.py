@@ -127,7 +127,8 @@ class Player(Generic[AnyNode]):
 
     def make(self, event: Event) -> Entry:
         """Makes an event, and returns its entry; raises `NotPossible` if it isn't possible."""
-        kind, v = event.kind, event.node
+        kind = event.kind
+        v = event.node
         what = self.state.step(event)
         w = None if event.port is None else self.state.neighbours[v][event.port]
         entry = Entry(0, v, kind, w, what, self.clock.next(kind, v, w))
@@ -364,7 +365,8 @@ def run_asked(net: Network, given: Namespace, program: AnyProgram) -> Player[Nod
     """The run that the command line asks for; a list that ends early is said."""
     player = player_of(net, program)
     if given.events:
-        name, own = text_name(given.events), ACT if isinstance(program, Reacting) else PULSE
+        name = text_name(given.events)
+        own = ACT if isinstance(program, Reacting) else PULSE
         player.play_events(events_of(text_at(given.events), name, own=own), name)
     if given.to_the_end or not given.events:
         played(net, given.policy, given.seed, given.slow, given.lazy, player, program)

@@ -184,7 +184,8 @@ class Space(Generic[AnySearched]):
 
     def find_take(self, a: int, i: int, port: int, number: int) -> After:
         """What the take of the message of a number comes to."""
-        node, wire = self.locals[a][i].copied(), self.wires[number]
+        node = self.locals[a][i].copied()
+        wire = self.wires[number]
         try:
             node.on_wire(port, wire)
         except NotPossible:
@@ -198,7 +199,9 @@ class Space(Generic[AnySearched]):
 
     def find_moves(self, a: int, i: int, *arriving: int) -> Moves:
         """The moves of a node with this value and these contents of the links to it, and which is made `alone`."""
-        v, node, moves = self.node_numbers[a], self.locals[a][i], []
+        v = self.node_numbers[a]
+        node = self.locals[a][i]
+        moves = []
         if node.may_act():
             j, gone, fault = self.act(a, i)
             e = self.events.number(Event(node.own, v))
@@ -241,7 +244,8 @@ class Space(Generic[AnySearched]):
         """Finds the states and the steps between them; `progress` is told now and then how many states there are, and
         how many events lead to the last one."""
         self.states.number(self.start())
-        said, s = time.monotonic(), 0
+        said = time.monotonic()
+        s = 0
         while s < len(self.states) and not self.is_cut:
             if self.faults and self.depth[s] > self.depth[next(iter(self.faults))[0]]:
                 break
@@ -388,7 +392,8 @@ class Space(Generic[AnySearched]):
         held: dict[Edge, list[int]] = {link: [] for link in self.links}
         put: Counter[Edge] = Counter()
         listed: list[Event] = []
-        state, gone = self.states[0], tuple(self.first_puts)
+        state = self.states[0]
+        gone = tuple(self.first_puts)
         for event in events:
             for slot, number in gone:
                 link = self.links[slot - len(self.node_numbers)]

@@ -117,7 +117,9 @@ class ByHand(Player[AnyNode]):
 
     def step(self, step: Step, place: int = 0) -> None:
         """One step, and the puts that it makes possible."""
-        v, w, event = step.node, step.neighbour, self.event_of(step)
+        v = step.node
+        w = step.neighbour
+        event = self.event_of(step)
         fault = None
         if event.port is None:
             self.last_step = self.own_step_words(v)
@@ -134,7 +136,8 @@ class ByHand(Player[AnyNode]):
 
     def note_step(self, step: Step, event: Event, place: int) -> None:
         """Writes a step down, as the page has it and as a list of events has it."""
-        chosen, line = [step.node], str(event)
+        chosen = [step.node]
+        line = str(event)
         if step.neighbour:
             chosen.append(step.neighbour)
         if place:
@@ -200,7 +203,8 @@ class Stepwise(ByHand[AlphaNode]):
 
     def fault_of_own_step(self, v: int) -> str | None:
         """What is wrong with the next pulse of a node, if something is; all is over if its program refuses it."""
-        node, fault = self.state.nodes[v], None
+        node = self.state.nodes[v]
+        fault = None
         if isinstance(node, RuledNode):
             fault, self.is_over = node.fault_of_pulse(v, self.rounds)
         return fault
@@ -218,7 +222,8 @@ class Stepwise(ByHand[AlphaNode]):
 
     def in_step(self, slow: Collection[Edge], lazy: Collection[int]) -> None:
         """All nodes make one pulse: what can come comes first, and then those that are behind make theirs."""
-        goal, last = 1 + self.lowest(), self.state.nodes[1].last
+        goal = 1 + self.lowest()
+        last = self.state.nodes[1].last
         while not self.is_over and not (goal <= last and self.lowest() >= goal):
             steps = self.free(slow, lazy)
             takes = [step for step in steps if step.kind is TAKE]

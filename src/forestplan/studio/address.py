@@ -25,7 +25,8 @@ from forestplan.studio.own_dares import OWN_DARES
 from forestplan.studio.session import Form
 
 # Letters of an address: browsers take no longer one. And how many faults of one are named.
-MOST_LETTERS, MOST_NAMED = 2 << 20, 5
+MOST_LETTERS = 2 << 20
+MOST_NAMED = 5
 MOST_CHANNEL = 9999
 
 

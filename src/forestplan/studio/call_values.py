@@ -16,7 +16,9 @@ from forestplan.studio.messages import OfNetwork, OfProgram, WithoutRules
 from forestplan.studio.session import Form, Session
 
 # Nodes that are drawn; that the rounds, and a run without a clock, are shown of.
-MOST_DRAWN, MOST_ROUNDS, MOST_RUN = 400, 100, 40
+MOST_DRAWN = 400
+MOST_ROUNDS = 100
+MOST_RUN = 40
 # Steps that are made by hand.
 MOST_STEPS = 6_000
 # Of how many nodes at most something is shown, and the fault if there are more.

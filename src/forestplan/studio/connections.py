@@ -11,7 +11,8 @@ from typing import Any
 # A browser opens connections on which it says nothing yet.
 SECONDS_TO_ASK = 10
 # Bytes of a head; and connections that wait: the oldest one gives way to one more.
-MOST_HEAD, MOST_WAITING = 1 << 16, 256
+MOST_HEAD = 1 << 16
+MOST_WAITING = 256
 
 
 @dataclass
@@ -102,7 +103,8 @@ class Received(io.RawIOBase):
     """What a connection sends: first what has come of it already."""
 
     def __init__(self, received: bytes, connection: socket.socket) -> None:
-        self.received, self.connection = received, connection
+        self.received = received
+        self.connection = connection
 
     def readable(self) -> bool:
         return True

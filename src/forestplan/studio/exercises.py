@@ -31,9 +31,11 @@ from forestplan.wording import counted, in_words
 # What judges a goal.
 Goal = Callable[[ExerciseCall, Session, Tell], ExerciseJudged]
 # Nodes of a row that is long; and in how many steps a wrong inbox is to be reached: no list has fewer (lesson 6).
-LONG, FEWEST = 100, 5
+LONG = 100
+FEWEST = 5
 # What is said of a run without rounds that isn't where it has to be.
-NO_END, TRUE_HERE = "something can still happen", "`always` is true here"
+NO_END = "something can still happen"
+TRUE_HERE = "`always` is true here"
 
 
 def answer_exercise(call: ExerciseCall, session: Session, tell: Tell) -> ExerciseJudged:
@@ -147,7 +149,8 @@ def bar(call: ExerciseCall, session: Session, _tell: Tell) -> ExerciseJudged:
     if 1 not in network.bars.get(3, ()):
         return ExerciseJudged(False, "channel 1 isn't barred at node 3 yet")
     free = Network(3, network.edges, network.given_identifiers)
-    before, now = colours(free), colours(network)
+    before = colours(free)
+    now = colours(network)
     changes = [
         f"node {v} has channel {now[v] + 1} instead of {before[v] + 1}"
         for v in network.node_numbers

@@ -102,7 +102,8 @@ def parse_for(hint: object) -> Parse:
     """What parses the values of a type: the parser that an `Annotated` has, or the usual one."""
     if hint in SIMPLE:
         return SIMPLE[hint]
-    kind, within = get_origin(hint), get_args(hint)
+    kind = get_origin(hint)
+    within = get_args(hint)
     if kind is Annotated:
         return parser_in(within[1])
     if kind is Literal:

@@ -24,7 +24,8 @@ from forestplan.transcripts.reading import WrongEntry, transcript_read
 from forestplan.wording import as_text
 
 MOST_TEXT = 64 << 20
-MACHINE, PYTHON = "The proved machine", "Python (not proved)"
+MACHINE = "The proved machine"
+PYTHON = "Python (not proved)"
 
 
 def said_by(name: str, arguments: list[str], *texts: str) -> tuple[int, str, str]:
@@ -133,7 +134,8 @@ def beginning_judged(
             pulses=states.pulses,
             wires=states.wires,
         )
-    state, said = alpha_start(network, program), ""
+    state = alpha_start(network, program)
+    said = ""
     try:
         for entry in transcript_read(text.encode(), program.name)[1]:
             try:

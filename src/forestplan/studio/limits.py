@@ -19,7 +19,9 @@ from forestplan.faults import Fault
 from forestplan.process_exit import PR_SET_PDEATHSIG, STOPS, held
 
 # Seconds of the clock, seconds of processor time, and bytes.
-SECONDS, PROCESSOR_SECONDS, MEMORY = 120, 110, 2 << 30
+SECONDS = 120
+PROCESSOR_SECONDS = 110
+MEMORY = 2 << 30
 # Bytes of an outcome that a process of its own may write.
 MOST_SAID = 1 << 20
 TOO_LATE = f"it took more than {SECONDS} seconds, so it was ended"

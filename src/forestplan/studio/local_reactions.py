@@ -45,7 +45,9 @@ class LocalReactions:
     can happen; `always` says by results what the file refuses."""
 
     def __init__(self, network: Network, program: Reacting, without: Collection[str]) -> None:
-        self.network, self.program, self.without = network, program, frozenset(without)
+        self.network = network
+        self.program = program
+        self.without = frozenset(without)
         self.player = ReactingStepwise(network, program, without)
         self.links = [(v, w) for v, ws in network.neighbours.items() for w in ws]
         self.found: dict[int, list[LocalReaction]] = {v: [] for v in network.node_numbers}

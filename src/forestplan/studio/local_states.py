@@ -50,7 +50,9 @@ class LocalStates:
     `starts[v]` what it puts then."""
 
     def __init__(self, network: Network, program: Program, without: Collection[str]) -> None:
-        self.network, self.program, self.without = network, program, frozenset(without)
+        self.network = network
+        self.program = program
+        self.without = frozenset(without)
         self.state: NetState[RuledNode] = NetState(
             network, lambda net, v: RuledNode(net, v, without, program)
         )
@@ -126,7 +128,8 @@ class LocalStates:
         rows = self.found[v][number].rows
         if (w, str(wire)) in rows:
             return
-        node, port = self.nodes[v][number].copied(), self.network.neighbours[v].index(w)
+        node = self.nodes[v][number].copied()
+        port = self.network.neighbours[v].index(w)
         try:
             node.on_wire(port, wire)
         except NotPossible:

@@ -143,7 +143,8 @@ def opened_by(place: str, session: Session, before: Here = Here()) -> Place:
         drawn = drawn_of(pairs["net"])
         if len(drawn.nodes) > MOST_DRAWN:
             raise Fault(Code.TOO_MANY_TO_DRAW, most=MOST_DRAWN, nodes=len(drawn.nodes))
-        text, network = drawn.text(), drawn.for_page()
+        text = drawn.text()
+        network = drawn.for_page()
     elif {"example", "net"} & set(unread):
         raise Fault(Code.TWO_NETWORKS)
     here = replace(before if network is None else here_of(network), own=session.forms)

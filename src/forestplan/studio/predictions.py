@@ -42,7 +42,9 @@ def answer_predict(call: PredictCall, session: Session, _tell: Tell) -> Predicte
     """Whether it is right what is said of a node after a pulse; of the colouring in a forest, or in its merge."""
     network = network_asked(call, MOST_ROUNDS)
     program = program_of_call(call, network, session)
-    v, pulse, last = node_asked(call, network), call.pulse, program.last_pulse(network)
+    v = node_asked(call, network)
+    pulse = call.pulse
+    last = program.last_pulse(network)
     if not 1 <= pulse <= last:
         raise Fault(Code.NO_PULSE, pulse=pulse, last=last)
     rounds: ColouringRounds | ProgramRounds = ColouringRounds(network)

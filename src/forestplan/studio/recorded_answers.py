@@ -17,7 +17,9 @@ from forestplan.studio.answers import (
 )
 
 # Letters that no text has.
-STEPS, MOST, SAID = "\ue000", "\ue001", "\ue002"
+STEPS = "\ue000"
+MOST = "\ue001"
+SAID = "\ue002"
 
 
 @dataclass(frozen=True)

@@ -110,10 +110,13 @@ MADE = ("path", "ring")
 SIZES = (3, 4, 5, 6, 8, 12, 16, 30, 100, 400)
 # A network of so few nodes is recorded with all edges that it can have; of one with up to so many each that comes of
 # it is, by two edges more or less, or one node with another identifier or bar.
-FEW, MORE = 5, 10
+FEW = 5
+MORE = 10
 # Nodes of a network whose runs are recorded by the states of its nodes, and neighbours of each: more have too many.
 # With one link they are recorded without any rules, and with so many links without one rule.
-MOST_IN_RUNS, MOST_NEIGHBOURS, MOST_LINKS = 6, 2, 2
+MOST_IN_RUNS = 6
+MOST_NEIGHBOURS = 2
+MOST_LINKS = 2
 
 
 @dataclass(frozen=True)
@@ -259,7 +262,8 @@ class Recording:
     def at(self, spot: Spot) -> None:
         """All that the page can ask at a place."""
         opened = opened_by(spot.place, self.session)
-        values, net = opened.address.values, opened.network or Net("", [], [])
+        values = opened.address.values
+        net = opened.network or Net("", [], [])
         if values.example:
             self.examples.add(values.example)
             self.ask(ExampleCall(name=values.example))
@@ -513,7 +517,8 @@ def all_of_nodes(nodes: int) -> Iterator[Net]:
 
 def changed(net: Net) -> Iterator[Net]:
     """A network with other edges at one or two places, and with another identifier or other bars at a node."""
-    there, numbers = set(net.edges), range(1, len(net.nodes) + 1)
+    there = set(net.edges)
+    numbers = range(1, len(net.nodes) + 1)
     changes = list(combinations(numbers, 2))
     for count in (1, 2):
         for some in combinations(changes, count):
@@ -619,7 +624,8 @@ def one_node(found: LocalReactions, v: int, looks: dict[str, tuple[int, Reacted]
 
 def end_said(found: LocalReactions, results: tuple[str, ...]) -> EndSaid:
     """What is said of an end with these results."""
-    network, program = found.network, found.program
+    network = found.network
+    program = found.program
     by_node = dict(zip(network.node_numbers, results))
     wrong = what_is_wrong(network, program.file, by_node)
     has_right = "right" in program.file.functions

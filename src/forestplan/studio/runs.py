@@ -95,7 +95,8 @@ def run_by_seed(
     for step in first_steps(call.steps, network, program):
         made.add(player.make(step))
     # About: twice a wire for each of its puts and takes, and as many again for the payloads and their acknowledgements.
-    of, next_part = 2 * most + network.nodes * program.last_pulse(network), PART
+    of = 2 * most + network.nodes * program.last_pulse(network)
+    next_part = PART
     for entry in player.entries(policy):
         made.add(entry)
         if not len(player.made) % 200:
@@ -188,7 +189,8 @@ def compared(
     found: ShownRun, network: Network, program: Program
 ) -> tuple[tuple[int, int, int], list[str | int]]:
     """(pulses whose payloads are those of the rounds, pulses compared, payloads), and what the rounds find."""
-    there, results = rounds_of(network, program), channels_or_results(network, program)
+    there = rounds_of(network, program)
+    results = channels_or_results(network, program)
     pulses = range(found.pulses[0], found.pulses[1] + 1)
     sent = {
         p: sorted((v, w, f"{word} {what}") for v, w, word, what in there.pulses[p].puts)
@@ -210,7 +212,8 @@ def answer_replay(call: ReplayCall, session: Session, _tell: Tell) -> Replayed:
 
 def answer_judge(call: JudgeCall, session: Session, _tell: Tell) -> JudgedText:
     """What is said of a transcript, whoever wrote it: in words by the definitions, and by the proved machine."""
-    network, text = network_asked(call, MOST_DRAWN), call.transcript
+    network = network_asked(call, MOST_DRAWN)
+    text = call.transcript
     program = program_of_call(call, network, session)
     before = call.network.count("\n") + 1
     proved = (

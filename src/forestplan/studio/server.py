@@ -48,11 +48,13 @@ KINDS = {
     ".svg": "image/svg+xml",
 }
 # Bytes of a call; and of a file, which leaves at once, however slowly it is read.
-MOST_ASKED, MOST_SENT = 8 << 20, 1 << 20
+MOST_ASKED = 8 << 20
+MOST_SENT = 1 << 20
 # Seconds in which the rest of a refused request has to come.
 MOMENT = 1
 # Processes that answer at once: calls with the token, and all others.
-MOST_CALLS, MOST_OTHERS = 32, 32
+MOST_CALLS = 32
+MOST_OTHERS = 32
 NO_TOKEN = (
     "The token is missing or another: open the address that `studio` has printed; if it is open, "
     "reload this page."
@@ -69,15 +71,20 @@ class Server(socketserver.ForkingMixIn, http.server.HTTPServer):
     call with the token."""
 
     # The server itself never waits for one of them.
-    max_children, request_queue_size, block_on_close = sys.maxsize, 128, False
+    max_children = sys.maxsize
+    request_queue_size = 128
+    block_on_close = False
 
     def __init__(self, port: int, token: str, folder: str, session: Session) -> None:
-        self.token, self.building, self.process = token, Building(folder, session), os.getpid()
+        self.token = token
+        self.building = Building(folder, session)
+        self.process = os.getpid()
         self.session = session
         self.active_children: set[int] = set()
         self.calls: set[int] = set()
         super().__init__((HOST, port), Handler)
-        self.connections, self.received = Connections(self.socket), b""
+        self.connections = Connections(self.socket)
+        self.received = b""
 
     def serve_forever(self, poll_interval: float = 0.3) -> None:
         while True:
@@ -100,7 +107,8 @@ class Server(socketserver.ForkingMixIn, http.server.HTTPServer):
                 self.connections.asked.remove(one)
                 one.socket.close()
             return
-        before, self.received = set(self.active_children), one.received
+        before = set(self.active_children)
+        self.received = one.received
         self.connections.asked.remove(one)
         try:
             self.process_request(one.socket, one.address)
@@ -146,7 +154,9 @@ class Answer:
     """Lines of JSON to the page; a thread of `Watch` may write the last one."""
 
     def __init__(self, handler: "Handler") -> None:
-        self.handler, self.lock, self.told = handler, threading.Lock(), 0.0
+        self.handler = handler
+        self.lock = threading.Lock()
+        self.told = 0.0
 
     def line(self, **what: object) -> None:
         as_json = json.dumps(what, separators=(",", ":"), ensure_ascii=False, default=as_object)
@@ -167,7 +177,9 @@ class Handler(http.server.BaseHTTPRequestHandler):
     """One request; then the connection ends."""
 
     server: Server
-    timeout, server_version, sys_version = SECONDS_TO_ASK, "studio", ""
+    timeout = SECONDS_TO_ASK
+    server_version = "studio"
+    sys_version = ""
 
     def setup(self) -> None:
         # One limit for the whole request, however slowly its bytes come: this process ends.
@@ -184,11 +196,9 @@ class Handler(http.server.BaseHTTPRequestHandler):
     def is_from_page(self) -> bool:
         """Whether the request was sent to this server by its name, and by no page of another origin: a name that
         another server's owner has pointed here isn't answered."""
-        own, origin, site = (
-            self.own_names(),
-            self.headers.get("Origin"),
-            self.headers.get("Sec-Fetch-Site"),
-        )
+        own = self.own_names()
+        origin = self.headers.get("Origin")
+        site = self.headers.get("Sec-Fetch-Site")
         return (
             self.headers.get("Host") in own
             and origin in [None, *(f"http://{name}" for name in own)]
@@ -284,7 +294,8 @@ def limited_call(handler: Handler, say: Callable[[str], None]) -> Iterator[None]
 
 def watch(handler: Handler, done: threading.Event, say: Callable[[str], None]) -> None:
     """Ends this process, and what it has started, when nobody waits for it any more."""
-    connection, until = handler.connection, time.monotonic() + limits.SECONDS
+    connection = handler.connection
+    until = time.monotonic() + limits.SECONDS
     while not done.wait(0.1):
         is_late = time.monotonic() > until
         if is_late:

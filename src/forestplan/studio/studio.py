@@ -27,7 +27,8 @@ from forestplan.studio.server import Server
 from forestplan.studio.session import SAMPLES, Form, Session
 from forestplan.wording import one_line
 
-PORT, NEXT_PORTS = 8321, 20
+PORT = 8321
+NEXT_PORTS = 20
 HELP = """\
 Opens a page in the browser on which you draw a network and everything of it moves: its
 plan, its rounds, runs without a clock, and what goes wrong without a rule.

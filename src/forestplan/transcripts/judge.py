@@ -26,8 +26,10 @@ class FoundOrder:
     first one."""
 
     def __init__(self, net: Network, entries: list[Entry], program: AnyProgram) -> None:
-        self.entries, self.is_stamped = entries, bool(entries) and entries[0].stamp is not None
-        self.state, self.clock = start_of(net, program), Clock(net.neighbours)
+        self.entries = entries
+        self.is_stamped = bool(entries) and entries[0].stamp is not None
+        self.state = start_of(net, program)
+        self.clock = Clock(net.neighbours)
         self.made: list[Entry] = []
         self.stamps: list[int] = []
         self.left: dict[int, deque[Entry]] = {}
@@ -64,7 +66,8 @@ class FoundOrder:
         else the first."""
 
         def rank(entry: Entry) -> tuple[bool, bool, int]:
-            waits, w = self.waits(entry), entry.neighbour
+            waits = self.waits(entry)
+            w = entry.neighbour
             return waits, waits and w is not None and bool(self.left.get(w)), entry.line
 
         following = [own[0] for own in self.left.values() if own]
@@ -106,7 +109,9 @@ def find_order(net: Network, entries: list[Entry], program: AnyProgram = COLOURI
             if entry.node not in found.refusals:
                 found.make_next(entry.node)
         return found
-    left, refusals, work = found.left, found.refusals, sorted(found.left, reverse=True)
+    left = found.left
+    refusals = found.refusals
+    work = sorted(found.left, reverse=True)
     while work:
         v = work.pop()
         refusals.pop(v, None)

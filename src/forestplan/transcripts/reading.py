@@ -88,9 +88,12 @@ class WrongEntry(Fault):
 
 def entry_of(line: int, fields: list[bytes], program: str, head: Head) -> Entry:
     """The entry of a line's fields, of which the first is its stamp if the text is stamped."""
-    stamp, own, own_kind = None, fields, head.own
+    stamp = None
+    own = fields
+    own_kind = head.own
     if head.is_stamped:
-        stamp, own = number_in_field(fields[0], "stamp", 2**64), fields[1:]
+        stamp = number_in_field(fields[0], "stamp", 2**64)
+        own = fields[1:]
     match own:
         case [node, step, count] if step == OF_OWN_STEPS[own_kind]:
             v = number_in_field(node, "node")
@@ -130,7 +133,8 @@ def read_to_fault(
     text: str | bytes, program: str | None = COLOURING
 ) -> tuple[Head, list[Entry], WrongEntry | None]:
     """The first line, the entries before the first line that isn't one, and that line's fault, or None."""
-    lines, entries = bytes_of(text).split(b"\n"), []
+    lines = bytes_of(text).split(b"\n")
+    entries = []
     head = head_in_lines(lines, program)
     program = program or head.program or COLOURING
     for line, raw in enumerate(lines[head.line :], head.line + 1):

@@ -109,7 +109,8 @@ def rule_of(at: Standing, entry: str, says_lacks: bool = True) -> str:
 
 def rule_of_put(at: Standing, link: int, wire: list[str]) -> str:
     """Of a wire that isn't the one that is due on its link."""
-    kind, right = wire[0], at.puts.get(link, "")
+    kind = wire[0]
+    right = at.puts.get(link, "")
     due = right.split(" ")[0]
     if due == "ack":
         return f"{DUE['ack']}, before anything else is put on that link"
