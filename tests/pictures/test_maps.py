@@ -121,6 +121,16 @@ class Maps(PictureCase):
         self.same("channels", len(circles), 24)
         self.same("rings", rings, [9, 10, 11, 12, 13, 14, 15, 16])
 
+    def test_bits(self):
+        """The names and what four bit steps make of them, by hand: 1010 and 1100 differ first in place 1, where the
+        first has a 1, so it becomes 2 * 1 + 1; what has no parent becomes its digit in place 0."""
+        network = b"p edge 2 1\ni 1 10\ni 2 12\ne 1 2\n"
+        pairs = titles(parsed(self.drawn("bits", network)), "pair")
+        wanted = [[2, 10, 12], [3, 3, 0], [4, 1, 0], [5, 1, 0], [6, 1, 0]]
+        self.same(
+            "pulse and both", [list(map(int, re.findall(r"\d+", own))) for own in pairs], wanted
+        )
+
     def test_rounds(self):
         self.rounds_rows("petersen", NETWORKS["petersen"], range(3))
         for forests, options in (([0], ()), ([1], ("--forest", 1)), ([4, 5], ("--forest", "4..5"))):

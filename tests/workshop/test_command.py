@@ -169,5 +169,8 @@ class Command(Played):
     def test_the_league_counts(self):
         done = call("open", "path5", "--", *GREEDY)
         self.assertEqual(done.stdout.splitlines()[-1].split(), ["path5", "6", "16", "2"])
+        none = self.file("none.col", "p edge 0 0\n")
+        done = call("open", none, "--", *GREEDY)
+        self.assertEqual(done.stdout.splitlines()[-1].split(), ["none", "0", "0", "0"])
         done = call("open", "two", "--", *answering())
         self.assertIn("after 400 pulses nodes 1 and 2 said no channel", done.stdout)
