@@ -2,13 +2,14 @@
 tests take them from its tables."""
 import contextlib
 import io
+import re
 from unittest import mock
 
 from forestplan.network import Network
 from forestplan.workshop.player import PROGRESS_SECONDS, CasePlayer
 from forestplan.workshop.processes import last_errors
 from forestplan.workshop.right_rounds import RightRounds
-from forestplan.workshop.reasons import Why
+from forestplan.workshop.reasons import RULES, Why
 from tests.cases import Case
 from tests.tools import needs
 from tests.workshop.base import network, options_of
@@ -135,6 +136,19 @@ class Words(Case):
                 said = Why(rounds, v).of(p, **of)
                 name = f"{program} on {given.name}: node {v} in pulse {p}"
                 self.same(name, said[-len(sentence) :], sentence)
+
+    @needs("bin/forestplan", "bin/forestplay")
+    def test_each_drop(self):
+        """What the middle node of the row is told in the three drops. By hand: before them it had 1, 0 and 1, its parent
+        0, 1 and 0, and its child 5, which is dropped, 1 and 0."""
+        rounds = RightRounds(ROW, "colouring").work_out()
+        for p, dropped, own, above, below in ((8, 5, 1, 0, 5), (10, 4, 0, 1, 1), (12, 3, 1, 0, 0)):
+            said = Why(rounds, 1).of(p, port=0)
+            rule = RULES["drop"].format(p=p, dropped=dropped)
+            self.same(f"pulse {p}: the rule", said[: len(rule)], rule)
+            numbers = list(map(int, re.findall(r"\d+", said[len(rule) :])))
+            # In a forest its colour, the port and the colour of its parent, and the port and colour of its child.
+            self.same(f"pulse {p}: the numbers", numbers, [0, own, 1, above, 0, below])
 
 
 PYTHON = """\
