@@ -1,14 +1,25 @@
 """Pictures of rounds without a rule: the words beside what `forestlab explore` prints, what is red in a merge beside
 the rounds of ruled_rounds.py (tests/programs/test_schedules.py compares these with nodes that hear and send), and in
 the ends of other programs by hand. What the smallest networks show is in the stored pictures."""
-from forestplan.definitions.rounds import ColouringRounds
+import re
+
 from forestplan.networks.network_text import network_in_bytes
 from forestplan.schedules import rules
 from forestplan.schedules.ruled_rounds import RuledRounds
 from tests import TOP
 from tests.cases import example, said_by
 from tests.pictures.base import PictureCase, painter
-from tests.pictures.marks import SVG, centre, marks, nearest, pairs_joined, parsed, texts
+from tests.pictures.marks import (
+    SVG,
+    centre,
+    marks,
+    nearest,
+    numbered,
+    pairs_joined,
+    parsed,
+    texts,
+    texts_of,
+)
 
 LONG_ROW = b"p edge 9 5\ne 1 2\ne 2 3\ne 3 4\ne 4 5\ne 5 9\n"
 # By rule: the program, a network (none: its smallest), and the edges and the nodes that are red.
@@ -52,16 +63,46 @@ class Broken(PictureCase):
 
     def rule_rows(self, name, rounds, *options):
         """Red in a merge are the edges of the forests merged whose ends have one channel, and no others."""
-        net, clash = rounds.net, rounds.clash
+        clash = rounds.clash
         _, *groups = self.picture_of(*options)
         if clash.pulse is None:
-            merged = rounds.merged[clash.forest + 1], ColouringRounds(net).merged[clash.forest + 1]
-            for group, channels in zip(groups, merged):
-                # The channels after the merge are the second half.
-                circles = [*map(centre, marks(group, "channel"))][net.nodes :]
-                red = pairs_joined(group, "wrong", dict(zip(net.node_numbers, circles)))
-                wanted = alike(net, clash.forest, channels)
-                self.same(f"{name}, {group.get('class')}: what is red", red, wanted)
+            every = rounds, RuledRounds(rounds.net, []).work_out()
+            for group, own in zip(groups, every):
+                self.merge_rows(f"{name}, {group.get('class')}", group, own, clash)
+        else:
+            chain = [clash.v]
+            while parent := rounds.net.parent(clash.forest, chain[-1]):
+                chain.append(parent)
+            wanted = list(map(str, chain[: clash.pulse - 1]))[::-1]
+            for group in groups:
+                self.same(f"{name}: it and those above it", texts_of(group, "node"), wanted)
+
+    def merge_rows(self, name, group, rounds, clash):
+        """Three panels: the colours in the forest are in the middle, and the channels after the merge come last."""
+        net, f = rounds.net, clash.forest
+        circles = [*map(centre, marks(group, "channel"))][net.nodes :]
+        red = pairs_joined(group, "wrong", dict(zip(net.node_numbers, circles)))
+        self.same(f"{name}: what is red", red, alike(net, f, rounds.merged[f + 1]))
+        squares = marks(group, "colour", "alone")
+        places = dict(zip(net.node_numbers, map(centre, squares)))
+        forest = sorted(tuple(sorted(edge)) for edge, of in net.number.items() if of == f)
+        self.same(f"{name}: arrows", pairs_joined(group, "arrow", places), forest)
+        others = sorted(set(net.edges) - set(forest))
+        self.same(f"{name}: other edges", pairs_joined(group, "other", places), others)
+        colours, old = rounds.colours[f][-1], rounds.merged[f]
+        numbers = [int(text) for _, _, text in numbered(group, "colour", "alone")]
+        self.same(f"{name}: colours", numbers, [colours[v] for v in net.node_numbers])
+        # Of both nodes that go wrong the turn and the channel, and of whom it has heard.
+        heads = texts_of(group, "chooses")[::2]
+        turns = [
+            [colours[v], old[v]][: 1 if "pair" in rounds.without else 2] for v in (clash.v, clash.w)
+        ]
+        channels = [rounds.merged[f + 1][v] + 1 for v in (clash.v, clash.w)]
+        wanted = [
+            [v, *turn, channel] for v, turn, channel in zip((clash.v, clash.w), turns, channels)
+        ]
+        found = [list(map(int, re.findall(r"\d+", line))) for line in heads]
+        self.same(f"{name}: turns", sorted(found), sorted(wanted))
 
     def test_ends(self):
         """Each rule of a program that goes on where the colouring ends."""
