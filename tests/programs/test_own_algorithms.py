@@ -9,9 +9,13 @@ import time
 from forestplan.definitions.program import synchronous_run
 from forestplan.definitions.programs import program_at
 from forestplan.network import Network
+from forestplan.networks.network_text import network_in_bytes
+from forestplan.networks.texts import plain_text
+from forestplan.schedules import own_rounds
 from tests import FORESTLAB
 from tests.cases import Case, forestlab, said_by, text_in
 from tests.pictures.marks import data_of
+from tests.programs.test_plain_networks import reached
 from tests.programs.test_sequels import SAMPLES
 from tests.sentences import KEEP, NO_LINE, NO_TRUTH, NOT_COPIED, OTHERWISE, OUTSIDE
 
@@ -396,6 +400,25 @@ class OwnAlgorithms(Case):
             (["two", "--connected"], 2, "--connected is for --networks"),
         ):
             self.refusal(" ".join(arguments[:2]), said_by("explore", *arguments), status, said)
+
+    def test_made_by_chance(self):
+        """Each network is one that a file could have, written and read back. Some have bars and some none; some aren't
+        connected, unless that is asked for."""
+        for wanted in (False, True):
+            nets = list(own_rounds.by_chance(60, "1", wanted))
+            back = [network_in_bytes(plain_text(net).encode()) for net in nets]
+            for name, net, other in zip(range(60), nets, back):
+                got, read = (
+                    (one.nodes, one.edges, one.identifiers, one.barred) for one in (net, other)
+                )
+                self.same(f"network {name}", got, read)
+            are_joined = [len(reached(net, 1)) == net.nodes for net in nets]
+            self.same("is_connected", list(map(own_rounds.is_connected, nets)), are_joined)
+            self.same(f"connected: {wanted}", set(are_joined), {True, wanted})
+            self.same("bars", {bool(net.bars) for net in nets}, {True, False})
+            self.same(
+                "nodes", {net.nodes for net in nets}, set(range(1, own_rounds.MOST_NODES + 1))
+            )
 
     def test_messages(self):
         """One token walks along a row: held, or under way; a second one is found at once."""
