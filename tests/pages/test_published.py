@@ -273,6 +273,12 @@ class Folder(Case):
             self.note(f"no {arguments} with it", done.returncode == 2, done)
             self.note("one line", done.stderr.count("\n") == 1 and "takes no" in done.stderr)
             self.same("nothing is written", os.listdir(self.folder), [])
+        # A folder that it can't have isn't a wrong command line.
+        with open(os.path.join(self.folder, "mine"), "wb"):
+            done = self.called("--publish", ".")
+        said = (done.returncode, done.stdout, done.stderr.count("\n"))
+        self.same("a folder with a file in it", said, (1, "", 1))
+        self.same("its file is left", os.listdir(self.folder), ["mine"])
 
     def test_one_line(self) -> None:
         """A name with a line feed, and with what a terminal takes as an order, is said in one line."""
