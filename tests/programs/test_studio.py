@@ -12,6 +12,7 @@ import subprocess
 import sys
 import threading
 import time
+from collections import Counter
 from unittest import mock
 
 from forestplan.schedules.policies import POLICIES
@@ -386,11 +387,13 @@ class Answers(Server):
         )
         lines = run["text"].split("\n")
         got = self.found("replay", network=TRIANGLE, transcript="\n".join(lines[:101]))
-        self.note(
-            "a beginning of it",
-            got["ok"] and got["entries"] == 100 and len(got["pulses"]) == 3,
-            got,
-        )
+        self.same("a beginning of it", (got["ok"], got["entries"]), (True, 100))
+        made = [line.split()[1:] for line in lines[1:101]]
+        kinds = Counter(kind for _, kind, *_ in made)
+        self.same("under way after it", got["wires"], kinds["put"] - kinds["take"])
+        pulses = [[int(v), int(more[0])] for v, kind, *more in made if kind == "pulse"]
+        wanted = [max((p for v, p in pulses if v == node), default=0) for node in (1, 2, 3)]
+        self.same("the nodes' pulses after it", got["pulses"], wanted)
         spoilt = "\n".join(lines[:50] + lines[51:])
         self.note("a line less", not self.found("judge", network=TRIANGLE, transcript=spoilt)["ok"])
         rows = [
