@@ -71,6 +71,24 @@ class Watch(PictureCase):
             wanted = {at: channel for at, channel in wanted.items() if at[1]}
             self.same(name, found, wanted)
 
+    def test_closes(self):
+        """In its last pulse a node waits for the close of each neighbour whose it hasn't taken yet, and earlier for
+        none."""
+        text = transcript(example("petersen"), "closes")
+        net = network_in_bytes(example("petersen"))
+        (run,) = data_of(self.page("petersen", text))["runs"]
+        lacks = {v: set(ws) for v, ws in net.neighbours.items()}
+        wrong = []
+        for entry, row in zip(fields_of(text), run["rows"]):
+            v, look = int(entry[1]), run["looks"][row[2]]
+            if entry[2] == "take" and entry[4] == "close":
+                lacks[v].remove(int(entry[3]))
+            waits = {w for what, w in look["waits"] if what == "close"}
+            if waits != (lacks[v] if look["pulse"] == last_pulse(net) else set()):
+                wrong.append((entry, waits))
+        self.same("entries", len(run["rows"]), len(fields_of(text)))
+        self.same("those with other waits", wrong, [])
+
     def test_run_of_a_player(self):
         """The steps of a player show what its transcript shows."""
         network = network_in_bytes(example("triangle"))
