@@ -9,7 +9,7 @@ import time
 
 from tests.cases import complaints_of, contents, wait_until, written_by
 from tests.tools import needs
-from tests.workshop.base import ALPHA, DOOR, EXAMPLES, LIMIT, Played, played
+from tests.workshop.base import ALPHA, DOOR, EXAMPLES, LIMIT, Played, call, played
 
 # A number of seconds that no other process sleeps: so a child that is left can be found.
 MARK = str(100_000 + os.getpid())
@@ -167,6 +167,13 @@ class Misbehaving(Played):
         self.same(
             "what is right", dict(found.lines)["right"], "pulse 1, for which hello 2 by port 0 came"
         )
+
+    def test_what_a_right_program_leaves_behind(self):
+        """A process in a session of its own, which no signal to the program's reaches, ends with the run, too."""
+        code = f"subprocess.Popen(['sleep', {MARK!r}], start_new_session=True); right(lines)"
+        done = call("rounds", "two", "--", *command(code))
+        self.note("it is right", done.returncode == 0, done)
+        self.same("none is left", left_at_last(), [])
 
     def test_ending_the_workshop_ends_the_programs(self):
         rows = (
