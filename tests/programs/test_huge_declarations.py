@@ -2,7 +2,9 @@
 line before anything of that size is made: the command has little memory, and few seconds of the processor."""
 import resource
 
+from forestplan.faults import Fault
 from forestplan.limits import MAX_NODES
+from forestplan.networks import cross_check
 from tests.cases import Case, forestlab
 from tests.tools import need
 
@@ -39,7 +41,7 @@ def limited() -> None:
 
 
 class Declared(Case):
-    def refused(self, rows: Rows) -> None:
+    def refused(self, rows: Rows, where: str = "") -> None:
         for command, text, said in rows:
             name = next(word for word in command.split() if word.startswith("net."))
             path = self.file(name, text)
@@ -47,13 +49,26 @@ class Declared(Case):
             done = forestlab(*arguments, preexec_fn=limited, limit=100)
             self.refusal(f"{command}: {text[:40]!r}", done, 1, said.encode())
             self.same(f"{command}: {text[:40]!r}, lines", done[2].count(b"\n"), 1)
+            self.note(f"{command}: {text[:40]!r}, where", where.encode() in done[2], done[2])
 
     def test_huge_numbers_are_refused(self) -> None:
         self.refused(BY_US)
 
     def test_huge_numbers_of_letters_are_refused(self) -> None:
         need(self, "networkx")
-        self.refused(BY_NETWORKX)
+        self.refused(BY_NETWORKX, " line 1: ")
+
+    def test_the_longest_tag(self) -> None:
+        """A comment of so many letters before its `>` is read, and one of a letter more isn't."""
+        begin, end = b"<graphml>\n<!--", b"--><graph/></graphml>"
+        for more in (0, 1):
+            letters = (1 << 20) + more - len(b"<!----")
+            try:
+                said = str(cross_check.in_xml(begin + b"x" * letters + end, "net.graphml"))
+            except Fault as why:
+                said = str(why)
+            is_refused = "line 2: " in said and "more than 1 MiB" in said
+            self.same(f"{more} letters more", is_refused, more == 1)
 
     def test_the_largest_graph6_is_read(self) -> None:
         """Few edges of as many nodes as a network may have, as bits of all pairs: 33 MB of letters."""
