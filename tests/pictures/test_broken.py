@@ -1,6 +1,7 @@
 """Pictures of rounds without a rule: the words beside what `forestlab explore` prints, what is red in a merge beside
 the rounds of ruled_rounds.py (tests/programs/test_schedules.py compares these with nodes that hear and send), and in
 the ends of other programs by hand. What the smallest networks show is in the stored pictures."""
+import itertools
 import re
 
 from forestplan.networks.network_text import network_in_bytes
@@ -76,6 +77,11 @@ class Broken(PictureCase):
             wanted = list(map(str, chain[: clash.pulse - 1]))[::-1]
             for group in groups:
                 self.same(f"{name}: it and those above it", texts_of(group, "node"), wanted)
+                # The heads of the columns are written last before this word.
+                before = texts(group)[: texts(group).index("pulse")]
+                heads = list(itertools.takewhile(str.isdecimal, reversed(before)))
+                pulses = list(map(str, range(clash.pulse, 1, -1)))
+                self.same(f"{name}: a column for each pulse", heads, pulses)
 
     def merge_rows(self, name, group, rounds, clash):
         """Three panels: the colours in the forest are in the middle, and the channels after the merge come last."""
