@@ -66,6 +66,9 @@ class Schedules(PictureCase):
         for name, without, window in (
             ("two", (), (0, 104)),
             ("two", (), (0, 3)),
+            # The pulses inside marks are as small as they may be, and have no room.
+            ("two", (), (0, 57)),
+            ("path", (), (0, 54)),
             ("two", (), None),
             ("path", (), None),
             ("path", (), (0, 20)),
@@ -99,6 +102,8 @@ class Schedules(PictureCase):
         row("one end", "ends in one state" in text, not space.faults)
         kinds = [text for text in texts(root) if text in FAR]
         row("how far neighbours are", kinds, FAR[: max(2, apart_in(space, shown) + 1)])
+        has_pulses = any(group.find(f"{SVG}text") is not None for group in marks(root, "state"))
+        row("it says that pulses are inside", "inside are" in text, has_pulses)
         part = f"{low} to {high} of {last}" in text
         row("it says which part is drawn", part, (low, high) != (0, last))
         bold = sorted((*ends(group), title(group)) for group in marks(root, "bold"))
