@@ -386,14 +386,6 @@ class Answers(Server):
             slow["of"],
         )
         lines = run["text"].split("\n")
-        got = self.found("replay", network=TRIANGLE, transcript="\n".join(lines[:101]))
-        self.same("a beginning of it", (got["ok"], got["entries"]), (True, 100))
-        made = [line.split()[1:] for line in lines[1:101]]
-        kinds = Counter(kind for _, kind, *_ in made)
-        self.same("under way after it", got["wires"], kinds["put"] - kinds["take"])
-        pulses = [[int(v), int(more[0])] for v, kind, *more in made if kind == "pulse"]
-        wanted = [max((p for v, p in pulses if v == node), default=0) for node in (1, 2, 3)]
-        self.same("the nodes' pulses after it", got["pulses"], wanted)
         spoilt = "\n".join(lines[:50] + lines[51:])
         self.note("a line less", not self.found("judge", network=TRIANGLE, transcript=spoilt)["ok"])
         rows = [
@@ -408,6 +400,19 @@ class Answers(Server):
             self.note(f"check {given}", got["said"] == said, got)
         got = self.found("check", network=TRIANGLE + "b 1 2\n", plan=[2, 3, 1])
         self.note("a barred channel", (got["code"], got["at"]) == ("C8", [1]), got)
+
+    def test_replay(self):
+        """Where a run is after its first entries, counted by hand."""
+        run = self.found("run", network=TRIANGLE, how="seed", policy="random", seed="7")
+        lines = run["text"].split("\n")
+        got = self.found("replay", network=TRIANGLE, transcript="\n".join(lines[:101]))
+        self.same("a beginning of it", (got["ok"], got["entries"]), (True, 100))
+        made = [line.split()[1:] for line in lines[1:101]]
+        kinds = Counter(kind for _, kind, *_ in made)
+        self.same("under way after it", got["wires"], kinds["put"] - kinds["take"])
+        pulses = [[int(v), int(more[0])] for v, kind, *more in made if kind == "pulse"]
+        wanted = [max((p for v, p in pulses if v == node), default=0) for node in (1, 2, 3)]
+        self.same("the nodes' pulses after it", got["pulses"], wanted)
 
     def test_seeds(self):
         """A run by a seed is that of `forestlab simulate`, under each policy."""

@@ -139,8 +139,8 @@ class Words(Case):
 
     @needs("bin/forestplan", "bin/forestplay")
     def test_each_drop(self):
-        """What the middle node of the row is told in the three drops. By hand: before them it had 1, 0 and 1, its parent
-        0, 1 and 0, and its child 5, which is dropped, 1 and 0."""
+        """What the middle node of the row is told in the three drops. By hand: before them it had 1, 0 and 1, its
+        parent 0, 1 and 0, and its child 5, which is dropped, 1 and 0."""
         rounds = RightRounds(ROW, "colouring").work_out()
         for p, dropped, own, above, below in ((8, 5, 1, 0, 5), (10, 4, 0, 1, 1), (12, 3, 1, 0, 0)):
             said = Why(rounds, 1).of(p, port=0)
