@@ -75,7 +75,7 @@ class Look(Page):
             ("example=two&tab=adversary", ["await_ack", "payload", "pulse"]),
             ("example=two&tab=draw", ["channel"]),
             ("example=barred&tab=draw", ["bar", "channel"]),
-            ("example=petersen&tab=check&plan=1_1", ["blank", "channel", "clash", "ring_wrong"]),
+            ("example=petersen&tab=check&plan=1_1", ["blank", "channel", "clash"]),
             ("example=petersen&tab=rounds&at=5&forest=0", ["arrow", "colour", "payload"]),
         ):
             self.go_and_wait(place)
@@ -218,9 +218,14 @@ class Look(Page):
         self.addCleanup(self.page.size, 1280, 800)
         for wide, high in ((1280, 800), (360, 740)):
             self.page.size(wide, high, wide == 360)
-            self.go_and_wait(PLACES["check"])
+            # One that has room, and one that has none on a phone: then it isn't there.
+            self.go_and_wait("example=star&tab=check&plan=1_1_1_1_1_1_1_1_1")
             self.sees("a note", "document.querySelector('#net > g:last-child rect')")
             self.reads(f"{wide}: covered nodes", apart, 0)
+            self.go_and_wait("example=petersen&tab=check&plan=1_2_1_2_3_1_1_1_1_1")
+            self.sees("wrong", "legend.querySelector('[data-kind-of-mark=ring_wrong]')")
+            is_there = self.value("Boolean(document.querySelector('#net > g:last-child rect'))")
+            self.same(f"{wide}: none is covered", is_there and self.value(apart), is_there and 0)
 
     def test_speech(self) -> None:
         """What a lecturer says begins as a sentence."""

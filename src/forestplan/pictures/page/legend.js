@@ -1,7 +1,7 @@
 // A legend: a swatch and a few words for each kind of mark that a picture has now, and for no other one. A mark says by
 // its attribute `data-mark` of which kind it is.
 import {PALE, WIRES} from "./hues.js";
-import {blank, channelCircle, colourSquare, html, mark, patch, pill} from "./marks.js";
+import {blank, channelCircle, colourSquare, html, mark, patch, pill, pointed} from "./marks.js";
 
 const WIDE = 26, HIGH = 18, X = WIDE / 2, Y = HIGH / 2, R = 7;
 
@@ -30,7 +30,9 @@ const KINDS = {
   found: [() => [mark("circle", {cx: X, cy: Y, r: R, fill: "var(--strong)", stroke: "var(--ink)"})], "what it has found is beside it"],
   lit: [() => [mark("circle", {cx: X, cy: Y, r: R + 1, fill: "var(--chosen)", stroke: "var(--glow)", "stroke-width": 1.5})], "it has just chosen"],
   pulse: [() => node("var(--paper)", "var(--ink)"), "a node, with its pulse"],
-  reacting: [() => node("var(--paper)", "var(--ink)"), "how often it has acted; beside it, its result so far"],
+  reacting: [() => node("var(--paper)", "var(--ink)"), "a node; beside it, its result so far"],
+  acted: [() => [...node("var(--paper)", "var(--ink)"), mark("text", {x: X, y: Y + 4, "font-size": 11, fill: "var(--ink)", "text-anchor": "middle"}, "1")],
+    "how often it has acted"],
   message: [() => [mark("rect", {x: 2, y: 3, width: WIDE - 4, height: HIGH - 6, rx: 6, fill: WIRES.payload, stroke: "var(--rim)"})],
     "a message: each word has its colour"],
   safe_node: [() => node("var(--safe)", "var(--ink)"), "it has said safe"],
@@ -80,7 +82,7 @@ export function legend(place, pictures, meanings = {}) {
     Object.entries({viewBox: `0 0 ${WIDE} ${HIGH}`, width: WIDE, height: HIGH, "aria-hidden": "true"})
       .forEach(([name, value]) => svg.setAttribute(name, String(value)));
     patch(svg, KINDS[kind][0]());
-    one.append(svg, said[k]);
+    one.append(svg, pointed(said[k]));
     return one;
   }));
 }

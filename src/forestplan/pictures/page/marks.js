@@ -55,10 +55,16 @@ export function targetOf(event) { return /** @type {HTMLElement} */ (event.targe
 // An element of the page by its name, which it has to have.
 /** @type {<K extends keyof Elements>(id: K) => Elements[K]} */
 export function element(id) { return /** @type {any} */ (document.getElementById(id)); }
+// Whether a finger points: then texts say *tap* for *click*, and nothing of keys.
+export const isTouched = typeof matchMedia === "function" && matchMedia("(pointer: coarse)").matches;
+/** @param {string} said */
+export function pointed(said) {
+  return isTouched ? said.replace(/\b([Cc])lick(s?)\b(?!\.\w)/g, (_, first, end) => `${first === "C" ? "T" : "t"}ap${end}`) : said;
+}
 /** @type {<K extends keyof HTMLElementTagNameMap>(name: K, text?: string | number | null, attributes?: Attributes) => HTMLElementTagNameMap[K]} */
 export function html(name, text = null, attributes = {}) {
   const element = document.createElement(name);
-  if (text !== undefined && text !== null) element.textContent = String(text);
+  if (text !== undefined && text !== null) element.textContent = name === "code" || name === "pre" ? String(text) : pointed(String(text));
   for (const key in attributes) element.setAttribute(key, String(attributes[key]));
   return element;
 }

@@ -20,7 +20,7 @@ export const MESSAGES = {
 // A node, with how often it has acted, and at it what it has found.
 /** @param {Stage} stage @param {ReactedLook} is @param {number} v @param {number} x @param {number} y @param {number} r @returns {Marks} */
 export function reactedMarks(stage, is, v, x, y, r) {
-  return [mark("circle", {cx: x, cy: y, r, fill: "var(--paper)", stroke: "var(--ink)", "stroke-width": BLANK_RIM, "data-mark": "reacting"}),
+  return [mark("circle", {cx: x, cy: y, r, fill: "var(--paper)", stroke: "var(--ink)", "stroke-width": BLANK_RIM, "data-mark": is.acts ? "acted" : "reacting"}),
     textMark(x, y, r * BLANK_SIZE, "var(--ink)", is.acts || "", {"font-weight": "bold"}),
     ...resultWords(x, stage.wordsAt(v, 14), stage.largest / 2, is.found, stage.roomBeyond(v))];
 }

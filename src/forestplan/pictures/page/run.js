@@ -21,10 +21,22 @@ function wireWords(said, isLong) {
   if (kind === "payload") return (isLong ? word + " " : "") + (number.length < 5 ? number : number.slice(0, 3) + "…");
   return isLong ? kind + (pulse ? " " + pulse : "") : kind[0] + (pulse || "");
 }
+/** @param {Stage} stage */
+function wireSize(stage) { return Math.max(9, Math.min(stage.largest - 10.5, stage.radius * 0.55)); }
+// Whether wires are shown in words: there are few nodes, and words at the end of each link would cover no others.
+const FEW_NODES = 12, WIDE_STAGE = 500, USUAL_LETTERS = 7;
+/** @param {Stage} stage */
+export function isWordy(stage) {
+  const {net, wide} = stage;
+  if (net.nodes.length > FEW_NODES || wide <= WIDE_STAGE) return false;
+  const size = wireSize(stage), across = pillWide(USUAL_LETTERS, size), up = pillHigh(size);
+  const ends = net.edges.flatMap(([v, w]) => [stage.beside(v, w, 1, across, up, 3), stage.beside(w, v, 1, across, up, 3)]);
+  return ends.every(([x, y], k) => ends.every((other, n) => n >= k || Math.abs(other[0] - x) >= across || Math.abs(other[1] - y) >= up));
+}
 // A wire's mark at a place of its way, 0 at its start and 1 at its end.
 /** @type {(stage: Stage, v: number, w: number, far: number, said: string, isLong: boolean, more?: Attributes, look?: Attributes & {ink?: string}, shown?: string) => Mark} */
 export function wireMark(stage, v, w, far, said, isLong, more = {}, look = {}, shown = wireWords(said, isLong)) {
-  const kind = said.split(" ")[0], size = Math.max(9, Math.min(stage.largest - 10.5, stage.radius * 0.55));
+  const kind = said.split(" ")[0], size = wireSize(stage);
   const [x, y] = stage.beside(v, w, far, pillWide(shown.length, size), pillHigh(size), 3);
   return mark("g", {class: "wire", ...more},
     [mark("title", {}, `${said}, from ${v} to ${w}`), ...pill(x, y, shown, kind, size, look)]);
@@ -36,9 +48,9 @@ const OF_ALPHA = {shown: wireWords, look: () => ({})};
 // more attributes. Messages of another machine have looks `of` their own.
 /** @param {Stage} stage @param {number} v @param {number} w @param {string[]} wires @param {(place: number) => Attributes} look @param {LooksOfMessages} of */
 export function queueMarks(stage, v, w, wires, look, of = OF_ALPHA) {
-  const isLong = stage.net.nodes.length <= 12 && stage.wide > 500;
-  const length = Math.hypot(stage.X(v) - stage.X(w), stage.Y(v) - stage.Y(w));
-  const wide = (isLong ? 92 : 34) / Math.max(1, length - 2 * stage.radius);
+  const isLong = isWordy(stage), length = Math.hypot(stage.X(v) - stage.X(w), stage.Y(v) - stage.Y(w));
+  const longest = Math.max(0, ...wires.map(said => of.shown(said, isLong).length));
+  const wide = Math.max(isLong ? 92 : 34, pillWide(longest, wireSize(stage)) + 8) / Math.max(1, length - 2 * stage.radius);
   const apart = Math.min(1 / Math.max(1, wires.length - 1), wide);
   return wires.map((said, place) => {
     const {free, ...more} = look(place);
@@ -203,7 +215,7 @@ export class RunFilm {
   }
   /** @param {Stage} stage @param {number} stamp @param {number} at @param {RunOptions} options @returns {Marks} */
   wires(stage, stamp, at, {node, only}) {
-    const isLong = this.net.nodes.length <= 12 && stage.wide > 500, shown = [];
+    const isLong = isWordy(stage), shown = [];
     for (const wire of this.table.wires) {
       if (wire[3] >= at || wire[5] !== null && wire[5] < at) continue;
       const said = this.table.texts[wire[2]];

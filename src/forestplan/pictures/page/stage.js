@@ -208,11 +208,11 @@ export class Stage {
     const near = this.near(v), low = this.Y(v) + this.radius;
     return near.length > 0 && near.every(w => this.Y(w) > low);
   }
-  // How wide what is written below a node may be, or above it.
+  // How wide what is written below a node may be, or above it: up to other circles and the border.
   /** @param {number} v */
   roomBeyond(v) {
     const [x, y] = this.place(v), at = this.isTop(v) ? y - 2 * this.radius - WORDS_BELOW - 1 : y;
-    return wordsWide(this.places, [x, at], this.radius, this.least);
+    return Math.min(wordsWide(this.places, [x, at], this.radius, this.least), 2 * Math.min(x, this.isZoomed ? x : this.wide - x));
   }
   // The height at which it is written, so far from the circle.
   /** @param {number} v @param {number} far */
@@ -323,11 +323,11 @@ export class Stage {
       return all.filter(/** @returns {one is Label} */ one => one && one.said !== "");
     });
   }
-  // The label of a node where it has room. Without room it is left out, but for a node that is ringed.
+  // The label of a node where it has room. In a crowd it is left out without room, but for a node that is ringed.
   /** @param {number} v @param {string} said @param {boolean} isRinged @returns {Mark | null} */
   labelMark(v, said, isRinged) {
     const [text, , x, y] = this.spots[v - 1], texts = this.texts[v - 1];
-    if (!texts.length || text < 0 && !isRinged) return null;
+    if (!texts.length || text < 0 && !isRinged && isCrowd(this.net.nodes.length, this.net.edges.length)) return null;
     const {said: shown, size} = texts[Math.max(0, text)], wide = labelHalf(shown.length, size);
     return textMark(...this.outside(v, [x, y], wide, size), size, "var(--soft)", shown, {...HALO, "data-label": v});
   }

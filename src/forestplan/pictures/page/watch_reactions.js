@@ -2,7 +2,7 @@
 import {element, html, isColour, row} from "./marks.js";
 import {legend} from "./legend.js";
 import {MESSAGES, hueOf, reactedMarks, reactedWords} from "./messages.js";
-import {firstOf, wireMark} from "./run.js";
+import {firstOf, isWordy, wireMark} from "./run.js";
 import {Stage, nameOf} from "./stage.js";
 import {followPlace, openPage} from "./time.js";
 
@@ -25,7 +25,7 @@ function lookOf_(v) {
 }
 /** @param {number} stamp @returns {Marks} */
 function messagesAt(stamp) {
-  const isLong = net.nodes.length <= 12 && picture.wide > 500;
+  const isLong = isWordy(picture);
   return run.wires.filter(one => one[3] < at && (one[5] === null || one[5] >= at)).map(([v, w, text, , put, , take]) => {
     const said = run.texts[text], far = take === null ? 0.5 : Math.max(0, Math.min(1, (stamp - put) / (take - put)));
     return wireMark(picture, v, w, far, said, isLong, {}, MESSAGES.look(said), MESSAGES.shown(said, isLong));

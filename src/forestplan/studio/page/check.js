@@ -1,13 +1,13 @@
 // The tab Check: a plan that is typed or clicked, with the verdict on it, and transcripts.
-import {announce, asks, by, capital, hello, hooks, isTouched, programNamed, show, stage, tabs} from "./base.js";
-import {blank, channelCircle, html, note, noteWidth, sentence} from "./marks.js";
+import {announce, asks, by, capital, hello, hooks, programNamed, show, stage, tabs} from "./base.js";
+import {blank, channelCircle, html, isTouched, note, noteWidth, sentence} from "./marks.js";
 import {net, neighbours, text} from "./model.js";
 
 /** @type {{plan: number[], verdict: GoodPlan | BadPlan | null, typed: number | null}} */
 export const check = {plan: [], verdict: null, typed: null};
 const CLASH = {stroke: "var(--wrong)", "stroke-width": 3, "stroke-dasharray": "5 4", "data-mark": "clash"};
 /** @type {Record<string, string>} */
-const SAID = {C4: "one channel", C8: "barred here", C1: "no channel yet", C5: "too great"};
+const SAID = {C4: "one channel", C8: "barred here", C5: "too great"};
 
 /** @param {number} v @param {number} channel */
 function set(v, channel) { check.plan[v - 1] = Math.max(0, Math.min(9999, channel)); }
@@ -18,27 +18,31 @@ function ask() {
     show();
   });
 }
-// Above a node, or where it covers no other one: below it, or above it and aside.
-/** @param {number} v @param {number} wide @returns {Point} */
-function placeOfNote(v, wide) {
-  const x = stage.X(v), y = stage.Y(v), off = stage.radius + 18, aside = (wide - stage.radius) / 2;
+// Where a note covers no circle: on an edge or beside it, above a node or below it. Without such a place there is none:
+// the verdict says the same.
+/** @param {number[]} at @param {number} wide @returns {Point | undefined} */
+function placeOfNote([v, w], wide) {
+  const [x, y] = w ? stage.middle(v, w) : stage.place(v), off = stage.radius + 18, aside = (wide - stage.radius) / 2;
   const left = Math.max(wide / 2 + 1, x - aside), right = Math.min(stage.wide - wide / 2 - 1, x + aside);
   /** @type {Point[]} */
   const places = [[x, y - off], [x, y + off], [right, y - off], [left, y - off]];
+  if (w) places.unshift([x, y]);
   /** @param {Point} place */
-  const isFree = ([across, up]) => up < stage.high - 12 && !net.nodes.some((_, k) => k + 1 !== v
-    && Math.abs(stage.X(k + 1) - across) < stage.radius + wide / 2 && Math.abs(stage.Y(k + 1) - up) < stage.radius + 10);
-  return places.find(isFree) || places[0];
+  const isFree = ([across, up]) => up > 12 && up < stage.high - 12 && Math.abs(across - stage.wide / 2) <= (stage.wide - wide) / 2
+    && !net.nodes.some((_, k) => Math.abs(stage.X(k + 1) - across) < stage.radius + wide / 2 && Math.abs(stage.Y(k + 1) - up) < stage.radius + 10);
+  return places.find(isFree);
 }
+// Where the plan is wrong. A node without a channel is seen to have none.
+/** @param {GoodPlan | BadPlan | null} is */
+function wrongAt(is) { return is && !is.ok && is.code !== "C1" ? is.at.filter(v => v >= 1 && v <= net.nodes.length) : []; }
 function showPlan() {
-  const is = check.verdict, at = is && !is.ok ? is.at.filter(v => v >= 1 && v <= net.nodes.length) : [];
-  const {plan} = check;
+  const is = check.verdict, at = wrongAt(is), {plan} = check;
   /** @type {(v: number, w: number) => boolean} */
   const isWrong = (v, w) => at.length === 2 && at.includes(v) && at.includes(w);
   const above = () => {
     if (!at.length || !is || is.ok) return [];
-    const [v, w] = at, said = SAID[is.code] || is.code;
-    return note(...(at.length === 2 ? stage.middle(v, w) : placeOfNote(v, noteWidth(said))), said);
+    const said = SAID[is.code] || is.code, place = placeOfNote(at, noteWidth(said));
+    return place ? note(...place, said) : [];
   };
   stage.draw({above, rings: v => at.includes(v) ? ["var(--wrong)"] : [],
     says: v => plan[v - 1] ? `channel ${plan[v - 1]}` : "no channel",
