@@ -49,7 +49,8 @@ DONE_AT = (
 # The words on the network that are cut.
 CUT = "Array.from(net.querySelectorAll('text'), one => one.textContent).filter(said => said.includes('…'))"
 # What is said of keys, as far as it is seen.
-OF_KEYS = "(document.body.innerText.match(/Ctrl|Shift|\\bTab key|press A\\b|Keys:|Space plays/g) || []).join()"
+OF_KEYS = """(document.body.innerText.match(/Ctrl|Shift|\\bTab key|press A\\b|Keys:|Space plays|\\b[Cc]lick/g)
+  || []).join()"""
 
 
 class Texts(Case):
@@ -174,7 +175,7 @@ class Steps(Page):
                 self.same("no words are cut", self.value(CUT), [])
 
     def test_keys(self) -> None:
-        """Where a finger points nothing is said of keys; elsewhere it is."""
+        """Where a finger points nothing is said of keys nor of clicks; elsewhere it is."""
         for wide, high, is_phone in WINDOWS:
             self.open(wide, high, is_phone)
             found = []
@@ -250,6 +251,23 @@ class Steps(Page):
         self.sees("step 7", "studio.seen.step === 7 && studio.net.nodes.length === 3", 10)
         self.value("lesson.querySelector('[data-way=back]').click()")
         self.sees("as it was left", "studio.seen.step === 6 && studio.net.edges.length === 2", 10)
+
+    def test_on_to_a_step_without_a_place(self) -> None:
+        """That a step is done is said below the network as long as the step is there."""
+        self.open(1280, 800, False)
+        self.step(1, 1)
+        self.value("lesson.querySelector('form input').value = '4'")
+        self.value("lesson.querySelector('form').requestSubmit()")
+        self.sees("done", "hint.textContent.startsWith('☑ Done')", 10)
+        self.value("lesson.querySelector('[data-way=on]').click()")
+        self.sees("on", "studio.seen.step === 2 && lesson.textContent.includes('step 2 of')", 10)
+        self.reads("not any more", "hint.textContent.includes('Done')", False)
+        self.page.click(*self.at(6))
+        self.sees("node 6", "chosen.textContent.includes('Node 6')", 10)
+        self.reads("it can't be changed", "chosen.querySelectorAll('input').length", 0)
+        self.reads("nor removed", "document.getElementById('delete').disabled", True)
+        self.page.key("Delete", code="Delete", windowsVirtualKeyCode=46)
+        self.reads("by no key either", "studio.net.nodes.length", 10)
 
     def test_under_way(self) -> None:
         """What says that something is under way covers no node."""

@@ -107,14 +107,16 @@ CHANNELS = LessonSteps(
             SeenExercise(
                 name="row",
                 hint="Transmitter 4 lies between the transmitters 1 and 2.",
-                answer="Join 3 with 1, 1 with 4, and 4 with 2. The only other row is 1 – 4 – 2 – 3.",
+                answer="Join 3 with 1, 1 with 4, and 4 with 2. The only other row is 1 – 4 – 2 – 3. In both, "
+                "transmitter 1 or 2 has two neighbours with higher numbers, so the plan is put together from two "
+                "parts: lessons 2 to 4 say how.",
             ),
         ),
         TableStep(
             "net=0.0_90.70_180.0_270.70~1-2_2-3_3-4&tab=draw",
             "Why don't transmitters simply choose in the order of their numbers? Each of them would wait until all "
             "its neighbours with a lower number have chosen. A transmitter without such a neighbour chooses in "
-            "round 1.",
+            "round 1. (In the circles are still the channels of the program, which goes another way.)",
             SaidExercise(
                 name="rounds",
                 asks="In how many rounds would this row choose?",
@@ -624,7 +626,8 @@ REACTIONS = LessonSteps(
         TableStep(
             "example=triangle&tab=adversary&program=echo",
             "The order decides who is whose parent: a node takes the sender of the first wave that it hears. Choose "
-            "the messages so that node 2 becomes the parent of node 3, and go on to the end.",
+            "the messages so that node 2 becomes the parent of node 3, and go on to the end. (`me.parent` is a port: "
+            "it counts a node's neighbours, the lowest first, from 0.)",
             SeenExercise(
                 name="tree",
                 hint="Node 3 has to hear the wave of node 2 before it hears that of node 1.",

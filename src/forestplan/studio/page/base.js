@@ -1,7 +1,7 @@
 // What the tabs of the studio share: the stage, what is said of calls, and the tab that is seen.
 import {Wrong, call, cancel} from "./api.js";
 import {net} from "./model.js";
-import {coded, element, html} from "./marks.js";
+import {coded, element, html, isTouched} from "./marks.js";
 import {Stage} from "./stage.js";
 import {Time} from "./time.js";
 
@@ -68,8 +68,6 @@ export function hide(id, isHidden) { by(id).toggleAttribute("hidden", isHidden);
 export function show() { hooks.show(); }
 /** @param {TabName} tab @param {More} [more] */
 export function go(tab, more) { hooks.go(tab, more); }
-// Whether a finger points: then nothing is said of keys.
-export const isTouched = matchMedia("(pointer: coarse)").matches;
 export const KEYS = isTouched ? "" : "Space plays, arrows step.";
 // The place of the slider, as an address has it.
 export function timeAt() { return Math.round(time.at * 100) / 100; }

@@ -26,7 +26,7 @@ function showPlan() {
   const [undos, redos] = model.depth();
   by("undo").disabled = !undos;
   by("redo").disabled = !redos;
-  by("delete").disabled = !seen.node && !seen.edge;
+  by("delete").disabled = !seen.node && !seen.edge || isOnlyLookedAt();
   const chosen = seen.node ? `Node ${seen.node} is chosen: ${says(seen.node)}. ` : seen.edge
     ? `Edge ${seen.edge.join("–")} is chosen. ` : "";
   announce(`${chosen}${count(net.nodes.length, "node")}, ${count(net.edges.length, "edge")}`);
@@ -110,7 +110,7 @@ export function inspect() {
     barsOf, "Barred channels are numbers from 1 to 2,048, as 1, 4-6.");
   const channel = drawn.plan && drawn.plan.plan[v - 1];
   const identifier = node.id ? `, identifier ${node.id}` : "";
-  place.replaceChildren(html("h2", `Node ${v}${identifier}` + (channel ? `, channel ${channel}` : "")), box,
+  place.replaceChildren(html("h2", `Node ${v}${identifier}` + (channel ? `, channel ${channel}` : "")), isOnlyLookedAt() ? "" : box,
     html("p", `neighbours: ${neighbours(v).join(", ") || "none"}`));
   if (on >= 0) fieldsOf(box)[on].focus();
   // It leads to another tab, and out of a lesson's step.
@@ -135,6 +135,7 @@ function choose(v, edge = null) { seen.node = v; seen.edge = edge; inspect(); sh
 /** @param {number | null} v */
 function chooseOrNot(v) { choose(v === seen.node ? null : v); }
 function remove() {
+  if (isOnlyLookedAt()) return;
   if (seen.edge) model.toggleEdge(...seen.edge);
   else if (seen.node) { const v = seen.node; seen.node = null; model.removeNode(v); }
 }

@@ -13,6 +13,8 @@ import {countOf, isDone, tick} from "./ticks.js";
 let shown = "";
 // The call that judges what is seen: what it has asked, and when it asks.
 let asked = "", asking = 0;
+// How many answers have been given on this page.
+let answers = 0;
 // Whether the exercise of the step has been done since the step was opened.
 let isFresh = false;
 
@@ -127,8 +129,7 @@ function go(lesson, step, isAgain = false) {
   if (!place && isOn && !isAgain && !was) {
     leftAt.set(from, hooks.here());
     Object.assign(seen, {step});
-    showCard();
-    return hooks.link();
+    return show();
   }
   const left = hooks.open(was || `lesson=${lesson}&step=${step}`);
   if (from && !isAgain) leftAt.set(from, left);
@@ -197,11 +198,13 @@ function form(lesson, is) {
 // Asks for the verdict on an exercise, and says it; one that is done is ticked off.
 /** @param {number} lesson @param {Exercise} is @param {ExerciseCall} what */
 async function judged(lesson, is, what) {
+  const mine = ++answers;
   try {
     const found = await call("exercise", what);
-    if (!found || !isOpen(lesson, is)) return;
+    // Another answer has been given since.
+    if (!found || mine !== answers || !isOpen(lesson, is)) return;
     if (found.done) {
-      finish(lesson, is, found.said);
+      finish(lesson, is, whole(found.said));
     } else if (!isDone(lesson, is)) say(lesson, is, notYet(found.said));
   } catch (fault) {
     if (!(fault instanceof Wrong)) throw fault;
@@ -210,7 +213,9 @@ async function judged(lesson, is, what) {
 }
 // What is lacking, as a sentence: a published page says in whole ones what it can't judge.
 /** @param {string} text */
-function notYet(text) { return `Not yet: ${text}${text.endsWith(".") ? "" : "."}`; }
+function notYet(text) { return `Not yet: ${whole(text)}`; }
+/** @param {string} text */
+function whole(text) { return text + (text.endsWith(".") ? "" : "."); }
 /** @param {number} lesson @param {Exercise} is */
 function isOpen(lesson, is) {
   const step = stepSeen();
@@ -280,7 +285,7 @@ function look() {
 hooks.answered = asked_ => {
   const step = stepSeen(), {lesson} = seen, is = step && step.exercise;
   if (!lesson || !is || is.kind !== "predicted" || asked_.node !== is.node) return;
-  if (("pulse" in asked_ ? asked_.pulse : 0) === is.pulse) finish(lesson, is, "done");
+  if (("pulse" in asked_ ? asked_.pulse : 0) === is.pulse) finish(lesson, is, "Done.");
 };
 // A text that is made when it is opened.
 /** @param {string} title @param {string} text */

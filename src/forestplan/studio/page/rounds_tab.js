@@ -39,9 +39,10 @@ function ready() { return rounds.film && rounds.of === programNamed() + text() ?
 /** @param {RoundsFilm} film @param {number} p */
 function storyOf(film, p) {
   if (p === film.last) return endOf(film.merged[p]);
-  if (p < 2) return "Each node knows only its own number, and tells it to its neighbours.";
+  if (p < 1) return "Each node knows only its own number, and tells it to its neighbours.";
+  if (p < 2) return "It numbers its links to higher neighbours. The links of one number are a forest.";
   return film.found.pulses[p].step ? "Now they take turns: each takes the least channel that it may have."
-    : "Each compares its number with a neighbour’s, again and again, until only 0, 1 and 2 are left.";
+    : "Each compares its number with a neighbour’s, again and again, until none is above 2.";
 }
 /** @param {Record<number, number>} chosen What each node has chosen, from 0. */
 function endOf(chosen) {

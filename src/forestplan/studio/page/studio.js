@@ -1,7 +1,7 @@
 // The studio: its tabs, the mouse on the stage, keys, and the address, which says all that is seen.
 import {call, cancel, hello as greeted, token} from "./api.js";
 import {codeOf, written} from "./address.js";
-import {all, asks, by, endsOf, hello, hooks, inputs, isTouched, option, say, seen, settle, show, stage, tabs, time, tried, watchOptions,
+import {all, asks, by, endsOf, hello, hooks, inputs, option, say, seen, settle, show, stage, tabs, time, tried, watchOptions,
   wrong, zoomPicture} from "./base.js";
 import {askPlan, drawn, inspect, makeForm, openFile, save} from "./draw.js";
 import {check} from "./check.js";
@@ -11,7 +11,7 @@ import {rounds} from "./rounds_tab.js";
 import {run} from "./run_tab.js";
 import {makeAgain, steps} from "./steps_tab.js";
 import {legend} from "./legend.js";
-import {blank, coded, targetOf} from "./marks.js";
+import {blank, coded, isTouched, pointed, targetOf} from "./marks.js";
 import {ROUNDS_WORDS} from "./rounds.js";
 import {RUN_WORDS} from "./run.js";
 import * as model from "./model.js";
@@ -40,13 +40,13 @@ hooks.show = () => {
   if (!isThere) { stage.draw({node: (v, x, y, r) => blank(x, y, r)}); say("when", ""); }
   [by("back"), by("play"), by("next"), by("change"), by("slider")].forEach(one => { one.disabled = !isThere; });
   by("empty").hidden = net.nodes.length > 0;
-  sayHint(isReplaced ? `Undo (${isTouched ? "" : "Ctrl-Z, or "}in Draw) brings your drawing back.` : tab.hint());
+  showCard();
+  sayHint(isReplaced ? `Undo (${isTouched ? "" : "Ctrl-Z, or "}in Draw) brings your drawing back.` : isThere ? tab.hint() : "");
   say("name", [net.name, seen.program].filter(one => one && one !== "colouring").map(one => "· " + one).join(" "));
   document.title = titleSeen();
   by("slider").setAttribute("aria-valuetext", by("when").textContent || "");
   by("legend").hidden = seen.tab === "pictures";
   legend(by("legend"), [stage.svg, by("second")].filter(one => !one.hasAttribute("hidden")), meaningsHere());
-  showCard();
   hooks.link();
 };
 // What some marks mean in the tab, of the program that is chosen.
@@ -72,7 +72,7 @@ hooks.here = () => {
 /** @param {string} said */
 function sayHint(said) {
   const done = doneWords();
-  say("hint", done || said);
+  say("hint", done || pointed(said));
   by("hint").classList.toggle("good", Boolean(done));
 }
 // The title of the page, by which the browser's list of places tells them apart.
@@ -106,6 +106,8 @@ function enter(more = {}) {
   // The first screen may have begun to play while an address was being read.
   time.stop();
   if (isWelcome || !by("welcome").hidden) by("speed").value = isWelcome ? "3" : "1";
+  // What follows the first screen is seen from its top.
+  if (!isWelcome && !by("welcome").hidden) scrollTo(0, 0);
   by("welcome").hidden = !isWelcome;
   document.body.classList.toggle("first", isWelcome);
   // What another tab has asked for isn't wanted any more.
@@ -167,6 +169,8 @@ model.onChange((what, numbers) => {
   isMoved = what === "move";
   if (isMoved) return show();
   by("text").value = text();
+  // Rounds and runs of another network begin at their beginning.
+  Object.assign(left, {rounds: 0, run: 0});
   isReplaced = what === "load" && model.replaced;
   if (drawn.plan && (what !== "edit" || drawn.plan.plan.length > net.nodes.length)) drawn.plan = null;
   leaveWhatIsGone();
@@ -178,7 +182,6 @@ model.onChange((what, numbers) => {
   if (what === "load") {
     wrong("");
     say("notes", "");
-    Object.assign(left, {rounds: 0, run: 0});
     Object.assign(seen, {node: null, slow: [], lazy: []});
     check.plan = [];
     stage.fit();
@@ -509,8 +512,8 @@ function sayRecorded() {
     : "Python’s definitions wrote its plans and runs: they are tested, not proved";
   all(".recorded").forEach(one => {
     one.hidden = false;
-    one.replaceChildren(...coded(`This page was recorded from forestplan at commit ${published.commit}. ${by_}. It has the lessons and the lecture; `
-      + "for networks of your own, other seeds and pictures start the studio: `forestlab studio`."));
+    one.replaceChildren(...coded(`This page was recorded from forestplan at commit ${published.commit}. ${by_}. It has the lessons and the lecture, and makes `
+      + "the plan of what you draw. For its rounds and runs, other seeds and pictures start the studio: `forestlab studio`."));
   });
 }
 async function begin() {

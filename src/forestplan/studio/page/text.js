@@ -1,6 +1,6 @@
 // A page of docs/learn as elements: paragraphs, lists, tables, pictures, and lines to type. None of it is taken as
 // HTML.
-import {html} from "./marks.js";
+import {html, pointed} from "./marks.js";
 
 const INLINE = /`([^`]+)`|\*\*([^*]+)\*\*|\*([^*\s][^*]*)\*|!\[([^\]]*)\]\(([^)]+)\)|\[([^\]]+)\]\(([^)]+)\)/g;
 const ITEM = /^(- |\d+\. )/, STUDIO = "http://127.0.0.1:8321/", PANEL = "panel:", KEYS = "keys:";
@@ -42,10 +42,10 @@ function inline(name, said) {
   let at = 0;
   for (const found of said.matchAll(INLINE)) {
     const from = found.index || 0;
-    place.append(said.slice(at, from), shown(found));
+    place.append(pointed(said.slice(at, from)), shown(found));
     at = from + found[0].length;
   }
-  place.append(said.slice(at));
+  place.append(pointed(said.slice(at)));
   return place;
 }
 /** @param {string[]} lines */
