@@ -118,7 +118,7 @@ READS = {
     # What students' programs say.
     (
         "src/forestplan/workshop/processes.py",
-        "Process.__init__: subprocess.Popen",
+        "start_program: subprocess.Popen",
     ): "its pipe is read in `receive`",
     (
         "src/forestplan/workshop/processes.py",

@@ -6,7 +6,7 @@ import time
 
 from forestplan.workshop.findings import NoAnswer
 from forestplan.workshop.guard import Guard, Limits, Unguarded
-from forestplan.workshop.processes import Process, exit_of
+from forestplan.workshop.processes import exit_of, start_program
 from forestplan.workshop.sandbox import USERS
 from tests.workshop.contained import Contained, program
 
@@ -107,7 +107,7 @@ class Memory(Contained):
     def found(self, guard: Guard, *commands: list[str], pulses: int = PULSES) -> str:
         """What is found of nodes that are asked all at once, pulse by pulse: that they answer, or the first fault."""
         limits = Limits(20, MEGABYTES, len(commands))
-        nodes = [Process(command, limits, guard, guard.tasks()) for command in commands]
+        nodes = [start_program(command, limits, guard, guard.tasks()) for command in commands]
         try:
             for _ in range(pulses):
                 for one in nodes:
@@ -168,7 +168,8 @@ class Memory(Contained):
         limits = Limits(20, MEGABYTES, 2)
         begin = f"for _ in range(3):\n{TAKE}"
         slow, grows = (
-            Process(command, limits, within, 0) for command in (node(seconds=4.0), node(begin))
+            start_program(command, limits, within, 0)
+            for command in (node(seconds=4.0), node(begin))
         )
         try:
             slow.send(["pulse"])

@@ -13,7 +13,7 @@ from forestplan.workshop.compiling import compiled, unpack
 from forestplan.workshop.findings import NoAnswer
 from forestplan.workshop.guard import OPEN_FILES, Limits
 from forestplan.workshop.leftovers import end_all, shut
-from forestplan.workshop.processes import Process
+from forestplan.workshop.processes import start_program
 from forestplan.workshop.sandbox import Sandbox
 from tests.cases import remove, wait_until
 from tests.tools import need
@@ -168,7 +168,7 @@ class Sandboxed(Contained):
     def fault_of(self, more, memory):
         """What is found of a program that gives no answer."""
         limits = Limits(30, memory, 1)
-        process = Process(program({}, more), limits, self.guards()[0], 0)
+        process = start_program(program({}, more), limits, self.guards()[0], 0)
         try:
             process.send(["workshop 1 rounds"])
             process.receive()
@@ -205,7 +205,7 @@ class Sandboxed(Contained):
             (["./nothing"], "`bwrap: execvp ./nothing: No such file or directory`"),
             ([f"./{NODE}"], f"`bwrap: execvp ./{NODE}: Permission denied`"),
         ):
-            process = Process(command, Limits(30, 200, 1), self.guards()[0], 0)
+            process = start_program(command, Limits(30, 200, 1), self.guards()[0], 0)
             with self.assertRaises(NoAnswer) as found:
                 process.send(["workshop 1 rounds"])
                 process.receive()

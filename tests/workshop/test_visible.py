@@ -9,7 +9,7 @@ from forestplan.workshop import grade
 from forestplan.workshop.compiling import compiled as compiled_in
 from forestplan.workshop.findings import NoAnswer
 from forestplan.workshop.guard import Limits
-from forestplan.workshop.processes import Process
+from forestplan.workshop.processes import start_program
 from forestplan.workshop.sandbox import USERS, Sandbox
 from forestplan.workshop.visible_files import copies_in, on_the_path
 from tests import SOURCES
@@ -46,7 +46,7 @@ class Starts(Contained):
 
     def first_answer(self, command: list[str], assignment: str) -> list[str] | str:
         guard, _ = self.guards()
-        process = Process(command, Limits(60, 2048, 1), guard, guard.tasks())
+        process = start_program(command, Limits(60, 2048, 1), guard, guard.tasks())
         try:
             process.send([f"workshop 1 {assignment}", *FIRST.split("\n")])
             return process.receive()

@@ -212,11 +212,11 @@ class OnPage:
 
 
 class Recording:
-    """The answers, by their pieces."""
+    """The answers at some places, or at all, by their pieces, once `record` has asked for them."""
 
     def __init__(self, session: Session, places: Sequence[Spot] | None = None) -> None:
         self.session = session
-        self.places = list(spots()) if places is None else places
+        self.places = places
         self.pieces: dict[str, Piece] = {}
         self.known: set[str] = set()
         self.examples: set[str] = set()
@@ -225,7 +225,7 @@ class Recording:
         self.name = ""
 
     def record(self) -> "Recording":
-        for spot in self.places:
+        for spot in spots() if self.places is None else self.places:
             self.begin(spot.piece)
             self.at(spot)
         return self

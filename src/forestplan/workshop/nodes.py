@@ -7,7 +7,7 @@ from forestplan.process_exit import held
 from forestplan.workshop.findings import NoAnswer
 from forestplan.workshop.guard import Guard, Limits
 from forestplan.workshop.leftovers import end_all, is_reaper
-from forestplan.workshop.processes import Process
+from forestplan.workshop.processes import Process, start_program
 
 Answer = list[str] | NoAnswer
 Given = ParamSpec("Given")
@@ -54,7 +54,7 @@ class Nodes:
             return
         with held():
             self.processes.append(
-                Process(self.commands[owner], self.limits, self.guard, self.tasks)
+                start_program(self.commands[owner], self.limits, self.guard, self.tasks)
             )
         self.of[v] = self.processes[-1]
 

@@ -10,6 +10,7 @@ import subprocess
 import tempfile
 import time
 from dataclasses import dataclass
+from typing import IO
 
 from forestplan.workshop.findings import NoAnswer
 from forestplan.workshop.guard import Guard, Limits
@@ -41,31 +42,20 @@ OF_LIMITS: dict[int, str] = {
 
 
 class Process:
-    """A program that runs. `asked` counts the messages."""
+    """A program that runs, as `start_program` starts it. `asked` counts the messages, and `errors` has what it writes
+    to standard error."""
 
-    def __init__(self, command: list[str], limits: Limits, guard: Guard, tasks: int) -> None:
+    def __init__(
+        self, process: "subprocess.Popen[bytes]", errors: IO[bytes], limits: Limits, guard: Guard
+    ) -> None:
+        self.process = process
+        self.errors = errors
         self.limits = limits
         self.guard = guard
         self.asked = 0
         self.until = 0.0
-        try:
-            self.errors = tempfile.TemporaryFile()
-            self.process = subprocess.Popen(
-                guard.arguments(command),
-                stdin=subprocess.PIPE,
-                stdout=subprocess.PIPE,
-                stderr=self.errors,
-                bufsize=0,
-                **guard.start(limits, tasks),
-            )
-        except OSError as why:
-            said = (
-                f"{start_of_output(' '.join(command))} can't be started: {why.strerror}{START_HINT}"
-            )
-            raise NoAnswer("start", said) from None
-        guard.programs.add(self.process.pid)
-        assert self.process.stdin and self.process.stdout
-        self.pipes = self.process.stdin, self.process.stdout
+        assert process.stdin and process.stdout
+        self.pipes = process.stdin, process.stdout
         self.input, self.output = (pipe.fileno() for pipe in self.pipes)
         os.set_blocking(self.input, False)
         self.readable = select.poll()
@@ -170,6 +160,25 @@ class Process:
         self.guard.leave(self.process.pid)
         self.pipes[1].close()
         self.errors.close()
+
+
+def start_program(command: list[str], limits: Limits, guard: Guard, tasks: int) -> Process:
+    """Starts a program, or raises NoAnswer if that can't be done."""
+    try:
+        errors = tempfile.TemporaryFile()
+        process = subprocess.Popen(
+            guard.arguments(command),
+            stdin=subprocess.PIPE,
+            stdout=subprocess.PIPE,
+            stderr=errors,
+            bufsize=0,
+            **guard.start(limits, tasks),
+        )
+    except OSError as why:
+        said = f"{start_of_output(' '.join(command))} can't be started: {why.strerror}{START_HINT}"
+        raise NoAnswer("start", said) from None
+    guard.programs.add(process.pid)
+    return Process(process, errors, limits, guard)
 
 
 def after_its_end(got: bytes | bytearray) -> NoAnswer:
