@@ -4,6 +4,7 @@ tests that run a little of both, read it from here.
 A reader is a command of forestlab, called in this process, or a function that reads what no command names."""
 import contextlib
 import functools
+import gc
 import io
 import os
 import sys
@@ -100,7 +101,7 @@ class Reader:
                 to.write(text)
         arguments = [{FILE: file, BESIDE: beside}.get(word, word) for word in self.arguments]
         stdin = self.given if FILE in self.arguments else data
-        with streams(stdin):
+        with streams(stdin), garbage_collected():
             try:
                 return self.main(arguments)
             except SystemExit as ended:
@@ -122,6 +123,15 @@ def streams(stdin: bytes) -> Iterator[None]:
         contextlib.redirect_stderr(errors),
     ):
         yield
+
+
+@contextlib.contextmanager
+def garbage_collected() -> Iterator[None]:
+    """A command that collects no garbage, since it ends soon, keeps this process from doing so only until its end."""
+    try:
+        yield
+    finally:
+        gc.enable()
 
 
 @contextlib.contextmanager
