@@ -4,6 +4,7 @@ Nothing is built or run. What pages show and link is checked by test_pages.py be
 """
 import glob
 import os
+import pathlib
 import re
 
 from build import command_table, crate_tables
@@ -89,6 +90,12 @@ SAID_OF_LIMITS = {
 }
 
 
+def table_after(heading, page):
+    """The cells of the rows of the first table after a heading, without the row of titles."""
+    rows = re.findall(r"^\| .*$", page.partition(f"\n{heading}\n")[2].partition("\n## ")[0], re.M)
+    return [[cell.strip() for cell in row.strip("|").split("|")] for row in rows[1:]]
+
+
 def one_line(text):
     return re.sub(r"\s+", " ", text)
 
@@ -169,6 +176,28 @@ class Index(FilesCase):
                 for crate in ("sync_rounds", "node_pool", "silent")
             ],
         )
+
+    def test_glossary(self):
+        """The glossary of DEFINITIONS has each word once, and the names of code that it gives are there. LOOKUP sends
+        its readers to it, and says of none of its words what it means."""
+        rows = table_after("## Glossary", text_in("docs", "claim", "DEFINITIONS.md"))
+        words = [word for row in rows for word in row[0].split(", ")]
+        self.same(
+            "words that are there twice", sorted({w for w in words if words.count(w) > 1}), []
+        )
+        names = {name for row in rows for name in re.findall(r"`([A-Z][A-Za-z]+)`", row[1])}
+        code = "".join(
+            path.read_text()
+            for end in ("rt", "antt")
+            for path in pathlib.Path(TOP, "crates").rglob(f"*.{end}")
+        )
+        self.same("names of code", {n for n in names if not re.search(rf"\b{n}\b", code)}, set())
+        page = text_in("docs", "work", "LOOKUP.md")
+        self.note(
+            "LOOKUP", "(../claim/DEFINITIONS.md#glossary)" in page, "doesn't name the glossary"
+        )
+        first = re.findall(r"^\| ([^|]+?) \|", page, re.M)
+        self.same("words of LOOKUP's own tables", set(words) & set(first), set())
 
     def test_minutes_of_teaching(self):
         """TEACHING says how many parts of its table are taught in a shorter class: as many as its minutes hold."""
