@@ -191,8 +191,8 @@ class Steps(Page):
             self.step(number, k)
             said = self.page.text("hint")
             self.note(f"lesson {number} step {k}", "brings your drawing back" not in said, said)
-        self.go_to("lesson=1&step=4")
-        self.sees("nothing is drawn", "studio.seen.step === 4 && !studio.net.nodes.length")
+        self.go_to("net=~&tab=draw")
+        self.sees("nothing is drawn", "studio.seen.lesson === null && !studio.net.nodes.length")
         self.page.click(300, 300)
         self.sees("a node", "studio.net.nodes.length === 1")
         self.step(1, 5)
@@ -251,6 +251,31 @@ class Steps(Page):
         self.sees("step 7", "studio.seen.step === 7 && studio.net.nodes.length === 3", 10)
         self.value("lesson.querySelector('[data-way=back]').click()")
         self.sees("as it was left", "studio.seen.step === 6 && studio.net.edges.length === 2", 10)
+
+    def test_numbers_in_words(self) -> None:
+        """A right number in words, or with a word more, is right; one that is wrong, or one of several, isn't."""
+        for answer, is_right in (
+            ("Eight", True),
+            ("8 forests", True),
+            ("nine", False),
+            ("8 or 9", False),
+            ("-8", False),
+            ("0.8", False),
+            ("eighty", False),
+        ):
+            self.open(360, 740, True)
+            self.step(2, 3)
+            self.value(f"lesson.querySelector('form input').value = {json.dumps(answer)}")
+            self.value("lesson.querySelector('form').requestSubmit()")
+            self.sees(answer, "/☑|Not yet/.test(lesson.querySelector('.judged').textContent)", 10)
+            self.reads(
+                answer, "lesson.querySelector('.judged').textContent.includes('☑')", is_right
+            )
+            self.reads(
+                "it is in sight",
+                "lesson.querySelector('.judged').getBoundingClientRect().bottom <= innerHeight + 1",
+                True,
+            )
 
     def test_on_to_a_step_without_a_place(self) -> None:
         """That a step is done is said below the network as long as the step is there."""

@@ -156,11 +156,11 @@ FORESTS = LessonSteps(
     [
         TableStep(
             "example=four_cycle&tab=rounds&at=1",
-            "From now on a transmitter is called a *node*, and its number its *identifier*. Here are four nodes in a "
-            "ring. Each node numbers its neighbours with a higher identifier, the lowest first, from 0. The edge to "
-            "neighbour 0 is in forest 0, the edge to neighbour 1 in forest 1. An arrow goes from the lower node, the "
-            "*child*, to the higher one, its *parent*. Choose *forest 0* and *forest 1* "
-            "[below this card](panel:forests): every edge is in exactly one of the two.",
+            "From now on a transmitter is called a *node*. It has an *identifier*: its number, unless it is given "
+            "another one. Here are four nodes in a ring. Each node numbers its neighbours with a higher identifier, "
+            "the lowest first, from 0. The edge to neighbour 0 is in forest 0, the edge to neighbour 1 in forest 1. An "
+            "arrow goes from the lower node, the *child*, to the higher one, its *parent*. Choose *forest 0* and "
+            "*forest 1* [below this card](panel:forests): every edge is in exactly one of the two.",
             SaidExercise(
                 name="root",
                 asks="Follow the arrows of forest 0 from node 1. At which node do they end?",
@@ -455,7 +455,8 @@ SCHEDULES = LessonSteps(
             "example=path&tab=adversary",
             "You are the network: you choose which message is taken next, and which node makes its pulse. Click a "
             "message on the network, or a button [below this card](panel:possible), until a node makes pulse 1. A node "
-            "with a green ring can make its pulse now: click it.",
+            "with a green ring can make its pulse now: click it. (What an *ack* and a *safe* say is in "
+            "[lesson 5](#lesson=5&step=2).)",
             SeenExercise(
                 name="pulse",
                 hint="Node 1 has one neighbour, node 2. It needs the ack and the safe of node 2. Node 2 can send its "

@@ -179,7 +179,7 @@ export class RoundsFilm {
     stage.draw({node: (v, x, y, r) => [...this.node(stage, p, shown, v, x, y, r), ...turn(v, x, y, r)], links: () => this.arrows(stage, p, shown),
       above: () => quiet ? [] : this.messages(stage, p, at - p, forest, {why, node}),
       // In all pulses, so that labels stay where they are.
-      words: Boolean(pulse.results && !this.channels), below: Boolean(pulse.results ? !this.channels : this.forests && !plain),
+      bars: !pulse.results || Boolean(this.channels), words: Boolean(pulse.results && !this.channels), below: Boolean(pulse.results ? !this.channels : this.forests && !plain),
       says: v => `pulse ${p}, ${this.stateText(v, p, shown)}`,
       label: pulse.results && !this.channels ? v => this.net.nodes[v - 1].label
         : quiet ? v => stage.radius < 9 ? "" : String(v) : null,
@@ -194,7 +194,13 @@ export class RoundsFilm {
   said(p, node) {
     const {caption, said, results} = this.found.pulses[p];
     return [caption.split(" · ").slice(1).join(" · ") || caption, said + (results && node
-      ? ` Node ${node} has found: ${results[node - 1] || "nothing yet"}.` : "")];
+      ? ` Node ${node} has found: ${results[node - 1] || "nothing yet"}${this.partnerWords(p, node)}.` : "")];
+  }
+  // Who is at the port that a node has found.
+  /** @param {number} p @param {number} v */
+  partnerWords(p, v) {
+    const [, partner] = (this.found.pulses[p].drawn || {})[v] || [null, null];
+    return partner ? `, the port that leads to node ${partner}` : "";
   }
   // Buttons of the forests; `choose(f)` is called by a click.
   /** @param {number} p @param {number} chosen @param {(forest: number) => void} choose */

@@ -198,7 +198,7 @@ export class Stage {
   // Makes circles smaller if a label has no room, but for a crowd's; and says whether it has.
   shrinks() {
     const {nodes, edges} = this.net, isFree = this.spots.every(([text], k) => text >= 0 || !this.texts[k].length);
-    this.isFresh = this.isFresh && !isFree && this.radius > SMALL_RADIUS && !isCrowd(nodes.length, edges.length);
+    this.isFresh = this.isFresh && !this.isZoomed && !isFree && this.radius > SMALL_RADIUS && !isCrowd(nodes.length, edges.length);
     if (this.isFresh) this.radius = Math.max(SMALL_RADIUS, SHRINK * this.radius);
     return this.isFresh;
   }
@@ -328,8 +328,10 @@ export class Stage {
   labelMark(v, said, isRinged) {
     const [text, , x, y] = this.spots[v - 1], texts = this.texts[v - 1];
     if (!texts.length || text < 0 && !isRinged && isCrowd(this.net.nodes.length, this.net.edges.length)) return null;
-    const {said: shown, size} = texts[Math.max(0, text)], wide = labelHalf(shown.length, size);
-    return textMark(...this.outside(v, [x, y], wide, size), size, "var(--soft)", shown, {...HALO, "data-label": v});
+    // A node that is ringed has all of its label.
+    const {said: shown, size} = texts[isRinged ? 0 : Math.max(0, text)], wide = labelHalf(shown.length, size);
+    const more = wide - labelHalf(texts[Math.max(0, text)].said.length, texts[Math.max(0, text)].size), aside = x + Math.sign(x - this.X(v)) * more;
+    return textMark(...this.outside(v, [aside, y], wide, size), size, "var(--soft)", shown, {...HALO, "data-label": v});
   }
   // The place of a label, farther out where something around its node would cover it.
   /** @param {number} v @param {Point} spot @param {number} wide @param {number} size @returns {Point} */

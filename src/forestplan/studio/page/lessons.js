@@ -6,7 +6,7 @@ import {isKept} from "./kept.js";
 import {coded, html} from "./marks.js";
 import {net, text} from "./model.js";
 import {steps} from "./steps_tab.js";
-import {partsOf, textOf} from "./text.js";
+import {numberIn, partsOf, textOf} from "./text.js";
 import {countOf, isDone, tick} from "./ticks.js";
 
 // What is shown: so that a card is made anew only if it is another one.
@@ -173,11 +173,16 @@ function form(lesson, is) {
   const field = html("input", null, {type: "text", size: 8, maxlength: 60, autocomplete: "off"});
   /** @param {string} guess */
   const judge = async guess => {
-    if (!guess) return say(lesson, is, "An answer is missing.");
+    if (!guess) {
+      answers++;
+      return say(lesson, is, "An answer is missing.");
+    }
     const step = (seen.step || 1);
     await judged(lesson, is, {network: "", lesson, step, guess});
+    // On a phone it may be said below what is seen.
+    all("#lesson .judged").forEach(one => one.scrollIntoView({block: "nearest"}));
   };
-  place.onsubmit = event => { event.preventDefault(); judge(field.value.trim()); };
+  place.onsubmit = event => { event.preventDefault(); judge(numberIn(field.value.trim())); };
   if (is.picks.length) {
     const question = written("p", is.asks);
     place.append(question, row);
@@ -190,7 +195,10 @@ function form(lesson, is) {
   }
   is.picks.forEach(pick => {
     const button = written("button", pick, {type: "button"});
-    button.onclick = () => judge(pick);
+    button.onclick = () => {
+      row.querySelectorAll("button").forEach(one => one.setAttribute("aria-pressed", String(one === button)));
+      judge(pick);
+    };
     row.append(button);
   });
   return place;

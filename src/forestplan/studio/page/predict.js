@@ -2,6 +2,7 @@
 // that isn't right may be mended; after the second one the right one is said.
 import {asks, by, capital, hooks, show} from "./base.js";
 import {coded, html} from "./marks.js";
+import {numberIn} from "./text.js";
 
 // How many questions were asked on this page, and how many of them were answered rightly at once.
 const score = {right: 0, asked: 0};
@@ -56,8 +57,9 @@ export class Question {
     place.className = "verdict " + kind;
     place.replaceChildren(...parts);
   }
-  /** @param {OfRounds | OfWaits | OfSends} is @param {string} guess */
-  judge(is, guess) {
+  /** @param {OfRounds | OfWaits | OfSends} is @param {string} answer */
+  judge(is, answer) {
+    const guess = is.call === "predict" && is.text.includes("which ") ? numberIn(answer) : answer;
     /** @param {Predicted} answer */
     const told = ({right, found, why}) => {
       this.tries++;

@@ -366,9 +366,12 @@ function showPlaceOf({network}, given) {
     lecture = null, slow = [], lazy = [], node = null, at = 0} = given;
   const isHere = example ? example === net.example : code === undefined ? net.nodes.length > 0 : code === codeOf(net);
   const found = isHere ? null : network || hello().opened;
+  const isInLesson = seen.lesson !== null && lesson !== null;
   Object.assign(seen, {lesson, step: lesson && step, lecture});
   seen.tab = "draw";
   if (found) model.load(found, example, lesson !== null || lecture !== null);
+  // A step is found again as it was left.
+  isReplaced = isReplaced && !isInLesson;
   Object.assign(seen, {program, passes, root, slow, lazy, node});
   Object.values(tabs).forEach(one => one.follow(given));
   time.at = at;
@@ -509,7 +512,7 @@ function sayRecorded() {
   document.body.classList.add("published");
   all("option[data-live]").forEach(one => one.remove());
   const by_ = proved ? "The proved program wrote its plans, and the proved machine accepted its runs"
-    : "Python’s definitions wrote its plans and runs: they are tested, not proved";
+    : "Python’s definitions wrote its plans and runs: they are tested, not proved. What a lesson calls proved is proved of the programs";
   all(".recorded").forEach(one => {
     one.hidden = false;
     one.replaceChildren(...coded(`This page was recorded from forestplan at commit ${published.commit}. ${by_}. It has the lessons and the lecture, and makes `

@@ -5,6 +5,14 @@ import {html, pointed} from "./marks.js";
 const INLINE = /`([^`]+)`|\*\*([^*]+)\*\*|\*([^*\s][^*]*)\*|!\[([^\]]*)\]\(([^)]+)\)|\[([^\]]+)\]\(([^)]+)\)/g;
 const ITEM = /^(- |\d+\. )/, STUDIO = "http://127.0.0.1:8321/", PANEL = "panel:", KEYS = "keys:";
 
+// The number that an answer names, in digits or in a word; an answer with none, or with several, is as it was.
+const NUMBERS = "zero one two three four five six seven eight nine ten eleven twelve".split(" ");
+/** @param {string} answer */
+export function numberIn(answer) {
+  const words = answer.toLowerCase().split(/[^a-z0-9]+/).map(word => NUMBERS.includes(word) ? String(NUMBERS.indexOf(word)) : word);
+  const found = words.filter(word => /^\d+$/.test(word));
+  return found.length === 1 && !/[-−.]\d/.test(answer) ? found[0] : answer;
+}
 // A link to a place of the studio leads there, and one to a part of the panel shows it; words on keys aren't seen where
 // a finger points; a link to another page has its words alone.
 /** @param {string} text @param {string} to */
