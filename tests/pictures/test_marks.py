@@ -39,8 +39,8 @@ console.log(JSON.stringify({channels: channels.map(one => flat(channelCircle(0, 
   colours: colours.map(one => flat(colourSquare(0, 0, r, one, true))),
   numbers: numbers.map(one => flat(colourSquare(0, 0, r, one, false)))}));
 """
-# What is compared of a mark: its fill and its ring, and what is written in it, in which ink and how large.
-Shown = tuple[str, str, float, str, str, float]
+# What is compared of a mark: its fill and its ring, and what is written in it, in which ink, how large and how low.
+Shown = tuple[str, str, float, str, str, float, int]
 
 
 def of_page(parts: list[dict]) -> Shown:
@@ -49,7 +49,8 @@ def of_page(parts: list[dict]) -> Shown:
     is_ring = shape["name"] == "circle" and shape["fill"] == "#FFFFFF"
     ring = (shape["stroke"], float(shape.get("stroke-width", 1))) if is_ring else ("", 0.0)
     size = float(text["font-size"])
-    return (shape["fill"].upper(), *ring, text["inside"], text["fill"], size)
+    low = round(float(text["y"]))
+    return (shape["fill"].upper(), *ring, text["inside"], text["fill"], size, low)
 
 
 def of_picture(svg: Svg) -> Shown:
@@ -59,7 +60,8 @@ def of_picture(svg: Svg) -> Shown:
     is_ring = shape.tag == f"{SVG}circle" and shape.get("fill") == "#FFFFFF"
     ring = (shape.get("stroke"), number(shape, "stroke-width")) if is_ring else ("", 0.0)
     size = number(text, "font-size")
-    return (shape.get("fill").upper(), *ring, text.text, text.get("fill"), size)
+    low = round(number(text, "y"))
+    return (shape.get("fill").upper(), *ring, text.text, text.get("fill"), size, low)
 
 
 class Marks(Case):

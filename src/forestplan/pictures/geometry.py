@@ -90,6 +90,15 @@ SMALL_RADIUS = 8.0
 NEAREST = 2.4
 # Half the width of an arrow's head, in its lengths.
 HEAD = 0.42
+# How far the baseline of what is written is below its middle, in sizes of its letters.
+BASELINE = 0.36
+# How wide a channel's ring is: in radii, and at least.
+RING_WIDTH = 0.25
+LEAST_RING = 2.0
+# How long the line is that crosses out a barred channel: to the left and up, and to the right and down, in radii.
+CROSSED = 0.9
+# The radius of a square's corners, in halves of its side.
+ROUNDED = 0.25
 # A message's pill: what is to the left and to the right of its words together, and above and below them.
 PILL_WIDE, PILL_HIGH = 10.0, 5.0
 
@@ -102,6 +111,16 @@ def text_wide(letters: int, size: float) -> float:
 def label_half(letters: int, size: float) -> float:
     """Half the width of a label of so many letters, which may all be digits."""
     return MORE_FOR_DIGITS * text_wide(letters, size) / 2 + 1
+
+
+def size_in(sizes: Sequence[float], letters: int) -> float:
+    """The size of a text of so many letters: the last one of the sizes is that of all longer texts."""
+    return sizes[min(letters, len(sizes)) - 1]
+
+
+def ring_wide(radius: float) -> float:
+    """How wide the ring of a channel is."""
+    return max(LEAST_RING, RING_WIDTH * radius)
 
 
 def pill_wide(letters: int, size: float) -> float:

@@ -3,7 +3,7 @@ pictures that have words beside the circles."""
 from collections.abc import Callable, Iterable, Mapping
 
 from forestplan.network import Network
-from forestplan.pictures.geometry import Point
+from forestplan.pictures.geometry import BASELINE, Point
 from forestplan.pictures.marks import (
     LARGE,
     Map,
@@ -72,7 +72,7 @@ class MapNode:
         if self.label:
             svg.text(
                 left + width / 2,
-                spot[1] + 0.37 * self.size,
+                spot[1] + BASELINE * self.size,
                 self.label,
                 self.size,
                 INK,

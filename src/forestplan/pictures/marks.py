@@ -7,12 +7,17 @@ from typing import TypeVar
 
 from forestplan.network import Edge, Network
 from forestplan.pictures.geometry import (
+    BASELINE,
+    CROSSED,
+    ROUNDED,
     Point,
     bends_of,
     labels_at,
     pill_high,
     pill_wide,
     radius_passed,
+    ring_wide,
+    size_in,
     towards_of,
 )
 from forestplan.pictures.palette import (
@@ -32,9 +37,7 @@ from forestplan.pictures.palette import (
     channel_hue,
     channel_look,
     grey,
-    ring_width,
     short,
-    size_in,
     text_on,
 )
 from forestplan.pictures.places import OF_CIRCLES, Places, moved_places, spaced
@@ -66,12 +69,12 @@ def channel_circle(
     """A channel: its hue, full or as a ring on white, and its number."""
     look = channel_look(channel)
     if look.is_ring:
-        width = ring_width(radius)
+        width = ring_wide(radius)
         svg.circle(x, y, radius - width / 2, PAPER, look.hue, round(width, 1), mark=mark)
     else:
         svg.circle(x, y, radius, look.hue, PAPER, 1, mark=mark)
     size = radius * look.size
-    svg.label(x, y + size * 0.36, channel, round(size, 1), look.ink)
+    svg.label(x, y + BASELINE * size, channel, round(size, 1), look.ink)
 
 
 def blank_circle(
@@ -81,7 +84,7 @@ def blank_circle(
     mark = "blank" if fill == PAPER else "filled"
     size = radius * BLANK_SIZE
     svg.circle(x, y, radius, fill, INK, BLANK_RIM, mark=mark)
-    svg.label(x, y + 0.36 * size, said, round(size, 1), text_on(fill) if fill != PAPER else INK)
+    svg.label(x, y + BASELINE * size, said, round(size, 1), text_on(fill) if fill != PAPER else INK)
 
 
 def message_pill(svg: Svg, x: float, y: float, said: str, kind: str, size: float) -> None:
@@ -89,7 +92,7 @@ def message_pill(svg: Svg, x: float, y: float, said: str, kind: str, size: float
     wide, high = pill_wide(len(said), size), pill_high(size)
     left, top = x - wide / 2, y - high / 2
     svg.rect(left, top, wide, high, PALE[kind], WIRES[kind], PILL_RIM, high / 2)
-    svg.text(x, y + 0.36 * size, said, size, INK, "middle")
+    svg.text(x, y + BASELINE * size, said, size, INK, "middle")
 
 
 def bars_width(channels: Collection[int], radius: float) -> float:
@@ -106,13 +109,13 @@ def bar_row(svg: Svg, x: float, y: float, channels: Collection[int], radius: flo
     for at, channel in enumerate(list(channels)[:MOST_BARS]):
         middle_x = x + radius + at * (2 * radius + BAR_GAP)
         svg.circle(middle_x, y, radius, PAPER, channel_hue(channel), 1, mark="bar")
-        size = round(radius * size_in(BAR_SIZES, str(channel)), 1)
-        svg.label(middle_x, y + size * 0.36, channel, size)
+        size = round(radius * size_in(BAR_SIZES, len(str(channel))), 1)
+        svg.label(middle_x, y + BASELINE * size, channel, size)
         svg.line(
-            middle_x - 0.9 * radius,
-            y + 0.9 * radius,
-            middle_x + 0.9 * radius,
-            y - 0.9 * radius,
+            middle_x - CROSSED * radius,
+            y + CROSSED * radius,
+            middle_x + CROSSED * radius,
+            y - CROSSED * radius,
             WRONG,
             1.5,
             opacity="0.9",
@@ -153,17 +156,12 @@ def colour_square(
         fill,
         PAPER,
         1,
-        half * 0.25,
+        ROUNDED * half,
         mark=mark,
         fill_opacity=opacity,
     )
-    svg.label(
-        x,
-        y + half * 0.37,
-        text,
-        round(half * size_in(SQUARE_SIZES, text), 1),
-        INK if opacity else ink,
-    )
+    size = half * size_in(SQUARE_SIZES, len(text))
+    svg.label(x, y + BASELINE * size, text, round(size, 1), INK if opacity else ink)
 
 
 def alone_chip(svg: Svg, x: float, y: float, half: float, colour: int) -> None:

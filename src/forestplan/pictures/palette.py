@@ -5,6 +5,8 @@ tritanopia (Machado's simulation) are 16 and more for any two channels, 22 and m
 What a mark looks like is decided here, for stored pictures and for pages. The pages get it as the module hues.js."""
 from typing import NamedTuple
 
+from forestplan.pictures.geometry import size_in
+
 INK = "#1B1B1B"
 SOFT = "#6B6B6B"
 PAPER = "#FFFFFF"
@@ -43,9 +45,6 @@ CHANNEL_SIZES = (1.12, 0.92)
 SQUARE_SIZES = (1.1, 1.1, 0.8)
 BAR_SIZES = (1.2, 1.0, 0.8, 0.62)
 IN_RING = 0.85
-# How wide a ring is: in radii, and at least.
-RING_WIDTH = 0.25
-LEAST_RING = 2
 # How wide the rim of a node without a channel is, and that of a message; and how large the number of such a node is, in
 # radii.
 BLANK_RIM = 1.6
@@ -105,17 +104,8 @@ class ChannelLook(NamedTuple):
 def channel_look(channel: int) -> ChannelLook:
     hue = channel_hue(channel)
     is_ringed = is_ring(channel)
-    size = size_in(CHANNEL_SIZES, str(channel)) * (IN_RING if is_ringed else 1)
+    size = size_in(CHANNEL_SIZES, len(str(channel))) * (IN_RING if is_ringed else 1)
     return ChannelLook(hue, is_ringed, INK if is_ringed else text_on(hue), size)
-
-
-def size_in(sizes: tuple[float, ...], text: str) -> float:
-    """The size of a text, of which these are the sizes by its letters."""
-    return sizes[min(len(text), len(sizes)) - 1]
-
-
-def ring_width(radius: float) -> float:
-    return max(LEAST_RING, radius * RING_WIDTH)
 
 
 def digits(number: int) -> int:
@@ -163,8 +153,6 @@ def page_marks() -> dict[str, object]:
         "HUES": [(fill, text_on(fill)) for fill in CHANNEL_HUES],
         "FORESTS": [(fill, text_on(fill)) for fill in FOREST_COLOURS],
         "GREYS": [grey_of(length) for length in range(DARKEST_DIGITS + 1)],
-        "RING_WIDTH": RING_WIDTH,
-        "LEAST_RING": LEAST_RING,
         "SQUARE_SIZES": SQUARE_SIZES,
         "BAR_SIZES": BAR_SIZES,
         "BLANK_RIM": BLANK_RIM,

@@ -8,6 +8,7 @@ from statistics import mean
 from forestplan.definitions.events import Event, Kind
 from forestplan.faults import at_most
 from forestplan.network import Network
+from forestplan.pictures.geometry import BASELINE
 from forestplan.pictures.palette import BAND, BORDER, INK, PAPER, PULSE, WIRES, WRONG
 from forestplan.pictures.schedules_space import fault_words, left_out_words
 from forestplan.pictures.svg import Svg, text_width, wrapped
@@ -301,7 +302,7 @@ class Lattice:
             if size >= 5:
                 svg.text(
                     x,
-                    y + size * 0.36,
+                    y + BASELINE * size,
                     self.pulses_words(s),
                     round(size, 1),
                     PAPER if is_wrong else INK,

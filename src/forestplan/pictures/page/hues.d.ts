@@ -11,8 +11,6 @@ export const PERIOD: number;
 export const HUES: [string, string][];
 export const FORESTS: [string, string][];
 export const GREYS: [string, string][];
-export const RING_WIDTH: number;
-export const LEAST_RING: number;
 export const SQUARE_SIZES: number[];
 export const BAR_SIZES: number[];
 export const MOST_BARS: number;

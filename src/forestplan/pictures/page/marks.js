@@ -1,7 +1,7 @@
 // The marks of the pictures, as light descriptions that `patch` makes into elements.
-import {pillHigh, pillWide, textWide} from "./geometry.js";
-import {BAR_SIZES, BLANK_RIM, BLANK_SIZE, FORESTS, GREYS, HUES, INK, LEAST_RING, LOOKS, MOST_DIGITS, PALE, PERIOD, PILL_RIM,
-  RING_WIDTH, SQUARE_SIZES, WHITE, WIRES, WRONG} from "./hues.js";
+import {BASELINE, CROSSED, ROUNDED, pillHigh, pillWide, ringWide, sizeIn, textWide} from "./geometry.js";
+import {BAR_SIZES, BLANK_RIM, BLANK_SIZE, FORESTS, GREYS, HUES, INK, LOOKS, MOST_DIGITS, PALE, PERIOD, PILL_RIM,
+  SQUARE_SIZES, WHITE, WIRES, WRONG} from "./hues.js";
 
 const SVG = "http://www.w3.org/2000/svg", LEAST_SIZE = 8, FEWEST_LETTERS = 8, MOST_LETTERS = 15, NOTE = 11.5;
 // `inside` is a text or a list of marks.
@@ -96,9 +96,6 @@ function lookOf(channel) {
 // The fill and the ink of a disc of a colour from 0.
 /** @param {number} colour */
 export function discOf(colour) { return HUES[colour % HUES.length]; }
-// The size of a text, of which these are the sizes by its letters: the last one is that of all longer texts.
-/** @param {number[]} sizes @param {string} said */
-function sizeIn(sizes, said) { return sizes[Math.min(said.length, sizes.length) - 1]; }
 /** @param {Numeral} number */
 function digitsOf(number) { return BigInt(number).toString(2).length; }
 // A number as a mark has room for: 128d is one of 128 binary digits.
@@ -110,7 +107,7 @@ export function short(number) {
 /** @param {number} x @param {number} y @param {number} wanted @param {string} fill @param {string | number} said @param {Attributes} more */
 export function textMark(x, y, wanted, fill, said, more = {}) {
   const size = Math.max(LEAST_SIZE, wanted);
-  return mark("text", {x, y: y + 0.36 * size, "font-size": size.toFixed(1), fill, "text-anchor": "middle", ...more},
+  return mark("text", {x, y: y + BASELINE * size, "font-size": size.toFixed(1), fill, "text-anchor": "middle", ...more},
     String(said));
 }
 // What a node has found, in words at it. In less room than they need, `wide` pixels, they are smaller; then they are
@@ -127,7 +124,7 @@ export const HALO = {"paint-order": "stroke", stroke: "var(--paper)", "stroke-wi
 // A channel: its hue, full or as a ring, and its number.
 /** @param {number} x @param {number} y @param {number} r @param {number} channel @returns {Marks} */
 export function channelCircle(x, y, r, channel) {
-  const {hue, is_ring: isRing, ink, size} = lookOf(channel), wide = Math.max(LEAST_RING, r * RING_WIDTH);
+  const {hue, is_ring: isRing, ink, size} = lookOf(channel), wide = ringWide(r);
   return [isRing && mark("circle", {cx: x, cy: y, r: r - wide / 2, fill: WHITE, stroke: hue, "stroke-width": wide}),
     mark("circle", {cx: x, cy: y, r, fill: isRing ? "none" : hue, stroke: "var(--rim)", "data-mark": "channel"}),
     textMark(x, y, r * size, ink, channel, BOLD)];
@@ -135,11 +132,11 @@ export function channelCircle(x, y, r, channel) {
 // A colour of 0 to 5 in a forest, or in grey a number that is none yet.
 /** @param {number} x @param {number} y @param {number} half @param {Numeral} colour @param {boolean} isColour @returns {Marks} */
 export function colourSquare(x, y, half, colour, isColour) {
-  const said = isColour ? String(colour) : short(colour), size = half * sizeIn(SQUARE_SIZES, said);
+  const said = isColour ? String(colour) : short(colour), size = half * sizeIn(SQUARE_SIZES, said.length);
   const [fill, ink] = isColour ? FORESTS[Number(colour)] : GREYS[Math.min(digitsOf(colour), GREYS.length - 1)];
   // What is as wide as its square is set closer.
   const close = said.length > 3 ? {textLength: 1.7 * half, lengthAdjust: "spacingAndGlyphs"} : {};
-  return [mark("rect", {x: x - half, y: y - half, width: 2 * half, height: 2 * half, rx: half * 0.25, fill,
+  return [mark("rect", {x: x - half, y: y - half, width: 2 * half, height: 2 * half, rx: ROUNDED * half, fill,
     stroke: "var(--rim)", "data-mark": isColour ? "colour" : said === String(colour) ? "name" : "long_name"}), textMark(x, y, size, ink, said, {...BOLD, ...close})];
 }
 /** @param {number} x @param {number} y @param {number} r @param {string | number} [said] @returns {Marks} */
@@ -150,8 +147,8 @@ export function blank(x, y, r, said) {
 /** @param {number} x @param {number} y @param {number} r @param {number} channel @returns {Marks} */
 export function barMark(x, y, r, channel) {
   return [mark("circle", {cx: x, cy: y, r, fill: WHITE, stroke: lookOf(channel).hue, "data-mark": "bar"}),
-    mark("line", {x1: x - 0.9 * r, y1: y + 0.9 * r, x2: x + 0.9 * r, y2: y - 0.9 * r, stroke: WRONG,
-      "stroke-width": 1.5}), textMark(x, y, r * sizeIn(BAR_SIZES, String(channel)), INK, channel, BOLD)];
+    mark("line", {x1: x - CROSSED * r, y1: y + CROSSED * r, x2: x + CROSSED * r, y2: y - CROSSED * r, stroke: WRONG,
+      "stroke-width": 1.5}), textMark(x, y, r * sizeIn(BAR_SIZES, String(channel).length), INK, channel, BOLD)];
 }
 // How a message looks that isn't looked at.
 export const FADED = {fill: "var(--paper)", stroke: "var(--edge)", "stroke-dasharray": "2 2", ink: "var(--soft)", "data-mark": "faded"};
