@@ -492,8 +492,9 @@ SCHEDULES = LessonSteps(
         ),
         TableStep(
             "example=two&tab=adversary&without=safes&dare=wrong",
-            "Still without the safes: have a node make a pulse with another inbox than that of its round. Chance wins "
-            "this dare, too, but in many steps. Do it in at most five.",
+            "Still without the safes: have a node make a pulse with another inbox than that of its round. (Its *inbox* "
+            "is all payloads that it reads in this pulse.) Chance wins this dare, too, but in many steps. Do it in at "
+            "most five.",
             SeenExercise(
                 name="wrong",
                 hint="Node 2 sends no payload in pulse 1. So what does it wait for before pulse 2, if not for safes?",
@@ -508,8 +509,8 @@ SCHEDULES = LessonSteps(
             "message is taken once, and each node makes each pulse once.",
             SaidExercise(
                 name="events",
-                asks="In this row of three, 148 messages are sent in a whole run, and 21 is the last pulse. How many "
-                "takes and pulses has each order?",
+                asks="In this row of three, 148 messages are sent in a whole run. All nodes begin at pulse 0, and 21 "
+                "is the last pulse that each of them makes. How many takes and pulses has each order?",
                 right="211",
                 hint="148 takes, and 21 pulses of each of the three nodes.",
                 answer="211: 148 takes and 3·21 = 63 pulses.",
