@@ -31,25 +31,26 @@ EDGE = Network(2, [(1, 2)])
 Function = ast.FunctionDef | ast.AsyncFunctionDef
 
 
+def names_in(call: ast.Call) -> set[str]:
+    """The name of what is called; of a method it comes after a dot. What is searched by a pattern is no work."""
+    match call.func:
+        case ast.Name(id=name):
+            return {name}
+        case ast.Attribute(value=ast.Name(id=of)) if of == "re" or of.isupper():
+            return set()
+        case ast.Attribute(attr=name):
+            return {"." + name}
+    return set()
+
+
 def calls_of(function: Function) -> set[str]:
-    """What a function calls, by name, and what it has called by another one; of a method the name comes after a dot.
-    What it was given is not known, and what is searched by a pattern is no work."""
+    """What a function calls, by name, and what it has called by another one. What it was given is not known."""
     parts = list(ast.walk(function))
     own = {one.arg for one in parts if isinstance(one, ast.arg)}
     own |= {one.id for one in parts if isinstance(one, ast.Name) and isinstance(one.ctx, ast.Store)}
     called = [one for one in parts if isinstance(one, ast.Call)]
     found = {one.id for call in called for one in call.args if isinstance(one, ast.Name)}
-    for node in called:
-        match node:
-            case ast.Call(func=ast.Name(id=name)):
-                found.add(name)
-            case ast.Call(
-                func=ast.Attribute(value=ast.Name(id=of), attr=name)
-            ) if of == "re" or of.isupper():
-                pass
-            case ast.Call(func=ast.Attribute(attr=name)):
-                found.add("." + name)
-    return found - own
+    return found.union(*map(names_in, called)) - own
 
 
 def methods_of(of: ast.ClassDef) -> dict[str, Function]:
