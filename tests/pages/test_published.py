@@ -30,7 +30,7 @@ from forestplan.schedules.stepwise import Stepwise
 from forestplan.studio import publishing, studio
 from forestplan.studio.calls import CALLS
 from forestplan.studio.judges import MACHINE, PYTHON
-from forestplan.studio.lessons import LECTURE, LESSONS, SaidExercise
+from forestplan.studio.lessons import LECTURE, LESSONS, PredictedExercise, SaidExercise
 from forestplan.studio.networks import opened_by
 from forestplan.studio.own_dares import own_dares_of
 from forestplan.studio.recording import Recording, spots, tell, text_of_page
@@ -38,7 +38,18 @@ from forestplan.studio.session import Session
 from forestplan.studio.studio import own_programs
 from tests import SOURCES, TOP, browser
 from tests.cases import Case, text_in, working_in
-from tests.pages.test_studio_lessons import APART, COINS, Cards, LATER, TICKED, TREE, WRONG, steps
+from tests.pages.test_studio_lessons import (
+    APART,
+    COINS,
+    Cards,
+    LATER,
+    MADE,
+    PREDICTED,
+    TICKED,
+    TREE,
+    WRONG,
+    steps,
+)
 from tests.settings import PATHS
 from tests.tools import need
 
@@ -655,8 +666,8 @@ class Published(Cards):
             )
 
     def test_with_a_finger_over_http(self) -> None:
-        """From a web server, below a path, on a phone: the first two lessons are done by taps alone, and nothing is
-        asked for that isn't there."""
+        """From a web server, below a path, on a phone: all lessons are done by taps alone, and nothing is asked for
+        that isn't there."""
         quiet = partial(Quiet, directory=self.folder)
         server = ThreadingHTTPServer(("127.0.0.1", 0), quiet)
         threading.Thread(target=server.serve_forever, daemon=True).start()
@@ -676,14 +687,14 @@ class Published(Cards):
         self.open()
         self.tap_on("#welcome a.primary")
         for number, k, step in steps():
-            if number > 2:
-                break
             self.step_to(number, k)
             if step.exercise:
                 self.do_with_a_finger(number, step.exercise)
                 self.ticked(f"{number} {step.exercise.name}")
-            self.tap_on("#lesson [data-way=on]")
-        self.step_to(3, 1)
+            if (number, k) != (len(LESSONS), len(LESSONS[-1].steps)):
+                self.tap_on("#lesson [data-way=on]")
+        done = self.value("Array.from(lesson.querySelectorAll('.all a'), one => one.textContent)")
+        self.same("all are done", done, [f"{number}✓" for number in WHOLE])
         self.reads("nothing is wider", "document.documentElement.scrollWidth", 360)
         self.same("nothing is missing", self.page.faults, [])
 
@@ -740,29 +751,65 @@ class Published(Cards):
         elif isinstance(exercise, SaidExercise):
             self.write("#lesson form input", exercise.right)
             self.tap_on("#lesson form button")
-        elif name == "proper":
-            for v, channel in enumerate((2, 3, 1, 2, 1, 3, 2, 2, 1, 3), 1):
-                while self.value(f"studio.check.plan[{v - 1}]") != channel:
-                    self.tap_node(v)
-        elif name == "row":
-            self.value("scrollTo(0, 0)")
-            x, y, wide, high = self.value(
-                "(b => [b.x, b.y, b.width, b.height])(net.getBoundingClientRect())"
-            )
-            for k in range(1, 5):
-                self.page.tap(x + k * wide / 5, y + high * (0.3 if k % 2 else 0.6))
-                self.sees("a node", f"studio.net.nodes.length === {k}", 20)
-            self.join_by_taps((3, 1), (1, 4), (4, 2))
-        elif name == "two":
-            self.join_by_taps((1, 2), (3, 4), (1, 3), (2, 4))
-        elif name == "long":
-            self.value("make.querySelector('[name=nodes]').value = '400'")
-            self.tap_on("#make button")
+        elif isinstance(exercise, PredictedExercise):
+            self.predict_with_a_finger(name)
+        elif name in MADE:
+            for count, one in enumerate(MADE[name].split("_"), 1):
+                self.tap_on(f"#possible [data-step='{one}']")
+                self.sees(one, f"studio.steps.made.length === {count}", 20)
         else:
-            self.sees("the field", "document.querySelector('#chosen input[inputmode=numeric]')")
-            self.page.until("busy.hidden && studio.drawn.fresh", 20)
-            self.write("#chosen input[inputmode=numeric]", "0")
-            self.page.key("Enter", code="Enter", windowsVirtualKeyCode=13, text="\r")
+            self.see_with_a_finger(name)
+
+    def see_with_a_finger(self, name: str) -> None:
+        match name:
+            case "proper":
+                for v, channel in enumerate((2, 3, 1, 2, 1, 3, 2, 2, 1, 3), 1):
+                    while self.value(f"studio.check.plan[{v - 1}]") != channel:
+                        self.tap_node(v)
+            case "row":
+                self.draw_with_a_finger()
+                self.join_by_taps((3, 1), (1, 4), (4, 2))
+            case "two":
+                self.join_by_taps((1, 2), (3, 4), (1, 3), (2, 4))
+            case "long":
+                self.value("make.querySelector('[name=nodes]').value = '400'")
+                self.tap_on("#make button")
+            case "far":
+                self.hold_with_a_finger()
+            case _:
+                self.fill_with_a_finger(*{"centre": (2, "0"), "bar": (3, "1")}[name])
+
+    def draw_with_a_finger(self) -> None:
+        self.value("scrollTo(0, 0)")
+        x, y, wide, high = self.value(
+            "(b => [b.x, b.y, b.width, b.height])(net.getBoundingClientRect())"
+        )
+        for k in range(1, 5):
+            self.page.tap(x + k * wide / 5, y + high * (0.3 if k % 2 else 0.6))
+            self.sees("a node", f"studio.net.nodes.length === {k}", 20)
+
+    def hold_with_a_finger(self) -> None:
+        self.tap_on("[data-key='hold 1']")
+        while self.value(f"!({TICKED}) && !chance20.disabled"):
+            before = self.value("studio.steps.made.length")
+            self.tap_on("#chance20")
+            self.page.until(f"studio.steps.made.length > {before} || chance20.disabled", 20)
+            time.sleep(0.3)
+
+    def fill_with_a_finger(self, place: int, value: str) -> None:
+        field = f"#chosen label:nth-of-type({place}) input"
+        self.sees("the field", f"document.querySelector({json.dumps(field)})", 20)
+        self.page.until("busy.hidden && studio.drawn.fresh", 20)
+        self.write(field, value)
+        self.page.key("Enter", code="Enter", windowsVirtualKeyCode=13, text="\r")
+
+    def predict_with_a_finger(self, name: str) -> None:
+        if name == "waits":
+            for one in ("ack 3", "safe 2", "safe 3"):
+                self.tap_on(f"#question2 [value='{one}']")
+            return self.tap_on("#question2 form button")
+        self.write("#question input", PREDICTED.get(name, "partner 1"))
+        self.tap_on("#question form button")
 
     def test_narrow(self) -> None:
         """Nothing is wider than a phone."""

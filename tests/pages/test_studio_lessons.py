@@ -84,6 +84,8 @@ MADE = {
     "later": LATER,
     "coins": COINS,
 }
+# The right predictions, but for one that isn't a number.
+PREDICTED = {"bit": "4", "root": "1", "again": "0", "shift": "5", "drop": "2", "turn": "3"}
 
 
 def tell(done: int = 0, of: int = 0, part: object = None) -> None:
@@ -571,8 +573,7 @@ class Cards(Page):
                 self.press(" ", f"#question2 [value='{one}']")
             self.press("Enter", "#question2 form button")
             return
-        answers = {"bit": "4", "root": "1", "again": "0", "shift": "5", "drop": "2", "turn": "3"}
-        self.type_in("#question input", answers.get(name, "partner 1"))
+        self.type_in("#question input", PREDICTED.get(name, "partner 1"))
 
     def do(self, lesson: int, exercise: SaidExercise | SeenExercise | PredictedExercise) -> None:
         if isinstance(exercise, SeenExercise):

@@ -252,6 +252,19 @@ class Steps(Page):
         self.value("lesson.querySelector('[data-way=back]').click()")
         self.sees("as it was left", "studio.seen.step === 6 && studio.net.edges.length === 2", 10)
 
+    def test_other_channels(self) -> None:
+        """What is said of new channels at the end is true of these, and not of those that the nodes don't have."""
+        for place, count in (
+            ("lesson=7&step=5", 2),
+            ("example=petersen&tab=rounds&program=recolouring&at=52", 3),
+        ):
+            self.go_to(place)
+            self.sees(place, "said.textContent.includes('Done')", 20)
+            told = self.page.text("said")
+            self.note("they differ", f"{count} channels, no two neighbours alike" in told, told)
+        self.go_to(f"example=two&tab=adversary&without=safes&dare=wrong&steps={WRONG}")
+        self.sees("an end is said to be one", "hint.textContent.includes('Nothing can happen')", 20)
+
     def test_numbers_in_words(self) -> None:
         """A right number in words, or with a word more, is right; one that is wrong, or one of several, isn't."""
         for answer, is_right in (

@@ -543,8 +543,8 @@ MORE = LessonSteps(
             "Two neighbours can become *partners*, and each node has at most one. After pulse 12 each forest has a "
             "turn for each of its three colours, one after another. In the first pulse of a turn all free nodes tell "
             "their parents that they are free. In the second, each free node of the turn's colour takes one of its "
-            "free children. At a node is the port of its partner. (A port counts a node's neighbours, the lowest "
-            "first, from 0.) Press *next change* until the end.",
+            "free children. At a node is the port of its partner: *partner 1 to 3* is port 1, which leads to node 3. "
+            "(A port counts a node's neighbours, the lowest first, from 0.) Press *next change* until the end.",
             SaidExercise(
                 name="alone",
                 asks="Which node has no partner in the end?",

@@ -108,12 +108,12 @@ export class RoundsFilm {
   // What a node of another program has found: in words, and by its colour; or its channel.
   /** @param {Stage} stage @param {PulseOfProgram} pulse @param {number} v @param {number} x @param {number} y @param {number} r */
   resultMarks(stage, pulse, v, x, y, r) {
-    const [colour] = pulse.drawn[v] || [null];
+    const [colour, partner] = pulse.drawn[v] || [null, null], found = pulse.results[v - 1] + (partner ? ` to ${partner}` : "");
     if (this.channels) return channelCircle(x, y, r, Number(colour) + 1);
     const [fill, ink] = discOf(colour || 0);
     const disc = colour === null ? blank(x, y, r, v) : [mark("circle", {cx: x, cy: y, r, fill,
       stroke: "var(--ink)", class: "found-colour", "data-mark": "found"}), textMark(x, y, r * BLANK_SIZE, ink, v)];
-    return [...disc, ...resultWords(x, stage.wordsAt(v, 12), Math.min(11.5, r), pulse.results[v - 1], stage.roomBeyond(v))];
+    return [...disc, ...resultWords(x, stage.wordsAt(v, 12), Math.min(11.5, r), found, stage.roomBeyond(v))];
   }
   // The colour of a node in a forest after one of the pulses 2 to 12.
   /** @param {number} p @param {number} v @param {number} forest */
@@ -195,6 +195,12 @@ export class RoundsFilm {
     const {caption, said, results} = this.found.pulses[p];
     return [caption.split(" · ").slice(1).join(" · ") || caption, said + (results && node
       ? ` Node ${node} has found: ${results[node - 1] || "nothing yet"}${this.partnerWords(p, node)}.` : "")];
+  }
+  // The channels that nodes have at a pulse, each less 1: of the colouring, or of another program.
+  /** @param {number} p @returns {Record<number, number>} */
+  channelsAt(p) {
+    const {drawn} = this.found.pulses[p];
+    return drawn && this.channels ? Object.fromEntries(Object.entries(drawn).map(([v, [colour]]) => [v, Number(colour)])) : this.merged[p];
   }
   // Who is at the port that a node has found.
   /** @param {number} p @param {number} v */

@@ -59,7 +59,7 @@ export class Question {
   }
   /** @param {OfRounds | OfWaits | OfSends} is @param {string} answer */
   judge(is, answer) {
-    const guess = is.call === "predict" && is.text.includes("which ") ? numberIn(answer) : answer;
+    const guess = is.call === "predict" && is.text.includes("which ") ? numberIn(answer) : answer.replace(/ to (node )?\d+$/, "");
     /** @param {Predicted} answer */
     const told = ({right, found, why}) => {
       this.tries++;

@@ -54,7 +54,7 @@ function endOf(chosen) {
 /** @param {RoundsFilm} film @param {number} p @param {string} told */
 function endSaid(film, p, told) {
   if (film.forests) return endOf(film.merged[p]);
-  const done = film.channels ? endOf(film.merged[p]) : "Done: at each node is what it has found.";
+  const done = film.channels ? endOf(film.channelsAt(p)) : "Done: at each node is what it has found.";
   return `${done} ${told.replace(/^.*Nothing is sent\./, "")}`.trim();
 }
 function showAt() {

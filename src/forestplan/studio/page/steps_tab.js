@@ -289,7 +289,8 @@ function saidOf(is, step) {
 }
 tabs.adversary = {
   show: showAt,
-  hint: () => `Click a message to have it taken, ${reacts() ? "a ringed node to have it act" : "a node in a green ring to make its pulse"}, an edge to hold it.`,
+  hint: () => steps.found && !steps.found.steps.length ? "Nothing can happen any more: go back, or start again."
+    : `Click a message to have it taken, ${reacts() ? "a ringed node to have it act" : "a node in a green ring to make its pulse"}, an edge to hold it.`,
   click(v, edge, event, step) {
     if (step) return make(step);
     if (v && steps.found && !steps.predicts && isFree(String(v))) return make(String(v));
