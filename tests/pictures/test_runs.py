@@ -6,7 +6,8 @@ from forestplan.definitions.nodes import last_pulse
 from forestplan.faults import Fault
 from forestplan.networks.network_text import network_in_bytes
 from forestplan.pictures.transcripts import window_of
-from tests.cases import example
+from tests import TOP
+from tests.cases import example, said_by
 from tests.pictures.base import PictureCase, transcript
 from tests.pictures.marks import SVG, ends, marks, parsed, title, texts_of
 from tests.programs.made_transcripts import entries_of
@@ -43,6 +44,16 @@ class Runs(PictureCase):
                     self.assertEqual(window_of("two", 5, asked, 3), wanted)
                 else:
                     self.assertRaises(Fault, window_of, "two", 5, asked, 3)
+
+    def test_usual_window(self):
+        """Of a run whose pulses aren't named the first three are drawn, and of a shorter one all."""
+        for name, last, options in (("two", 2, []), ("two", 1, ["--program", "layers"])):
+            wrote = said_by("simulate", f"examples/{name}.col", *options, cwd=TOP)[1].encode()
+            usual, named = (
+                self.drawn("run", example(name), *options, *more, text=wrote)
+                for more in ([], ["--pulses", f"0..{last}"])
+            )
+            self.note(f"{name} {options}", usual == named, usual)
 
     def test_whole_runs(self):
         for name, seed in product(("two", "path", "chain6"), (1, 2)):
