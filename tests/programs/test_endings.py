@@ -51,6 +51,13 @@ class Endings(Case):
         for name, arguments in scripts:
             _, _, fault = self.redirected("| exec true", os.path.join(TOP, name), *arguments)
             self.same(f"{name} {arguments} without a reader", fault, b"")
+        # Who has read enough hasn't made anything go wrong.
+        for arguments in (["--help"], ["--version"], ["network", "path", "3"]):
+            reader, writer = os.pipe()
+            os.close(reader)
+            done = called(FORESTLAB, *arguments, stdout=writer, limit=LIMIT)
+            os.close(writer)
+            self.same(f"forestlab {arguments} without a reader", done[::2], (0, b""))
         done = ended('set -o pipefail; "$0" network random 2000 100000 | head -1', FORESTLAB)
         self.note("a reader that goes", done[::2] == (0, b"") and done[1].count(b"\n") == 1, done)
         for data, wanted in (("", (1, b"")), ("p edge 2 1\ne 1 2\n", (0, b"p edge 2 1\ne 1 2\n"))):
