@@ -5,11 +5,12 @@ from itertools import product
 from forestplan.definitions.nodes import last_pulse
 from forestplan.faults import Fault
 from forestplan.networks.network_text import network_in_bytes
+from forestplan.pictures.run_picture import NAMES
 from forestplan.pictures.transcripts import window_of
 from tests import TOP
 from tests.cases import example, said_by
 from tests.pictures.base import PictureCase, transcript
-from tests.pictures.marks import SVG, ends, marks, parsed, title, texts_of
+from tests.pictures.marks import SVG, ends, marks, parsed, texts, title, texts_of
 from tests.programs.made_transcripts import entries_of
 
 WIRES = ("payload", "ack", "safe", "close")
@@ -91,6 +92,14 @@ class Runs(PictureCase):
         wanted = {v: [" ".join(entry[1:]) for entry in own] for v, own in read.items()}
         row("its entries", entries, wanted)
         row("each payload is kept until it is read", [*map(ends, marks(root, "bar"))], bars)
+
+    def test_legend(self):
+        """It names the kinds of wires that are drawn, and no others."""
+        for kinds in (["payload"], ["ack", "close"], ["safe"], list(NAMES)):
+            text = transcript(example("two"), 1)
+            root = parsed(self.drawn("run", example("two"), "--only", ",".join(kinds), text=text))
+            named = [said for said in texts(root) if said in NAMES.values()]
+            self.same(f"the legend of {kinds}", named, [NAMES[kind] for kind in kinds])
 
     def test_runs(self):
         """The lower half of some pulses is the same for each run."""
