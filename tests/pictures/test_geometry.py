@@ -161,3 +161,13 @@ class Geometry(Case):
     def test_no_edge_runs_through_a_node(self) -> None:
         for name, drawn in [*rows(), *fitted_examples()]:
             self.same(name, run_through(drawn), [])
+
+    def test_the_radius_stays(self) -> None:
+        """An edge that is bent around a circle, where there is room, makes no circle smaller."""
+        places, edges, room = (
+            [(100.0, 100.0), (200.0, 100.0), (300.0, 100.0)],
+            [(1, 3)],
+            (0.0, 0.0, 400.0, 200.0),
+        )
+        self.note("it is bent", bends_of(places, edges, 10.0, room)[0])
+        self.same("its radius", geometry.radius_passed(places, edges, 10.0, room), 10.0)

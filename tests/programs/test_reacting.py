@@ -412,6 +412,12 @@ class Samples(Case):
         again = said_by("explore", "triangle", "--program", path, "--runs", "300", "--seed", "1")
         self.same("the same seed has the same runs", again, done)
 
+    def test_no_run_is_right(self) -> None:
+        path = self.file("never.py", PING + "def right(results, neighbours):\n    return 'never'\n")
+        status, said, _ = said_by("explore", "path2", "--program", path, "--runs", "7")
+        counts = re.findall(r"\d+", said.partition("run")[0])
+        self.same("all are counted", (status, counts), (1, ["7", "7"]))
+
 
 class Lists(Case):
     def test_a_list_leads_there(self) -> None:

@@ -387,15 +387,19 @@ class Mistakes(Played):
         self.same("who else", [label for label, _ in found.lines].count("wrong"), 3)
 
     def test_blame_is_of_the_node_whose_mistake_it_is(self):
-        """Two right nodes, and one at the end of the row that makes pulses without its neighbours' safes."""
-        self.found(
-            ("NotReady", 3, 0),
-            "alpha",
-            "path3",
-            ALPHA,
-            ALPHA,
-            self.wrong_node("safes_none", "alpha_node.py"),
-        )
+        """Two right nodes, and one at the end of the row that makes pulses without its neighbours' safes; or the wrong
+        one is in the middle, and both others have one program."""
+        wrong = self.wrong_node("safes_none", "alpha_node.py")
+        for commands, node, others in (
+            ([ALPHA, ALPHA, wrong], 3, [["1"], ["2"]]),
+            ([ALPHA, wrong], 2, [["1", "3"]]),
+        ):
+            found = self.found(("NotReady", node, 0), "alpha", "path3", *commands)
+            named = [
+                re.findall(r"\d+", part.partition(":")[0])
+                for part in dict(found.lines)["others"].split("; ")
+            ]
+            self.same(f"others than node {node}", named, others)
 
 
 # A right node whose answers are changed: `asked` counts the messages before, `found` is the result if it is in this
