@@ -8,7 +8,7 @@ from forestplan.definitions.rounds import FIRST_MERGE, ColouringRounds, merge_st
 from forestplan.networks.network_text import network_in_bytes
 from forestplan.networks.sources import network_bytes
 from tests.cases import example, examples
-from tests.pictures.base import APART, BARRED, PictureCase
+from tests.pictures.base import APART, BARRED, PictureCase, painter
 from tests.pictures.marks import (
     centre,
     data_of,
@@ -21,6 +21,7 @@ from tests.pictures.marks import (
     titles,
     texts_of,
 )
+from tests.tools import needs
 
 CHANNELS = ["#0072B2", "#E69F00", "#009E73", "#F0E442", "#CC79A7", "#56B4E9", "#D55E00", "#444444"]
 
@@ -112,6 +113,14 @@ class Maps(PictureCase):
             given = places_given(network)
             if len(given) == len(plan):
                 row("the places given", order_of(places), order_of(given))
+
+    @needs("bin/forestplan")
+    def test_plan_of_the_program(self):
+        """Without a stored plan it is that of the proved program, as the definitions have it."""
+        for name in ("petersen", "barred petersen"):
+            done = painter("plan", self.file("net.col", NETWORKS[name]))
+            wanted = self.drawn("plan", NETWORKS[name]).encode()
+            self.same(name, done, (0, wanted, b""))
 
     def test_shapes(self):
         """The eight hues come three times: as discs, as rings, and as discs again."""
