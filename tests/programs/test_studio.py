@@ -15,8 +15,10 @@ import time
 from collections import Counter
 from unittest import mock
 
+from forestplan.fault_codes import Code
+from forestplan.faults import Fault
 from forestplan.schedules.policies import POLICIES
-from forestplan.studio import server
+from forestplan.studio import judges, server
 from tests import TOP
 from tests.cases import (
     Case,
@@ -333,6 +335,19 @@ class Memory(Server):
         asked = {"network": TRIANGLE, "program": "hungry"}
         self.refuses("3 GB are refused", "MemoryError", "rounds", **asked)
         self.note("still there", self.answer("hello").get("answer"))
+
+
+class Output(Case):
+    def test_the_longest(self):
+        """An output of a proved program of so many bytes is taken, and one of a byte more is refused."""
+        for more in (0, 1):
+            wrote = subprocess.CompletedProcess([], 0, b"x" * ((64 << 20) + more), b"")
+            with mock.patch.object(judges, "called", lambda *_, wrote=wrote: wrote):
+                try:
+                    found = len(judges.said_by("forestplay", [])[1])
+                except Fault as why:
+                    found = why.code
+            self.same(f"{more} more", found, Code.OUTPUT_TOO_LONG if more else 64 << 20)
 
 
 class Answers(Server):
