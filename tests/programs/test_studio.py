@@ -18,7 +18,8 @@ from unittest import mock
 from forestplan.fault_codes import Code
 from forestplan.faults import Fault
 from forestplan.schedules.policies import POLICIES
-from forestplan.studio import judges, server
+from forestplan.studio import building, judges, server
+from forestplan.studio.session import Session
 from tests import TOP
 from tests.cases import (
     Case,
@@ -348,6 +349,25 @@ class Output(Case):
                 except Fault as why:
                     found = why.code
             self.same(f"{more} more", found, Code.OUTPUT_TOO_LONG if more else 64 << 20)
+
+
+class Builds(Case):
+    def test_how_it_ends(self):
+        """The programs are proved once a build has ended well and they are there."""
+        self.addCleanup(signal.signal, building.WANTED, signal.getsignal(building.WANTED))
+        for status, are_there in ((0, True), (0, False), (1, True)):
+            session = Session(is_proved=False)
+            own = building.Building(self.folder, session)
+            own.want()
+            given = {
+                "BUILD": ["sh", "-c", f"exit {status}"],
+                "are_built": lambda is_so=are_there: is_so,
+            }
+            with mock.patch.multiple(building, **given):
+                wait_until(lambda: own.look() or own.process is None, 60)
+            found, wanted = building.build_so_far(session), status == 0 and are_there
+            got = found.proved, found.ended, own.process
+            self.same(f"status {status}, {are_there}", got, (wanted, True, None))
 
 
 class Answers(Server):
