@@ -1,5 +1,6 @@
 """Tests of `forestlab picture watch`: what is read here is the page's table. What a node waits for, has and keeps after
 each entry is in the stored page."""
+import os
 from unittest import mock
 
 from forestplan.definitions.nodes import last_pulse
@@ -111,6 +112,19 @@ class Watch(PictureCase):
             lines = enumerate(fields_of(text), 1)
             made = {int(line[3]): [int(line[0]), at] for at, line in lines if line[2] == "pulse"}
             self.same("when each pulse is made last", run["all"], [[0, 0], *made.values()])
+
+    def test_names(self):
+        """Two runs have different names on the page: those of their files, or with a number if these are the same."""
+        text = transcript(example("triangle"), "names")
+        same = [os.path.join(self.folder, name, "run") for name in "ab"]
+        for path in same:
+            os.makedirs(os.path.dirname(path))
+            with open(path, "wb") as file:
+                file.write(text)
+        apart = [self.file(name, text) for name in ("one", "other")]
+        for paths, wanted in ((apart, ["one", "other"]), (same, ["run (1)", "run (2)"])):
+            table = data_of(self.drawn("watch", example("triangle"), *paths))
+            self.same(f"{wanted}", [run["name"] for run in table["runs"]], wanted)
 
     def test_a_run_that_is_cut(self):
         """Of a text that ends early the last moment is its end."""

@@ -154,6 +154,10 @@ FAULTS = [
     ("p edge 2 1\ni 1\n", "F4 line 2", "no `i V NUMBER`: `i 1`"),
     ("p edge 2 1\ne 1 3\n", "F5 line 2", "there is no node 3: there are 2, from 1 on"),
     ("p edge 2 1\ne 0 1\n", "F5 line 2", "there is no node 0: there are 2, from 1 on"),
+    *(
+        (f"p edge 2 1\n{line}\n", "F5 line 2", f"there is no node {v}: ")
+        for line, v in (("e 3 1", 3), ("i 0 1", 0), ("i 3 1", 3), ("b 0 1", 0), ("b 3 1", 3))
+    ),
     ("p edge 2 1\ne 2 2\n", "F6 line 2", "from node 2 to itself"),
     ("p edge 20001 0\n", "F7 line 1", "more than 20000 nodes"),
     ("p edge %s 0\n" % ("9" * 5000), "F7 line 1", "more than 20000 nodes"),
