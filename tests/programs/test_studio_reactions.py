@@ -17,7 +17,9 @@ from forestplan.pictures.page_data import as_object
 from forestplan.studio.address import Here
 from forestplan.studio.calls import CALLS
 from forestplan.studio.links import judged_link
+from forestplan.studio.local_reactions import LocalReactions
 from forestplan.studio.networks import opened_by
+from forestplan.studio.own_dares import other_judged
 from forestplan.studio.session import Session
 from forestplan.studio.studio import own_programs
 from tests import TOP
@@ -177,6 +179,16 @@ def key_of(state: NetState[ReactingNode]) -> object:
 
 class States(FilesCase):
     is_one_row = True
+
+    def test_what_always_says(self) -> None:
+        """The file's word on each state of the network that can be reached, by hand."""
+        machine = Machine(EDGE, self.file("inside.py", INSIDE), "")
+        found = LocalReactions(machine.net, machine.program, ()).find()
+        words = "inside", "outside"
+        wanted = {pair: "" for pair in itertools.product(words, words)}
+        wanted["inside", "inside"] = "two are inside"
+        self.same("by the results", found.always, wanted)
+        self.same("it has no end", found.ends, set())
 
     def test_all_states(self) -> None:
         for name, text, rules, states in WALKS:
@@ -416,6 +428,15 @@ class OwnFiles(FilesCase):
         self.note("it acts", "act 2" in found["list"] and "act 1" in found["list"], found["list"])
         again = self.found(session, program="inside", list="\n".join(found["list"]))
         self.same("the same steps", again["made"], ["2", "1-2", "1"])
+
+    def test_another_end(self) -> None:
+        """Of the nodes that have found something else the first is named."""
+        results = {1: "a", 2: "b", 3: "c"}
+        judged = other_judged(results, {1: "a", 2: "x", 3: "y"}, "5 steps")
+        self.same(
+            "another", (judged.won, judged.said.split()[:4]), (True, ["node", "2", "has", "b,"])
+        )
+        self.same("the same", other_judged(results, dict(results), "5 steps").won, False)
 
     def test_dares(self) -> None:
         """Each dare is won by the steps that win it and by no others, and only what the file says makes one."""
