@@ -112,6 +112,14 @@ class Bends(PictureCase):
         self.same("too many edges to look at", {*bends_of(crowd, far, 5, wide)}, {None})
         self.same("too many nodes to look at", bends_of(crowd, [(1, 3)], 5, wide), [None])
 
+    def test_a_picture(self):
+        """Of three nodes in a row, with edges from the first one, the edge that would run through the second is drawn as
+        a curve, and the other one straight."""
+        row = b"c at 1 0 0\nc at 2 1 0\nc at 3 2 0\np edge 3 2\ne 1 2\ne 1 3\n"
+        edges = marks(parsed(self.drawn("plan", row)), "edge")
+        are_bent = [tag.tag == f"{SVG}path" and "Q" in tag.get("d") for tag in edges]
+        self.same("bent", are_bent, [False, True])
+
 
 def sides_of(places: list[Point], edges: list[Edge], taken: list[Box] | None = None) -> list[int]:
     """The sides on which labels of one digit are, beside circles of the radius 20."""

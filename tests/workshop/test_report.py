@@ -53,6 +53,14 @@ class Tables(Rows):
         self.assertEqual(cells(league(cases)), wanted)
         self.assertEqual(league([case_of("ring5", "")]), [])
 
+    def test_when_there_is_a_table(self):
+        """Before the line of all runs, from two runs on."""
+        cases = [case_of("two", "random"), case_of("two", "newest"), case_of("path3", "newest")]
+        for count, lines in ((1, 0), (2, 3), (3, 3)):
+            said = report(cases[:count], None, 1.0)
+            before = next(at for at, line in enumerate(said) if "runs right" in line)
+            self.same(f"{count} runs", before, lines)
+
     def test_which_is_shown(self):
         """Of several runs the smallest one that is wrong, and it says so."""
         wrong = case_of("two", "", is_right=False)
