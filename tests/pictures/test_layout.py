@@ -113,8 +113,8 @@ class Bends(PictureCase):
         self.same("too many nodes to look at", bends_of(crowd, [(1, 3)], 5, wide), [None])
 
     def test_a_picture(self):
-        """Of three nodes in a row, with edges from the first one, the edge that would run through the second is drawn as
-        a curve, and the other one straight."""
+        """Of three nodes in a row the edge from the first to the last, which would run through the second, is drawn
+        as a curve, and the other one straight."""
         row = b"c at 1 0 0\nc at 2 1 0\nc at 3 2 0\np edge 3 2\ne 1 2\ne 1 3\n"
         edges = marks(parsed(self.drawn("plan", row)), "edge")
         are_bent = [tag.tag == f"{SVG}path" and "Q" in tag.get("d") for tag in edges]

@@ -15,8 +15,10 @@ import time
 from collections import Counter
 from unittest import mock
 
+from forestplan.definitions.nodes import COLOURING
 from forestplan.fault_codes import Code
 from forestplan.faults import Fault
+from forestplan.networks.network_text import network_in_bytes
 from forestplan.schedules.policies import POLICIES
 from forestplan.studio import building, judges, server
 from forestplan.studio.session import Session
@@ -33,6 +35,7 @@ from tests.cases import (
     text_in,
     wait_until,
 )
+from tests.tools import needs
 
 TRIANGLE = "p edge 3 3\ne 1 2\ne 1 3\ne 2 3\n"
 EDGE, ROW = "p edge 2 1\ne 1 2\n", "p edge 3 2\ne 1 2\ne 2 3\n"
@@ -349,6 +352,30 @@ class Output(Case):
                 except Fault as why:
                     found = why.code
             self.same(f"{more} more", found, Code.OUTPUT_TOO_LONG if more else 64 << 20)
+
+
+class Beginnings(Case):
+    @needs("bin/forestplay")
+    def test_what_is_refused(self):
+        """The definitions refuse an entry with the word of the proved machine, and with what it says after its line."""
+        net, greeting = network_in_bytes(EDGE.encode()), "1 put 2 payload 0 hello 1"
+        for entries, word in (
+            (["1 pulse 1"], "NotReady"),
+            (["1 put 2 ack 0"], "WrongWire"),
+            ([greeting, "1 put 2 ack 0"], "NothingToPut"),
+            ([greeting, "1 take 2 ack 0"], "LinkEmpty"),
+            (["1 put 3 ack 0"], "NoSuch"),
+        ):
+            own, proved = (
+                judges.beginning_judged(net, EDGE, entries, COLOURING, Session(is_proved=is_proved))
+                for is_proved in (False, True)
+            )
+            line = len(entries) + 1
+            said = own.said.removeprefix(f"line {line}: {word}:").strip()
+            after = proved.said.removeprefix(f"forestplay: {word} line {line + 3}").lstrip(": ")
+            self.same(f"{entries}: refused", (own.ok, proved.ok), (False, False))
+            self.same(f"{entries}: what is said", said, after)
+            self.note(f"{entries}: {word}", word in own.said, own.said)
 
 
 class Builds(Case):
