@@ -48,12 +48,13 @@ class Runs(PictureCase):
 
     def test_usual_window(self):
         """Of a run whose pulses aren't named the first three are drawn, and of a shorter one all."""
-        for name, last, options in (("two", 2, []), ("two", 1, ["--program", "layers"])):
+        shorter = ["--program", "layers"]
+        rows: list[tuple[str, int, list[str]]] = [("two", 2, []), ("two", 1, shorter)]
+        for name, last, options in rows:
             wrote = said_by("simulate", f"examples/{name}.col", *options, cwd=TOP)[1].encode()
-            usual, named = (
-                self.drawn("run", example(name), *options, *more, text=wrote)
-                for more in ([], ["--pulses", f"0..{last}"])
-            )
+            usual = self.drawn("run", example(name), *options, text=wrote)
+            window = ["--pulses", f"0..{last}"]
+            named = self.drawn("run", example(name), *options, *window, text=wrote)
             self.note(f"{name} {options}", usual == named, usual)
 
     def test_whole_runs(self):

@@ -347,6 +347,7 @@ class Output(Case):
         for more in (0, 1):
             wrote = subprocess.CompletedProcess([], 0, b"x" * ((64 << 20) + more), b"")
             with mock.patch.object(judges, "called", lambda *_, wrote=wrote: wrote):
+                found: object
                 try:
                     found = len(judges.said_by("forestplay", [])[1])
                 except Fault as why:
@@ -385,13 +386,16 @@ class Builds(Case):
         for status, are_there in ((0, True), (0, False), (1, True)):
             session = Session(is_proved=False)
             own = building.Building(self.folder, session)
+
+            def is_over(own=own):
+                own.look()
+                return own.process is None
+
             own.want()
-            given = {
-                "BUILD": ["sh", "-c", f"exit {status}"],
-                "are_built": lambda is_so=are_there: is_so,
-            }
-            with mock.patch.multiple(building, **given):
-                wait_until(lambda: own.look() or own.process is None, 60)
+            command = ["sh", "-c", f"exit {status}"]
+            with mock.patch.object(building, "BUILD", command):
+                with mock.patch.object(building, "are_built", return_value=are_there):
+                    wait_until(is_over, 60)
             found, wanted = building.build_so_far(session), status == 0 and are_there
             got = found.proved, found.ended, own.process
             self.same(f"status {status}, {are_there}", got, (wanted, True, None))
