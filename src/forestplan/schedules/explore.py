@@ -6,7 +6,7 @@ import sys
 from collections import Counter
 from collections.abc import Collection, Iterable, Iterator
 from functools import partial
-from typing import NamedTuple
+from typing import TYPE_CHECKING, NamedTuple
 
 from forestplan.definitions.events import Event, Kind
 from forestplan.definitions.own_program import OwnNode, check_repeats, has_verdict, wrong_end
@@ -19,12 +19,7 @@ from forestplan.files import write_output
 from forestplan.network import Network
 from forestplan.networks.sources import network_at
 from forestplan.parsers import add_output, add_seed, count, parser_of
-from forestplan.schedules import reacting_words
 from forestplan.schedules.alpha_space import AlphaSpace, Status
-from forestplan.schedules.own_rounds import verdict_of, verdict_on_many
-from forestplan.schedules.reacting_runs import Runs
-from forestplan.schedules.reacting_space import MOST_KEPT, ReactingSpace
-from forestplan.schedules.ruled_rounds import looked_at
 from forestplan.schedules.rules import (
     ALL,
     OF_SCHEDULES,
@@ -34,6 +29,10 @@ from forestplan.schedules.rules import (
 )
 from forestplan.schedules.space import AnySearched, Space
 from forestplan.wording import as_text, counted
+
+# Only what is asked for pays for what the import takes: so functions import what others don't need.
+if TYPE_CHECKING:
+    from forestplan.schedules.reacting_runs import Runs
 
 MOST_NODES = 4
 LIMIT = 1_000_000
@@ -232,6 +231,8 @@ class Explored(NamedTuple):
 
 def rounds_found(given: Namespace) -> Explored:
     """What the rounds of the network do without the rules, or a smallest network on which they go wrong."""
+    from forestplan.schedules.ruled_rounds import looked_at
+
     net = None if given.network is None else network_at(given.network)
     rounds, said = looked_at(net, given.without, program_asked("explore", given, net))
     text = f"{said}\n{rounds.sentence()}\n" if rounds else f"{said}\n"
@@ -251,6 +252,8 @@ def networks_found(given: Namespace) -> Explored:
     program = program_asked("explore", given)
     if not has_verdict(program):
         raise Fault(Code.NO_FUNCTION_RIGHT, program=given.program)
+    from forestplan.schedules.own_rounds import verdict_on_many
+
     is_right, text = verdict_on_many(program, given.networks, given.seed, given.connected)
     return Explored(not is_right, text)
 
@@ -300,12 +303,18 @@ def found_by_rounds(given: Namespace, net: Network, program: Program) -> Explore
     is_large = net.nodes > MOST_NODES
     if not is_large and not wrong_end(net, program):
         return None
+    from forestplan.schedules.own_rounds import verdict_of
+
     is_right, text = verdict_of(net, program)
     return Explored(not is_right, text + (ROUNDS_ALONE if is_large else ""))
 
 
 def reacting_found(given: Namespace, net: Network, program: Reacting) -> Explored:
     """What is found of nodes that react to messages: there are no rounds to compare them with."""
+    from forestplan.schedules import reacting_words
+    from forestplan.schedules.reacting_runs import Runs
+    from forestplan.schedules.reacting_space import ReactingSpace
+
     if set(given.without) - {"fifo"}:
         raise Fault(Code.NO_SYNCHRONISER, program=given.program)
     if given.reduce:
@@ -329,8 +338,10 @@ def reacting_found(given: Namespace, net: Network, program: Reacting) -> Explore
     return Explored(bool(space.faults), text, listed, space.count, len(space.target))
 
 
-def runs_found(given: Namespace, runs: Runs) -> Explored:
+def runs_found(given: Namespace, runs: "Runs") -> Explored:
     """What is found in runs by a seed."""
+    from forestplan.schedules import reacting_words
+
     lines = list(reacting_words.runs_words(runs))
     if runs.wrong:
         fewest = ", maybe not the fewest" if runs.events else ""
@@ -363,6 +374,8 @@ def search(given: Namespace, space: Space[AnySearched]) -> None:
         if show:
             sys.stderr.write("\r\033[K")
     if space.is_full:
+        from forestplan.schedules.reacting_space import MOST_KEPT
+
         raise Fault(Code.STATES_GROW, expanded=space.expanded, most=MOST_KEPT)
     if space.is_cut:
         can_reduce = not given.reduce and not set(given.without) & {"safes", "fifo"}
