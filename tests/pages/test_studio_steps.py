@@ -265,6 +265,36 @@ class Steps(Page):
         self.go_to(f"example=two&tab=adversary&without=safes&dare=wrong&steps={WRONG}")
         self.sees("an end is said to be one", "hint.textContent.includes('Nothing can happen')", 20)
 
+    def test_answered_once_more(self) -> None:
+        """A wrong answer is said to be one, also where the exercise was done before."""
+        self.open(1280, 800, False)
+        self.step(1, 1)
+        for answer, said in (
+            ("4", "Four. The last"),
+            ("99", "not by this: it isn't 99"),
+            ("4", "Four. The last"),
+        ):
+            self.value(f"lesson.querySelector('form input').value = '{answer}'")
+            self.value("lesson.querySelector('form').requestSubmit()")
+            self.sees(
+                answer,
+                f"lesson.querySelector('.judged').textContent.includes({json.dumps(said)})",
+                10,
+            )
+
+    def test_a_menu_gives_the_keys_back(self) -> None:
+        """After a choice of a menu the keys are the page's again."""
+        self.open(1280, 800, False)
+        self.value("lecture.focus()")
+        self.page.choose("lecture", "1")
+        self.sees("the first place", "studio.seen.lecture === 1 && !studio.isFollowing()", 20)
+        self.page.key("PageDown", code="PageDown", windowsVirtualKeyCode=34)
+        self.sees("the second one", "studio.seen.lecture === 2 && !studio.isFollowing()", 20)
+        self.page.key("f", code="f", windowsVirtualKeyCode=70, text="f")
+        self.sees("large", "document.documentElement.classList.contains('large')", 10)
+        self.page.key("Escape", code="Escape", windowsVirtualKeyCode=27)
+        self.sees("and no more", "!document.documentElement.classList.contains('large')", 10)
+
     def test_numbers_in_words(self) -> None:
         """A right number in words, or with a word more, is right; one that is wrong, or one of several, isn't."""
         for answer, is_right in (

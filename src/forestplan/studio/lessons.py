@@ -395,8 +395,8 @@ NO_CLOCK = LessonSteps(
             "How does a node know when to go on? There are four kinds of messages. A *payload* is the algorithm's own "
             "message. An *ack* says: I have your payload. A *safe* says: all my payloads of this pulse are "
             "acknowledged. (A *close* ends a link.) A node makes its next pulse when its own payloads are acknowledged "
-            "and all its neighbours are safe. Here node 2 has acknowledged node 1's payload, and nothing else has "
-            "come.",
+            "and all its neighbours are safe. Node 2's payload has come here, and its ack for node 1's payload, and "
+            "nothing else. (A message waits beside the node that is to take it.)",
             PredictedExercise(
                 name="waits",
                 hint="Node 1 has sent a payload to each of its neighbours, 2 and 3. One ack has come.",
@@ -668,7 +668,7 @@ REACTIONS = LessonSteps(
         ),
         TableStep(
             "example=triangle&tab=adversary&program=exclusion",
-            "Start again, and get node 3 inside while node 1 asks, too.",
+            "From the beginning again: get node 3 inside while node 1 asks, too.",
             SeenExercise(
                 name="later",
                 hint="Node 1 asks with a later time if it has heard the question of node 3 before.",

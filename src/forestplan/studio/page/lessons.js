@@ -214,6 +214,7 @@ async function judged(lesson, is, what) {
     if (found.done) {
       finish(lesson, is, whole(found.said));
     } else if (!isDone(lesson, is)) say(lesson, is, notYet(found.said));
+    else if (is.kind === "said") say(lesson, is, `It was done before, but not by this: ${whole(found.said)}`);
   } catch (fault) {
     if (!(fault instanceof Wrong)) throw fault;
     if (isOpen(lesson, is) && !isDone(lesson, is)) say(lesson, is, notYet(messageOf(fault)));
@@ -309,8 +310,8 @@ function folded(title, text) {
 function partsOfPlace(at) {
   const {lecture} = hello(), place = lecture[at - 1], speech = html("div", null, {class: "speaker"});
   if (!place) return [];
-  speech.append(...textOf(capital(place.say)), html("p", "In the large mode (the key F) these words aren’t seen. A second window with the lecture"
-    + " goes along with this one, and keeps them.", {class: "soft"}));
+  speech.append(...textOf(capital(place.say)), html("p", "In the large mode (the key F) these words aren’t seen. Open this page in a second window"
+    + " (“link” copies its address): it goes along with this one, and keeps them. The keys PageDown and PageUp lead on and back.", {class: "soft"}));
   return [head(capital(place.title), "the lecture"), speech,
     arrows(`${at} of ${lecture.length}, minutes ${place.minutes}`, ["↺", "this place from its beginning", () => goTo(at)], at > 1 ? ["◂", "the place before", () => goTo(at - 1)] : undefined,
       at < lecture.length ? ["next ▸", "the next place", () => goTo(at + 1)] : undefined)];

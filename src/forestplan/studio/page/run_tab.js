@@ -130,6 +130,7 @@ function showAt() {
   if (run.film2) {
     const here = film.atPulse(time.at), there = run.film2.atPulse(time.at);
     at = here.at;
+    second.largest = stage.largest;
     second.refit();
     film.draw(stage, here.stamp, {...options, at});
     run.film2.draw(second, there.stamp, {...options, slow: [], lazy: [], at: there.at});

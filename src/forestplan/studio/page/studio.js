@@ -395,7 +395,13 @@ by("copy").onclick = () => hooks.copy(by("copy"));
 /** @param {"examples" | "lessons" | "save" | "lecture"} id @param {(value: string) => unknown} choose */
 function menu(id, choose) {
   const list = by(id);
-  list.onchange = () => { const {value} = list; list.value = ""; if (value) choose(value); };
+  // It gives the keys back to the page.
+  list.onchange = () => {
+    const {value} = list;
+    list.value = "";
+    list.blur();
+    if (value) choose(value);
+  };
   list.onkeydown = event => {
     if (/^Arrow(Up|Down)$/.test(event.key) && list.showPicker) { event.preventDefault(); list.showPicker(); }
   };
@@ -461,6 +467,8 @@ function clicks(event, on, node) {
 function pressed(key) {
   /** @type {Record<string, HTMLElement | undefined>} */
   const buttons = {"+": by("zoomin"), "=": by("zoomin"), "-": by("zoomout")};
+  // Who has chosen nothing leaves the large mode by Escape, as that of the browser.
+  if (key === "Escape" && !seen.node && !seen.edge && document.documentElement.classList.contains("large")) turnLarge(false);
   const button = key === "c" && seen.tab === "rounds" ? by("change") : key === "f" ? by("large") : buttons[key];
   if (button) button.click();
   return Boolean(button);
