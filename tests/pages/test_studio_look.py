@@ -85,7 +85,7 @@ class Look(Page):
         self.same("held", self.value(NAMED), ["await_ack", "held", "later", "payload", "pulse"])
         # Beside the file of a program there is less room.
         self.go_and_wait("example=two&tab=adversary&program=snapshot&steps=1_1&slow=1-2&node=2")
-        named = ["held", "later", "message", "reacting", "ring_edge", "ring_good"]
+        named = ["acted", "held", "later", "message", "reacting", "ring_edge", "ring_good"]
         self.same("marks of messages", self.value(NAMED), named)
         self.reads("all is seen", "legend.scrollHeight <= legend.clientHeight", True)
         # Its height stays, so that the network stays where it is.
