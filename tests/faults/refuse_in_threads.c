@@ -1,11 +1,9 @@
 /* Refuses every growth that a thread asks for which the program started, gives all others on, and at the end writes to
    the file COUNT how many it refused. So that such a thread stops where a scheduler seldom stops it, a signal stops it
    for STOP microseconds again and again, each time after up to twice as many of its own; it spins then, since a thread
-   that sleeps is woken late, and offers its processor to the others meanwhile, which on a busy machine may wait for it.
-   Without STOP none is stopped. */
+   that sleeps is woken late. Without STOP none is stopped. */
 #include "preload.h"
 
-#include <sched.h>
 #include <signal.h>
 #include <time.h>
 
@@ -46,9 +44,7 @@ static void go_on(void) {
 
 static void stop_a_while(int signal) {
     (void)signal;
-    long begin = now();
-    do sched_yield();
-    while (now() - begin < stop);
+    for (long begin = now(); now() - begin < stop;) {}
     go_on();
 }
 
