@@ -8,7 +8,7 @@ import {withSteps} from "./recorded_steps.js";
 
 export const token = "published";
 export class Wrong extends Error {}
-const NO_ANSWER = "This page was recorded, and has no answer to that. The studio itself has: `forestlab studio` starts it.";
+const NO_ANSWER = "This page was recorded, and has no answer to that. The studio itself has, a program for a computer: `forestlab studio` starts it.";
 
 /** @type {Map<string, Piece>} */
 const pieces = new Map();
