@@ -101,6 +101,9 @@ class Runs(PictureCase):
             root = parsed(self.drawn("run", example("two"), "--only", ",".join(kinds), text=text))
             named = [said for said in texts(root) if said in NAMES.values()]
             self.same(f"the legend of {kinds}", named, [NAMES[kind] for kind in kinds])
+            head = " ".join(texts(root)[:2])
+            in_head = [kind for kind in NAMES if f"{NAMES[kind]}s" in head]
+            self.same(f"the heading of {kinds}", in_head, kinds if len(kinds) < len(NAMES) else [])
 
     def test_runs(self):
         """The lower half of some pulses is the same for each run."""

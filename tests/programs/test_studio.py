@@ -16,11 +16,16 @@ from collections import Counter
 from unittest import mock
 
 from forestplan.definitions.nodes import COLOURING
+from forestplan.definitions.rounds import ColouringRounds
 from forestplan.fault_codes import Code
 from forestplan.faults import Fault
 from forestplan.networks.network_text import network_in_bytes
 from forestplan.schedules.policies import POLICIES
+from forestplan.pictures.page_data import as_object
+from forestplan.pictures.player_page import SAY
 from forestplan.studio import building, judges, server
+from forestplan.studio.calls import CALLS
+from forestplan.studio.predictions import found_after
 from forestplan.studio.session import Session
 from tests import TOP
 from tests.cases import (
@@ -377,6 +382,27 @@ class Beginnings(Case):
             self.same(f"{entries}: refused", (own.ok, proved.ok), (False, False))
             self.same(f"{entries}: what is said", said, after)
             self.note(f"{entries}: {word}", word in own.said, own.said)
+
+
+class Explained(Case):
+    def test_drops(self):
+        """Which colour is dropped in which pulse, as lesson 3 has it."""
+        rounds = ColouringRounds(network_in_bytes(TRIANGLE.encode()))
+        for pulse, dropped in ((8, 5), (10, 4), (12, 3)):
+            why = found_after(rounds, 2, pulse, 0)[1]
+            rule = SAY["drop"].format(dropped)
+            self.same(f"pulse {pulse}", why[: len(rule)], rule)
+
+
+class Threads(Case):
+    @needs("bin/forestplan", "bin/forestplay")
+    def test_each_program(self):
+        """A run of threads of the proved program that plays it: forestplan the colouring, forestplay others."""
+        for name in ("colouring", "leader"):
+            asked = {"network": TRIANGLE, "how": "threads", "program": name}
+            found = CALLS["run"].answer(asked, Session(is_proved=True), lambda *_, **__: None)
+            judge = json.loads(json.dumps(found, default=as_object))["judge"]
+            self.note(name, judge["ok"], judge)
 
 
 class Builds(Case):
