@@ -121,6 +121,8 @@ class Broken(PictureCase):
             row = self.rows_of(f"{program} without {rule}")
             circles = [mark.find(f"{SVG}circle") for mark in marks(groups[0], "map-node")]
             places = {v: centre(circle) for v, circle in enumerate(circles, 1)}
+            named = re.findall(r"\d+", texts(root)[0].rpartition(": ")[2])
+            row("the nodes that go wrong", sorted(map(int, named)), nodes)
             row("red edges", pairs_joined(root, "wrong", places), edges)
             red = [nearest(places, centre(mark)) for mark in marks(root, "wrong-node")]
             row("red nodes", sorted(red), nodes)

@@ -97,6 +97,7 @@ class Schedules(PictureCase):
         shown = range(low, high + 1)
         row("its columns", [right[x] for x in columns], [good[far] for far in shown])
         row("red marks", [wrong[x] for x in columns], [bad[far] for far in shown])
+        row("the first column has its number", str(low) in texts(root), True)
         last = max(+(good + bad))
         text = " ".join(texts(root))
         row("one end", "ends in one state" in text, not space.faults)
