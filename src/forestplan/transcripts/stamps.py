@@ -1,13 +1,17 @@
 """Why an entry isn't possible, or a run not whole, in words; and Lamport's clock, which counts the stamps."""
 from collections import deque
 from collections.abc import Iterable, Iterator
+from typing import TYPE_CHECKING
 
 from forestplan.definitions.events import PULSE, PUT, TAKE, Entry, Kind
 from forestplan.definitions.machine import NetState, Node, event_of, missing_words
 from forestplan.definitions.nodes import AlphaNode, lacks_of
 from forestplan.fault_codes import Code
 from forestplan.transcripts.reading import Head, WrongEntry, entry_text
-from forestplan.transcripts.rules import Standing, rule_of, stuck_words
+
+# Only what is refused pays for what the import takes: so functions import it.
+if TYPE_CHECKING:
+    from forestplan.transcripts.rules import Standing
 
 
 class Clock:
@@ -43,11 +47,15 @@ def check_whole(state: NetState[Node], last: Entry | Head) -> None:
         stand = [(v, at) for v in state.nodes if (at := standing(state, v))]
         if is_on_its_way or not stand:
             raise WrongEntry(last.line, Code.NOT_WHOLE, undone=undone[1])
+        from forestplan.transcripts.rules import stuck_words
+
         raise WrongEntry(last.line, Code.STUCK, owing=stuck_words(stand))
 
 
-def standing(state: NetState[Node], v: int) -> Standing | None:
+def standing(state: NetState[Node], v: int) -> "Standing | None":
     """Where a node under the synchroniser is, for the words on its next entry; None of another node."""
+    from forestplan.transcripts.rules import Standing
+
     node = state.nodes[v]
     if not isinstance(node, AlphaNode):
         return None
@@ -88,11 +96,13 @@ def refusal(
     return WrongEntry(entry.line, code, entry=entry_text(entry), lacks="", due=due_wire, rule="")
 
 
-def rule_broken(at: Standing, entry: Entry) -> str:
+def rule_broken(at: "Standing", entry: Entry) -> str:
     """The rule that a pulse or a put breaks, in words; a take breaks none."""
     if entry.kind is TAKE:
         return ""
     what = "pulse" if entry.kind is PULSE else f"put {entry.neighbour}"
+    from forestplan.transcripts.rules import rule_of
+
     return rule_of(at, f"{what} {entry.what}", says_lacks=False)
 
 
