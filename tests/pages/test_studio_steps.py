@@ -4,7 +4,7 @@ import json
 import re
 import time
 
-from forestplan.studio.lessons import LESSONS, PredictedExercise, values_in
+from forestplan.studio.lessons import LESSONS, PredictedExercise, SaidExercise, values_in
 from tests.cases import Case
 from tests.pages.test_studio_lessons import steps
 from tests.pages.test_studio_look import controls
@@ -336,6 +336,20 @@ class Steps(Page):
         self.reads("nor removed", "document.getElementById('delete').disabled", True)
         self.page.key("Delete", code="Delete", windowsVirtualKeyCode=46)
         self.reads("by no key either", "studio.net.nodes.length", 10)
+
+    def test_done_before_another_step(self) -> None:
+        """After the last step a lesson doesn't end as long as another step isn't done."""
+        self.open(1280, 800, False)
+        number, k, right = next(
+            (number, len(lesson.steps), last.right)
+            for number, lesson in enumerate(LESSONS, 1)
+            if isinstance(last := lesson.steps[-1].exercise, SaidExercise) and not last.picks
+        )
+        self.step(number, k)
+        self.value(f"lesson.querySelector('form input').value = {json.dumps(right)}")
+        self.value("lesson.querySelector('form').requestSubmit()")
+        self.sees("done", "hint.textContent.startsWith('☑ Done')", 10)
+        self.reads("what is left", "hint.textContent.includes('Step 1 isn’t done yet.')", True)
 
     def test_under_way(self) -> None:
         """What says that something is under way covers no node."""

@@ -249,7 +249,9 @@ function keepQuiet() {
 export function doneWords() {
   const lesson = lessonSeen(), step = seen.step || 1;
   if (!isFresh || !lesson) return "";
-  return `☑ Done. ${step < lesson.steps.length ? `Go on with “step ${step + 1} ▸”.` : `Lesson ${lesson.number} ends here.`}`;
+  const open = lesson.steps.findIndex(one => one.exercise && !isDone(lesson.number, one.exercise)) + 1;
+  return `☑ Done. ${step < lesson.steps.length ? `Go on with “step ${step + 1} ▸”.`
+    : open ? `Step ${open} isn’t done yet.` : `Lesson ${lesson.number} ends here.`}`;
 }
 // What is said of an exercise, behind a box that is ticked if it is done.
 /** @param {number} lesson @param {Exercise} is @param {string} text */
