@@ -272,6 +272,7 @@ class Drawn(Page):
         )
         self.go_to("example=path&tab=adversary&dare=ends&lazy=1")
         self.sees("a dare", "document.getElementById('dared').textContent.startsWith('☐')")
+        self.sees("what is possible", "!document.getElementById('chance20').disabled")
         self.click_on("#chance20")
         self.sees("on the way", "studio.steps.made.length")
         for _ in range(3):

@@ -505,8 +505,8 @@ SCHEDULES = LessonSteps(
         TableStep(
             "example=path&tab=adversary",
             "The studio plays the one order that you choose. The command `forestlab explore two` covers all orders "
-            "of two nodes. There are 1.4·10²¹ of them, but only 281 states, and it visits each state once, in a second. "
-            "In every order each message is taken once, and each node makes each pulse once.",
+            "of two nodes. There are 1.4·10²¹ of them, but only 281 states, and it visits each state once, in a "
+            "second. In every order each message is taken once, and each node makes each pulse once.",
             SaidExercise(
                 name="events",
                 asks="In this row of three, 148 messages are sent in a whole run. All nodes begin at pulse 0, and 21 "
