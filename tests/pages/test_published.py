@@ -67,7 +67,8 @@ for name, data in published(Session(), places).items():
     print(name, hashlib.sha256(data).hexdigest())
 """
 # The calls that the page has made by itself are answered; what is asked here goes the same way.
-CALL = "$$recorded.call({}, {}).catch(why => ({{wrong: why.message}}))"
+# A call of the page itself of the same name would end one without a key.
+CALL = "$$recorded.call({}, {}, {{key: 'test'}}).catch(why => ({{wrong: why.message}}))"
 
 
 def session() -> Session:
@@ -725,6 +726,7 @@ class Published(Cards):
 
     def write(self, selector: str, text: str) -> None:
         """Taps a field, and types with the keys of the phone."""
+        self.page.until("busy.hidden && !studio.isFollowing()", 20)
         self.tap_on(selector)
         self.sees(
             "has the focus",
