@@ -86,7 +86,7 @@ Channels count from 1. No vertex gets one that is barred at it, and none is abov
 the greatest number of neighbours plus the greatest number of barred channels of
 a vertex, plus one. The vertices find them by messages to their neighbours, round
 by round on one thread: each forest gets three colours, and the forests are merged
-one by one. The plan depends on the graph alone. To have a plan, use this command:
+one by one. The plan depends only on the graph. To have a plan, use this command:
 `forestplan plan` prints the same bytes and takes far longer.",
     format: "Input: a graph in the DIMACS format, as `p edge NODES EDGES` and then `e V W`.
 
@@ -138,11 +138,14 @@ as often as they may before all nodes were done. Give more --turns, up to
 1000000000000. A look that finds no node counts too, so that workers which wait
 for each other use up their turns.
 
-Use no more workers than the machine has processors. More workers are not faster
-on a small network: there is too little to do at once, and they wait for each
-other. A link never holds more than two wires, so links are made with room for
-two at most, and a capacity above 2 has no effect; with a capacity of 1 some wires
-have to wait.
+Use no more workers than the machine has processors, and one worker next to other
+work: on four processors that were all busy with other processes, four workers
+took 8 to 29 times as long as one. On a small network more workers are not faster,
+because there is too little to do at once, and they wait for each other.
+
+A link never holds more than two wires. So links are made with room for two at
+most, and a capacity above 2 has no effect. With a capacity of 1 some wires have to
+wait.
 
 A run grows with its rounds. With D as the greatest number of neighbours of a
 vertex, B as the greatest number of its barred channels, and U as the greatest
@@ -232,7 +235,7 @@ Example: where the run leads
 
 pub const WORKERS: &'static str = "How many threads run the nodes, 1 to 64";
 
-pub const CAPACITY: &'static str = "Room of a link, 1 to 64 wires; above 2 it has no effect";
+pub const CAPACITY: &'static str = "Capacity of a link, 1 to 64 wires; above 2 it has no effect";
 
 pub const TURNS: &'static str = "How often a worker looks for a node";
 
@@ -242,7 +245,7 @@ pub const PROGRAM: &'static str = "The nodes' program: see `forestplay --help`";
 
 pub const ROOT: &'static str = "The node that is the root of layers";
 
-pub const PASSES: &'static str = "How often recolouring chooses anew, 1 to 64; else once";
+pub const PASSES: &'static str = "How often recolouring chooses again, 1 to 64; else once";
 
 pub const SHOW_TRANSCRIPT: &'static str = "Print the transcript, not the last states";
 
@@ -471,8 +474,8 @@ Example: two nodes
 };
 
 pub const RUN: Help = Help {
-    about: "Runs nodes on threads, and prints where they end",
-    long_about: "Runs nodes on threads, and prints where they end.
+    about: "Runs nodes on threads, and prints how each node ends",
+    long_about: "Runs nodes on threads, and prints how each node ends.
 
 Worker threads run the nodes in any order, without a common clock, and Awerbuch's
 synchroniser alpha keeps each node in step with its neighbours: `forestplan plan
@@ -513,13 +516,13 @@ prints
 };
 
 pub const ALONE: Help = Help {
-    about: "Runs nodes on one thread, and prints where they end",
-    long_about: "Runs nodes on one thread, and prints where they end.
+    about: "Runs nodes on one thread, and prints how each node ends",
+    long_about: "Runs nodes on one thread, and prints how each node ends.
 
-The nodes are those of `forestplay run`, without a common clock, and each knows the
-wires of its neighbours alone. One thread plays their events: in a round each node
-in turn makes a pulse, takes a wire from each neighbour and puts one for it, as far
-as it can. A round in which no node can do anything is the last. This run is proved
+The nodes are those of `forestplay run`, without a common clock, and each knows
+only the wires of its neighbours. One thread plays their events: in a round each
+node in turn makes a pulse, takes a wire from each neighbour and puts one for it, as
+far as it can. A round in which no node can do anything is the last. This run is proved
 to end, with the states that the rounds end with. With --transcript it prints what
 each node did, in a run with another order. Two calls print the same bytes.",
     format: "Input: a graph in the DIMACS format, as `p edge NODES EDGES` and then `e V W`.
@@ -540,11 +543,11 @@ prints
 };
 
 pub const ENDS: Help = Help {
-    about: "Runs nodes in rounds, and prints where they end",
-    long_about: "Runs nodes in rounds, and prints where they end.
+    about: "Runs nodes in rounds, and prints how each node ends",
+    long_about: "Runs nodes in rounds, and prints how each node ends.
 
-One thread makes the rounds that `forestplay rounds` prints, and keeps the last
-states alone. It is to `forestplay run` what `forestplan plain` is to `forestplan
+One thread makes the rounds that `forestplay rounds` prints, and keeps only
+the last states. It is to `forestplay run` what `forestplan plain` is to `forestplan
 plan`: it prints the same text for the same input, much sooner.",
     format: "Input: a graph in the DIMACS format, as `p edge NODES EDGES` and then `e V W`.
 

@@ -80,7 +80,7 @@ class Program:
     `last_pulse(net)` the last pulse R of every node. `PROGRAMS` has six, and `program_at` those with options.
 
     Its options are `root`, the node that is the root of layers, if it isn't the node of identifier 1; `passes`, how
-    often recolouring chooses anew; `file`, that of a program of one's own; and `without`, the rules that its nodes
+    often recolouring chooses again; `file`, that of a program of one's own; and `without`, the rules that its nodes
     leave out. `reads_bars` says whether its nodes look at the channels that are barred at them.
 
     >>> from forestplan.definitions.programs import PROGRAMS

@@ -44,7 +44,7 @@ HELP = f"what the nodes run: {', '.join(PROGRAMS)}, or a file of your own, as NA
 def program_at(name: str, lots: str = "1", **options: int | None) -> Program:
     """The program by rounds of a `name`, one of `PROGRAMS`, or of a file whose name ends in `.py`; `lots` is the seed
     of its nodes' chance. Its `options` are those of two programs: of layers `root`, the node that is the root, and of
-    recolouring `passes`, how often it chooses anew.
+    recolouring `passes`, how often it chooses again.
 
     >>> program_at("layers", root=3).root, program_at("recolouring", passes=8).passes
     (3, 8)

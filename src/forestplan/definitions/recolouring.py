@@ -58,7 +58,7 @@ class Recolouring(Sequel):
         return max(free, default=own)
 
     def present(self) -> int:
-        """The colour that it has: that of the colouring until it chooses anew, and then what it chose last."""
+        """The colour that it has: that of the colouring until it chooses again, and then what it chose last."""
         return self.first.merged if self.colour is None else self.colour
 
     def result(self) -> str:
