@@ -1,6 +1,9 @@
 """How many processors this process may use."""
 import os
 
+# As many worker threads as the proved programs start if none are asked for.
+DEFAULT_WORKERS = 4
+
 
 def usable() -> int:
     """The processors that the system lets this process use, 1 or more: a class's machine may give it fewer than it

@@ -11,7 +11,7 @@ from dataclasses import dataclass
 from inspect import signature
 from typing import Any, NamedTuple
 
-from forestplan import folders, proved_programs
+from forestplan import folders, processors, proved_programs
 from forestplan.definitions.colours import plan_text as plan_by_definition
 from forestplan.definitions.nodes import COLOURING
 from forestplan.definitions.program import Program
@@ -543,9 +543,10 @@ def run_text(kind: str, network: Network, network_text: bytes, program: Program)
         )
     if is_of_file(program):
         return text_of_run(network, played(network, program=program), program)
+    workers = f"--workers={processors.workers(processors.DEFAULT_WORKERS)}"
     if program == COLOURING:
-        return proved_programs.output_of("forestplan", ["transcript"], network_text)
-    arguments = ["run", "--transcript", *program_words(program)]
+        return proved_programs.output_of("forestplan", ["transcript", workers], network_text)
+    arguments = ["run", "--transcript", *program_words(program), workers]
     return proved_programs.output_of("forestplay", arguments, network_text)
 
 

@@ -6,6 +6,7 @@ here. """
 from dataclasses import dataclass
 from typing import Annotated
 
+from forestplan import processors
 from forestplan.definitions.nodes import COLOURING
 from forestplan.network import Edge
 from forestplan.networks.kinds import KINDS
@@ -158,7 +159,7 @@ class RunCall(Seeded, AfterSteps, Held, OfProgram):
 
     how: Annotated[str, value_among(("seed", "threads"))] = "seed"
     policy: Annotated[str, value_among(POLICIES)] | None = None
-    workers: int = 4
+    workers: int = processors.DEFAULT_WORKERS
     capacity: int = 4
     transcript: str | None = None
 
