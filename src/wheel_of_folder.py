@@ -17,8 +17,8 @@ from collections.abc import Iterator, Mapping
 SOURCES = os.path.dirname(os.path.realpath(__file__))
 TOP = os.path.dirname(SOURCES)
 PACKAGE = os.path.join("src", "forestplan")
-# What the package and the commands call.
-FOLDERS = ("bin", "lib", "examples")
+# What the package and the commands call, and what the commands that pages show read.
+FOLDERS = ("bin", "lib", "examples", os.path.join("docs", "pictures"))
 COMMANDS = ("forestlab", "forestplan", "forestplay")
 LICENSES = ("LICENSE-APACHE", "LICENSE-MIT", "LICENSE-THIRD-PARTY")
 # 1 January 1980, before which a zip file has no time.

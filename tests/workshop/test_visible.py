@@ -4,8 +4,9 @@ workshop, which start in the container. It needs no built program."""
 import os
 import subprocess
 import sys
+from unittest import mock
 
-from forestplan.workshop import grade
+from forestplan.workshop import grade, visible_files
 from forestplan.workshop.compiling import compiled as compiled_in
 from forestplan.workshop.findings import NoAnswer
 from forestplan.workshop.guard import Limits
@@ -127,6 +128,21 @@ class Starts(Contained):
         found = got(started(guard, program(attacks)).communicate(timeout=60)[1])
         wanted = {"shown": "'x'", "closed": "FileNotFoundError", "closed_open": "'x'"}
         self.same("found", found, wanted)
+
+    def test_a_copy_behind_a_link(self) -> None:
+        """A package of Debian puts this program into /usr/lib, and /lib is a link to that: it is empty by both paths. Of
+        the folders that each system has there, one is taken for the program."""
+        if not (os.path.islink("/lib") and os.path.isdir("/usr/lib/apt")):
+            self.skipTest("a link /lib to a folder with apt isn't installed")
+        with mock.patch.object(visible_files, "OWN_NAME", "apt"):
+            self.same("copies", copies_in(["/lib", "/usr/lib"]), ["/usr/lib/apt"])
+            guard, _ = self.guards()
+            attacks = {
+                name: f"__import__('os').listdir({path!r})"
+                for name, path in {"link": "/lib/apt", "folder": "/usr/lib/apt"}.items()
+            }
+            found = got(started(guard, program(attacks)).communicate(timeout=60)[1])
+        self.same("found", found, {"link": "[]", "folder": "[]"})
 
 
 class Paths(Case):

@@ -196,7 +196,7 @@ def words_of_files(shown: list[str], empty: set[str]) -> list[str]:
 
 def shown_as(path: str) -> list[str]:
     """The words for a file or a folder that is seen. Of the system's folders some are links to others."""
-    if os.path.islink(path) and os.path.dirname(path) == "/":
+    if visible_files.is_link_of_system(path):
         return ["--symlink", os.readlink(path), path]
     return ["--ro-bind", path, path]
 

@@ -102,9 +102,16 @@ def is_copy(folder: str) -> bool:
 
 
 def copies_in(folders: Iterable[str]) -> list[str]:
-    """The installed copies of this program in folders that are shown."""
-    found = [os.path.join(folder, OWN_NAME) for folder in folders]
+    """The installed copies of this program in folders that are shown. Behind a link of the system there is no other copy
+    than where it leads, and nothing can be laid over a path that goes through it before all is there.
+    """
+    found = [os.path.join(folder, OWN_NAME) for folder in folders if not is_link_of_system(folder)]
     return [path for path in found if os.path.isdir(path)]
+
+
+def is_link_of_system(path: str) -> bool:
+    """Whether a folder of the system is a link to another one, as /lib is to /usr/lib; a program sees a link, too."""
+    return os.path.islink(path) and os.path.dirname(path) == "/"
 
 
 def meets(path: str, other: str) -> bool:
