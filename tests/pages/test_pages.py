@@ -2,8 +2,8 @@
 
 - Each table of the lessons (docs/learn) is worked out from the definitions (src/forestplan/definitions/), not from the
   program.
-- Each excerpt of code, a fence whose first line names its file, has its lines in that file, in this order; a comment
-  `..` means lines that are left out.
+- Each excerpt of code, a fence whose first line names its file, stands in that file to the letter. A comment `..` in it
+  means that lines are left out.
 - No line of a page is wider than 150 columns.
 - Each file named in backquotes exists, also if it is named without its folder; each link leads to a page and a
   heading, and each function and clause that docs/claim/PROMISES.md names is in the code. It names each public law, with
@@ -260,7 +260,8 @@ class Pages(FilesCase):
         self.same("lessons of the studio", [one.number for one in lessons()], [*range(1, 9)])
 
     def test_excerpts(self):
-        """Excerpts leave lines out, so their lines are looked for one after another."""
+        """A part of an excerpt, up to a comment `..`, stands in the file as it is, and each part after the one before
+        it. README has one whole function."""
         for page in PAGES:
             found = re.findall(
                 r"(?m)^ *```(?:rust|antt)\n *(?://|--) (\S+)\n((?:.*\n)*?) *```$", text_in(page)
@@ -268,18 +269,23 @@ class Pages(FilesCase):
             fences = len(re.findall(r"(?m)^ *```(?:rust|antt)$", text_in(page)))
             self.same(f"{page}: fences that name their file", len(found), fences)
             for path, block in found:
-                excerpt = [
-                    line.strip()
-                    for line in block.splitlines()
-                    if line.strip() not in ("// ..", "-- ..")
-                ]
-                source = iter([line.strip() for line in lines_of(path)])
-                missing = [line for line in excerpt if line not in source]
-                self.same(
-                    f"{page} excerpt of {path}: lines that aren't there, or not in this order",
-                    missing,
-                    [],
+                source = "".join(f"{line.strip()}\n" for line in lines_of(path))
+                excerpt = "".join(f"{line.strip()}\n" for line in block.splitlines())
+                parts = re.split(r"^(?://|--) \.\.\n", excerpt, flags=re.M)
+                wanted = r"(?s:.*)".join(map(re.escape, parts))
+                self.note(
+                    f"{page} excerpt of {path}",
+                    re.search(f"^{wanted}", source, re.M),
+                    "it has lines that aren't there, or not in this order",
                 )
+        self.same(
+            "functions that README shows whole",
+            re.findall(
+                r"(?m)^pub fn (\w+)\(.*\n(?:    .*\n)+\{\n(?:    .*\n)+\}\n```$",
+                text_in("README.md"),
+            ),
+            ["bit_step"],
+        )
 
     def test_promises(self):
         """A promise is written as `named_clauses` reads it."""

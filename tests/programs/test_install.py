@@ -404,5 +404,5 @@ class Install(FolderCase):
         links = {link.partition("#")[0] for link in re.findall(r"\]\(([^#)][^)]*)\)", there)}
         lost = {link for link in links if not os.path.isfile(os.path.join(folder, link))}
         self.note("each page that it links is there", len(links) > 10 and not lost, lost)
-        alone = re.findall(r"\./\w+|\brt\b|wrong-bodies", there)
+        alone = re.findall(r"\./\w+|(?<!\.)\brt\b|wrong-bodies", there)
         self.same("what is of the repository alone", alone, [])
