@@ -130,8 +130,8 @@ class Starts(Contained):
         self.same("found", found, wanted)
 
     def test_a_copy_behind_a_link(self) -> None:
-        """A package of Debian puts this program into /usr/lib, and /lib is a link to that: it is empty by both paths. Of
-        the folders that each system has there, one is taken for the program."""
+        """A package of Debian puts this program into /usr/lib, and /lib is a link to that: it is empty by both paths.
+        Here the program is another folder that such a system has."""
         if not (os.path.islink("/lib") and os.path.isdir("/usr/lib/apt")):
             self.skipTest("a link /lib to a folder with apt isn't installed")
         with mock.patch.object(visible_files, "OWN_NAME", "apt"):
