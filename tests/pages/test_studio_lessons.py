@@ -313,7 +313,7 @@ class Table(Case):
                 found = table.lessons()
             shutil.rmtree(os.path.join(folder, "docs"))
         self.same("all lessons", [one.title for one in found], [one.title for one in LESSONS])
-        self.note("its text", "Transmitters that interfere" in found[0].text, found[0].text[:80])
+        self.note("its text", "transmitters that interfere" in found[0].text, found[0].text[:80])
         self.note("that of another one is missing", "isn't here" in found[1].text, found[1].text)
 
 

@@ -102,9 +102,8 @@ def is_copy(folder: str) -> bool:
 
 
 def copies_in(folders: Iterable[str]) -> list[str]:
-    """The installed copies of this program in folders that are shown. Behind a link of the system there is no other copy
-    than where it leads, and nothing can be laid over a path that goes through it before all is there.
-    """
+    """The installed copies of this program in folders that are shown. Behind a link of the system is the same copy as
+    where it leads, and nothing can be laid over a path through the link before that is there."""
     found = [os.path.join(folder, OWN_NAME) for folder in folders if not is_link_of_system(folder)]
     return [path for path in found if os.path.isdir(path)]
 
