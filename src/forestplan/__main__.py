@@ -34,7 +34,7 @@ READERS = {
         ),
         "explore": (
             "forestplan.schedules.explore",
-            "checks each state that any order of events reaches, of up to four nodes",
+            "checks each state that any order of events reaches, on a small network",
         ),
     },
     "To judge": {
