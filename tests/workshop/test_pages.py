@@ -54,7 +54,7 @@ class Pages(Case):
             (workshop, defaults.memory, r"([\d,]+)\s+megabytes of\s+memory"),
             (workshop, guard.PROCESSOR_SECONDS, r"([\d,]+) seconds of processor time"),
             (workshop, guard.Limits(1, 1, 16).written >> 20, r"may\s+have ([\d,]+) megabytes"),
-            (workshop, guard.OPEN_FILES, r"It may open ([\d,]+) files"),
+            (workshop, guard.OPEN_FILES, r"may have at most ([\d,]+) files open"),
             (talking, protocol.MOST_LETTERS, r"up to ([\d,]+)\s+letters"),
             (talking, processes.LAST_LINES, r"shows the last (\w+) lines"),
             (teaching, len(MISTAKES.MISTAKES), r"writes ([\d,]+)\s+wrong nodes"),
