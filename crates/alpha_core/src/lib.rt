@@ -1,15 +1,16 @@
-//! One node under synchroniser alpha (Awerbuch 1985): the wires of a link, and how a node reacts to them.
+//! The state machine of one node under synchroniser alpha (Awerbuch 1985): which wires the node sends, how it reacts to
+//! each wire that it takes, and when it makes a pulse.
 //!
 //! A node acknowledges each payload as it takes it, says that it is safe at a pulse once its own payloads
 //! of the pulse are acknowledged, and makes the next pulse once it and all its neighbours are safe.
 //!
-//! What a node keeps is `Node` of `specs/View.antt`: its program's state and a view, with a record for each
-//! port. How it reacts is `reaction` and `pulse` of `specs/Alpha.antt`, by the 36 cells of
-//! `specs/Table.antt`. What the synchronous run sends over a link is `stream` of `wires`, and `Legal` lists are
-//! those that begin it.
+//! `Node` of `specs/View.antt` is the state of a node: its program's state and a view, with a record for each port.
+//! `reaction` and `pulse` of `specs/Alpha.antt` are its steps, by the 36 cells of `specs/Table.antt`. `stream` of
+//! `wires` is what the synchronous run sends over a link, and `Legal` says which lists of wires may come on this link,
+//! up to any moment of a run.
 //!
-//! `alpha_laws` proves what such nodes keep of their links, `event_machine` plays a network of them event by event, and
-//! `wired_nodes` puts their wires on links.
+//! `alpha_laws` proves laws of all nodes of a network, `event_machine` plays a network of nodes event by event, and
+//! `wired_nodes` puts the wires of a node on links.
 //!
 //! ```text
 //! let mut node: AlphaNode<Colouring> = AlphaNode::start(alloc, &net, v)?;

@@ -1,7 +1,7 @@
-//! The tests of the crates below `node_runs`: what no contract says and the built programs can't show (`tests/` has
-//! what they can). A module tests one crate, and is named after it; its name ends in `_checks`, since a module may not
-//! have the name of a library. They are in one crate, since each crate of tests takes a minute of the gate before its
-//! first function; `worker_checks` is apart, since it waits for `plan_runs`.
+//! Tests of single crates, without `node_pool`, for what no contract says and the built programs can't show. `tests/`
+//! has the tests of what the built programs can show. Each module tests one crate and is named after it; its name ends
+//! in `_checks`, because a module may not have the name of a library. These tests are in one crate, because each crate
+//! of tests takes a minute of CI before its first function. `worker_checks` is apart, because it waits for `plan_runs`.
 #![tactic(auto)]
 
 #[cfg(test)]

@@ -1,9 +1,9 @@
-//! What the steps of the colouring share: the least number that passes a test, and proper
-//! colourings of a rooted forest. `cole_vishkin`, `shift_down` and `forest_merge` use it.
+//! Definitions that all steps of the colouring share: proper colourings of a rooted forest, the least number that
+//! passes a test, and sets of numbers as bits. `cole_vishkin`, `shift_down` and `forest_merge` use it.
 //!
-//! It has sets of numbers as bits in words of 64, too, as `forest_merge` keeps sets of colours, and `node_api` the
-//! marks of an inbox: whether a bit is set (`has_bit` of `specs/Words.antt`), and what setting one does
-//! (`proofs/Words.antt`).
+//! A set of numbers is stored as bits in words of 64 bits. `forest_merge` stores sets of colours in this way, and
+//! `node_api` the marks of an inbox. `has_bit` of `specs/Words.antt` says whether a bit is set, and `proofs/Words.antt`
+//! what setting a bit does.
 //!
 //! ```text
 //! words[place / 64] |= 1 << (place % 64);      // `has_bit-set`: adds `place`, and no other

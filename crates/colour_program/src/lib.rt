@@ -1,9 +1,9 @@
-//! The colouring of a network as a program of nodes: the rounds of `colour_rules`, behind
-//! the trait of `node_api`. `plan_answers` and `plan_runs` print its last colours as channels.
+//! The colouring as a program of nodes: `Colouring` implements the trait of `node_api` by the rounds of `colour_rules`,
+//! and has the texts of these rounds. `plan_answers` and `plan_runs` print the last colours of its nodes as channels.
 //!
-//! Any engine of node programs runs it, as `run_rounds` of `sync_rounds` does. That its nodes end with
-//! the colours of the network, which differ on every edge, are 0 to the span, and none barred at its node, is
-//! proved in `laws`. The rule of a refusal is one of `rules`.
+//! Every engine for programs of nodes can run it, for example `run_rounds` of `sync_rounds`. `laws` of `colour_laws`
+//! proves that its nodes end with the colours of the network: they differ on every edge, each is 0 to the span, and
+//! none is barred at its node. A refusal names one of the `rules` of `colour_rules`.
 //!
 //! ```text
 //! for node in &run_rounds::<Colouring>(alloc, &net)? {

@@ -1,10 +1,10 @@
-//! The rounds of the colouring at one node: what may come to it at each pulse, what it refuses, and
-//! what it makes of the rest.
+//! One node of the colouring, pulse by pulse: which messages may come, which message the node refuses, and how it
+//! computes its next colours and messages.
 //!
-//! The rounds are defined in `specs`: `Table` says which payload is due in which phase from which port,
-//! `Refusals` which broken rule is reported, `Choice` and `Program` what a node does, and `next` of
-//! `Program` is a whole pulse. `colour_laws` proves what they make of a network. The code here is one
-//! node, which `colour_program` runs as a program of nodes:
+//! The rounds are defined in `specs`: `Table` says which payload is due in which phase from which port, `Refusals` says
+//! which broken rule is reported, `Choice` and `Program` say what a node does, and `next` of `Program` is a whole
+//! pulse. `colour_laws` proves what these rounds do on a whole network. The code here is one node, from which
+//! `colour_program` makes a program of nodes:
 //!
 //! ```text
 //! let mut node = ColourNode::make(alloc, &net, v)?;
@@ -12,14 +12,14 @@
 //! let idle = node.pulse(pulse, &mut inbox, &mut out)?; // each later pulse
 //! ```
 //!
-//! A pulse that is not refused returns the pulses after it in which the node does nothing if nothing
-//! comes, so that a caller may leave them out.
+//! A pulse that is not refused returns a range of later pulses in which the node does nothing if nothing comes, so that
+//! a caller may leave these pulses out.
 //!
-//! The forests are those of A. Panconesi and R. Rizzi, Some simple distributed algorithms for sparse
-//! networks, 2001. Merging them is this project's own.
+//! The forests are from A. Panconesi and R. Rizzi, Some simple distributed algorithms for sparse networks, 2001.
+//! Merging them is this project's own.
 //!
-//! Limits: degree 1,023, and so 1,023 forests; 1,024 barred channels a node, and so colours 0 to 2,047. Only `make`
-//! is given an allocator.
+//! Limits: degree 1,023, and so 1,023 forests; 1,024 barred channels of a node, and so colours 0 to 2,047. Only `make`
+//! gets an allocator.
 #![tactic(auto)]
 
 mod colours;

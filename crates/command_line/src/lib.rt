@@ -1,7 +1,8 @@
-//! The command lines of `forestplan` and `forestplay`: which words ask for what, and what `clap` says of the others.
+//! The parser for the command lines of `forestplan` and `forestplay`, which turns words into a command with options, a
+//! help text or a refusal.
 //!
 //! `plan_commands` calls `parse` with the words that `forestplan` was started with, its own name first, and
-//! `play_commands` calls `parse_play` with those of `forestplay`. No type of `clap` crosses this boundary.
+//! `play_commands` calls `parse_play` with the words of `forestplay`. No type of `clap` crosses this boundary.
 //!
 //! ```
 //! match parse(alloc, &["forestplan", "plain"]) {
@@ -18,8 +19,8 @@
 //!
 //! The commands are listed in `specs/Line.antt` in clap's own words, the options of a run of workers in
 //! `specs/RunOptions.antt`, the programs of nodes in `specs/NodePrograms.antt`, and both calls are exact against them.
-//! What clap's texts say, help among them, is only tested.
-//! There is no `--version` and no command `help`. Limits: those of `run_options`.
+//! The texts of `clap`, such as help, are only tested. There is no `--version` and no command `help`. Limits: those of
+//! `run_options`.
 #![tactic(auto)]
 
 mod command_options;

@@ -1,12 +1,15 @@
-//! The rule of a worker's deque of tasks, and a pass at such a deque.
+//! One worker's deque of tasks, from which other workers may steal, and the rule that no task of a deque is lost or
+//! doubled.
 //!
-//! What was pushed to a deque is what was taken from it and what it holds, whatever threads do (`specs/Ledgers.antt`):
-//! so no task is lost and none is there twice. The tasks are known by their numbers.
+//! Whatever the threads do, the tasks pushed to a deque are the tasks taken from it and the tasks that it still holds
+//! (`specs/Ledgers.antt`). The tasks are known by their numbers. A *pass* is what a worker needs for stealing from a
+//! deque; contracts see in a pass which tasks were pushed and taken by it.
 //!
-//! `task` is what lies in a deque, `ledger` the rule and what each of its steps says, `own` what a worker gives to its
-//! own deque, `steal_pass` a pass at another worker's deque, by which it steals. `pool` has the deques of all workers.
+//! The module `task` has the tasks, `ledger` has the rule and each step of a deque, `own` has the push of a worker to
+//! its own deque, and `steal_pass` has the pass by which a worker steals from another worker's deque. `pool` has the
+//! deques of all workers.
 //!
-//! Limits: `MAX_WORKERS` of `run_options`, for each of which a deque has a pass.
+//! Limits: `MAX_WORKERS` of `run_options`, because a deque has a pass for each worker.
 #![tactic(auto)]
 
 mod ledger;

@@ -1,5 +1,6 @@
-//! The reader of the DIMACS colouring format: a text is one graph, or has a first fault. A graph is its number of
-//! vertices, the identifiers that lines give them, its set of edges and the channels that lines bar at its vertices.
+//! The reader of network texts in the DIMACS colouring format: it returns the graph that a text describes, or the first
+//! fault of the text. A graph is its number of vertices, the identifiers that lines give them, its set of edges and the
+//! channels that lines bar at its vertices.
 //!
 //! `plan_answers` reads each network by `read`. `channel_plan`, `transcripts` and `event_texts` read the texts that
 //! follow a network by its lines, fields and numbers; `text_start` says where such a text begins.

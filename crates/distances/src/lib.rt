@@ -1,7 +1,9 @@
-//! Distances in a network: which vertices are reached from a vertex, and over how many links.
+//! Definitions and laws of components and distances in a network: which vertices a vertex reaches, and over how many
+//! links.
 //!
-//! It is a crate of laws. The programs `leader` and `layers` rest on it: they end at pulse n and n - 1, n being the
-//! number of nodes, and over n - 1 links a node hears from every vertex that is reached from it.
+//! The crate has no code to run. The proofs of the programs `leader` and `layers` need it: these programs end at the
+//! pulses n and n - 1, where n is the number of nodes, and over n - 1 links a node hears from every vertex that it
+//! reaches.
 //!
 //! ```text
 //! reached_vertices_have_distances();      // brings the law into the caller's proof, and costs nothing

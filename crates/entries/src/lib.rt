@@ -1,9 +1,10 @@
-//! What a node writes down of each of its events, so that its run can be read and replayed.
+//! The record that a node writes of each of its events (a pulse, a put or a take), called an entry, and the list in
+//! which a node stores its entries. By its entries a run can be read and replayed.
 //!
-//! `wired_nodes` writes a node's own entries into a `Recorder`, each with its stamp (`Counter` of `alpha_core`): it
-//! has an `Entries`, or nothing. An `Entries` takes 20 bytes an entry and the bytes of a payload where there is one.
-//! The 20 bytes lie in blocks that are never moved. `net_core` plays lists of entries, and `transcripts` writes them
-//! as text and reads them: `Row` and `StampedRow` are entries of such lists.
+//! `wired_nodes` writes a node's own entries into a `Recorder`, each with its stamp (`Counter` of `alpha_core`): a
+//! `Recorder` has an `Entries`, or nothing. An `Entries` takes 20 bytes for each entry, and the bytes of a payload if
+//! there is one. The 20 bytes lie in blocks that are never moved. `net_core` plays lists of entries, and `transcripts`
+//! writes them as text and reads them: `Row` and `StampedRow` are entries of such lists.
 //!
 //! ```text
 //! let mut entries = Entries::new(alloc);

@@ -1,10 +1,11 @@
-//! Networks of nodes under synchroniser alpha (Awerbuch 1985), played event by event.
+//! A machine that holds the state of a network under synchroniser alpha (Awerbuch 1985), and makes one event at a time
+//! if the event is possible.
 //!
-//! `step` makes an event, or says why it isn't one that can happen. Whatever events were made, the state that they
-//! reach simulates the synchronous run of the program: that is a clause of `start` and `step`, and a law of `laws`.
-//! `net_core` has `run`, which makes a list of events.
+//! `step` makes an event, or says why it isn't one that can happen. After any events the state simulates the
+//! synchronous run of the program: that is a clause of `start` and `step`, and a law of `laws`. `net_core` has `run`,
+//! which makes a list of events.
 //!
-//! `event_rule` has what events, states and runs are, as functions and as relations.
+//! `event_rule` defines events, states and runs, as functions and as relations.
 //!
 //! ```text
 //! let mut state = NetState::<Colouring>::start(alloc, &network)?;

@@ -1,9 +1,9 @@
-//! Events as text: read behind a network text, played, and the state that they lead to as text.
+//! Lists of events as text: a reader of the events that follow a network text in the same input, and the text of the
+//! state to which the events lead.
 //!
-//! A text of events has a line for each: `pulse V`, `put V PORT` or `take V PORT`. `events_bytes` of
-//! `play_answers` cuts its input by `network_text`, and calls `read_events`, `play` and
-//! `text_of_state`, which are for any program. An event that isn't possible is refused with words for what it lacks
-//! (`specs/Missing.antt`).
+//! A text of events has a line for each: `pulse V`, `put V PORT` or `take V PORT`. `events_bytes` of `play_answers`
+//! cuts its input by `network_text`, and calls `read_events`, `play` and `text_of_state`, which work for any program.
+//! The refusal of an event that isn't possible says what is missing (`specs/Missing.antt`).
 //!
 //! ```
 //! let input = b"p edge 2 1\ne 1 2\nput 1 0\n";

@@ -1,12 +1,13 @@
-//! First one program of nodes, and then a sequel, which goes on where the first has ended. Up to a pulse the nodes run
-//! the first program, and then each keeps its state of it, and goes on with what it has beside it (`Sequel`). What they
-//! send is a payload of the first program or of the sequel (`Said`), each with its own words.
+//! One program of nodes made of two: the nodes run a first program up to a certain pulse, and then a sequel, which
+//! starts from the states that the first program has reached. In the sequel a node keeps its last state of the first
+//! program, and has a second state beside it (`Sequel`). A message is a payload of the first program or of the sequel
+//! (`Said`), each with its own words.
 //!
 //! ```text
 //! type Matching = Followed<Colouring, Turns>; // a program of nodes
 //! ```
 //!
-//! A sequel of a sequel is one of `Followed<P, R>`.
+//! The result can have a sequel, too: that is a sequel of `Followed<P, R>`.
 //!
 //! Limits: those of `node_api`.
 #![tactic(auto)]

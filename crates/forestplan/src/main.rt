@@ -1,13 +1,13 @@
-//! The program `forestplan`: a channel plan for an interference graph, and what shows how nodes find it. It reads
-//! standard input, and writes a plan, the transcript of a run that finds it, the forests, or the check of a plan to
-//! standard output.
+//! The executable `forestplan`, which computes and checks channel plans: `main` hands the words and the standard
+//! streams to `serving`. It reads an interference graph from standard input, and writes a plan, the transcript of a run
+//! that finds a plan, the forests, or the check of a plan to standard output.
 //!
 //! ```sh
 //! printf 'p edge 3 3\ne 1 2\ne 1 3\ne 2 3\n' | forestplan plain
 //! ```
 //!
-//! It hands the words and the streams that the system gives to `serving`, whose contract says what is written
-//! and which status comes, for all words and every input. The type of `main` says that it ends with this status.
+//! The contract of `serving` says what is written and which status is returned, for all words and every input. The type
+//! of `main` says that the program ends with this status.
 #![tactic(auto)]
 
 use plan_commands::ForestplanCommands;

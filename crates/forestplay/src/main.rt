@@ -1,12 +1,13 @@
-//! The program `forestplay`, for lessons: what nodes of many programs do, by hand, in rounds or on threads. It reads
-//! standard input, and writes to standard output.
+//! The executable `forestplay`, which shows in lessons what the nodes of many programs do: `main` hands the words and
+//! the standard streams to `serving`. The nodes run by hand, in rounds or on threads. The program reads standard input,
+//! and writes to standard output.
 //!
 //! ```sh
 //! printf 'p edge 2 1\ne 1 2\nput 1 0\ntake 2 0\nput 2 0\n' | forestplay events
 //! ```
 //!
-//! It hands the words and the streams that the system gives to `serving`, whose contract says what is written
-//! and which status comes, for all words and every input. The type of `main` says that it ends with this status.
+//! The contract of `serving` says what is written and which status is returned, for all words and every input. The type
+//! of `main` says that the program ends with this status.
 #![tactic(auto)]
 
 use play_commands::ForestplayCommands;

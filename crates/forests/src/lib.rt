@@ -1,9 +1,11 @@
-//! The forests of a network (Panconesi and Rizzi, 2001).
+//! The decomposition of a network's edges into rooted forests (Panconesi and Rizzi, 2001), with
+//! laws of the forests of every network.
 //!
-//! Each edge leads from its end of lower identifier, the child, to its end of higher identifier, the
-//! parent. A vertex numbers its edges up from 0, by ascending identifier of the parent, and forest f
-//! has the edges numbered f: so each vertex has one parent at most in it, and no cycle can close.
-//! Forests count from 0 to one less than U, the greatest number of higher neighbours of any vertex.
+//! Each edge leads from its end of lower identifier, the child, to its end of higher identifier,
+//! the parent. A vertex numbers its edges up from 0, by ascending identifier of the parent, and
+//! forest f has the edges numbered f: so each vertex has at most one parent in forest f, and forest
+//! f has no cycle. Forests count from 0 to one less than U, the greatest number of higher
+//! neighbours of any vertex.
 //!
 //! `colour_rules` numbers the ports of one node by `number_up`, and colours its forests all at once;
 //! `plan_answers` prints what `decompose` gives of the whole network. A contract says

@@ -1,4 +1,5 @@
-//! The limits of a graph, and pairs of its vertices: what the reader of a text and the network share.
+//! Constants for the limits of a graph, such as the greatest number of vertices, and the pair of vertices that stands
+//! for an edge. The reader of network texts and the network itself share them.
 //!
 //! `dimacs_col` reads texts within these limits, `interference` makes networks within them, and crates above cite them.
 //!

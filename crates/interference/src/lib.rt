@@ -1,10 +1,10 @@
-//! The interference network: vertices with unique identifiers, the neighbours of each by port, and the
-//! colours that are barred at it.
+//! The interference network as a data type: each vertex has a unique identifier, numbered ports to its neighbours, and
+//! barred colours.
 //!
-//! Vertices count from 1 and ports from 0; the ports of a vertex ascend by the neighbour's number.
-//! `forests`, `node_api` and `channel_plan` use it. Contracts see a network as the record
-//! `Net` of `specs/Net.antt`: the list of identifiers, and for each vertex the list of its
-//! neighbours and that of its barred colours. A colour counts from 0: it is the channel less one.
+//! Vertices count from 1 and ports from 0; the ports of a vertex ascend by the neighbour's number. `forests`,
+//! `node_api` and `channel_plan` use it. Contracts see a network as the record `Net` of `specs/Net.antt`: the list of
+//! identifiers, and for each vertex the list of its neighbours and the list of its barred colours. Colours count from
+//! 0: a colour is the channel less one.
 //!
 //! ```
 //! let net = Network::new(alloc, 3, &[7, 9, 8], &[(1, 2), (1, 3), (2, 3)], &[(3, 1)])?;

@@ -1,11 +1,11 @@
-//! Leader election by flooding: every node ends with the greatest identifier of its component.
+//! A program that elects a leader by flooding: every node ends with the greatest identifier of its component.
 //!
 //! At pulse 0 a node sends its identifier to all neighbours, and later the greatest identifier that it knows, at the
 //! pulses at which it heard a greater one. The last pulse is n, the number of nodes, and nothing is sent at it: every
 //! vertex of a component is reached within fewer links. This is `OptFloodMax` of N. A. Lynch, Distributed Algorithms,
-//! 1996, section 4.1, with n in place of the diameter.
+//! 1996, section 4.1, with n instead of the diameter.
 //!
-//! That the nodes end with the greatest identifier is proved in `laws`. The rule of a refusal is one of `rules`.
+//! `laws` proves that the nodes end with the greatest identifier. A refusal names one of the `rules`.
 //!
 //! ```text
 //! for node in &run_rounds::<Leader>(alloc, &net)? {

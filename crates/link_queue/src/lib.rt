@@ -1,4 +1,5 @@
-//! A bounded, lock-free link between two nodes, and its two ends.
+//! One direction of a link as a bounded, lock-free queue between two threads, with one end that puts wires and one end
+//! that takes them.
 //!
 //! ```text
 //! let (link, mut put_end, mut take_end) = Link::<Colouring>::new(alloc, &network, 1, 0, 4)?;
@@ -8,11 +9,12 @@
 //! ```
 //!
 //! A `Link` lives outside the scope of the threads, which share it; its ends move with the nodes. Contracts see the
-//! list that an end put or took. What is put has to begin a legal list of the link in the synchronous run of the
-//! program `P`; so what is taken does too, and when the ends meet, what was put is what was taken and then what is
-//! held. This rests on the promise of `crossbeam_queue`'s ruled array queue, and holds if no queue is pushed more than
-//! 2^62 times: a link is pushed at most 3·R + 1 times, R being the last pulse (`legal_lists_are_short` of
-//! `alpha_laws`). `put`, `take` and `meet` may spin, and are not promised to return.
+//! list of wires that an end put or took. The wires that are put have to be a prefix of a legal list of the link in the
+//! synchronous run of the program `P`. So the wires that are taken are a prefix of one, too. When the ends meet, the
+//! list of wires put is the list of wires taken, followed by the wires that the link still holds. This rests on the
+//! promise of `crossbeam_queue`'s ruled array queue, and holds if no queue is pushed more than 2^62 times: a link is
+//! pushed at most 3·R + 1 times, R being the last pulse (`legal_lists_are_short` of `alpha_laws`). `put`, `take` and
+//! `meet` may spin, and are not promised to return.
 #![tactic(auto)]
 
 mod ends;

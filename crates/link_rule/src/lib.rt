@@ -1,4 +1,5 @@
-//! The order of the wires of one direction of a link, and what its legal lists keep.
+//! The order of wires in one direction of a link: its definition, a check that a list has this order, and laws such as
+//! that a prefix of a legal list is legal.
 //!
 //! ```text
 //! let mut check = StreamCheck::new(last);
@@ -6,12 +7,13 @@
 //! check.feed(&Stamped { stamp: 1, wire: first }) && check.feed(&Stamped { stamp: 2, wire: second })
 //! ```
 //!
-//! A node's link sends a fixed list of wires in the synchronous run of its program: the stream. A list is legal
-//! if its payloads, safes and close begin that stream and its acknowledgements begin those that are due.
-//! `StreamCheck` looks at the order of wires and at their stamps, as they come one by one, and not at what they carry;
-//! no program uses it. `alpha_laws` says that every legal list passes it, and what a legal list with a close is.
-//! `link_queue` uses the names and the legality of this crate (`specs/Legal.antt`), which wait for no node: so it is
-//! proved beside `alpha_core`.
+//! Apart from acknowledgements, the synchronous run of a program fixes the wires that a node sends over a link: this
+//! list is the *stream*. A list is legal if its payloads, safes and close are a prefix of the stream, and its
+//! acknowledgements are a prefix of the acknowledgements that are due. `StreamCheck` checks the order of wires and
+//! their stamps, one wire after the other, and ignores what they carry; no program uses it. `alpha_laws` says that
+//! every legal list passes it, and what a legal list with a close is. `link_queue` uses the names of links and the
+//! legal lists of this crate (`specs/Legal.antt`). Neither needs a node, so `link_queue` is proved in parallel with
+//! `alpha_core`.
 #![tactic(auto)]
 
 mod check;

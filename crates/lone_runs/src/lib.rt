@@ -1,14 +1,16 @@
-//! All nodes of a network on one thread, without a clock: events of single nodes, in a fair order, until none is left.
+//! An engine that runs all nodes of a network without a clock on one thread, in a fair order, until no event is
+//! possible; and laws of every fair order.
 //!
-//! The nodes are those of a run of worker threads, and each knows its neighbours' wires alone. `run_alone` returns in
-//! every case, and its nodes are then those of the one end of `event_rule`. Its order is one of many: `laws` has
-//! that every order in which each node's turn comes again and again ends there. `play_runs` calls it.
+//! The nodes are the same as in a run of worker threads: all that a node knows of its neighbours is their wires.
+//! `run_alone` always returns, and each node is then in the last state that `one_end` of `event_rule` gives it.
+//! `run_alone` uses one of many orders: by `laws` every order in which each node's turn comes again and again ends in
+//! the same states. `play_runs` calls it.
 //!
 //! ```text
 //! let state = run_alone::<Colouring>(alloc, &network)?;
 //! ```
 //!
-//! Limits: those of `interference`; it keeps all wires that were put.
+//! Limits: those of `interference`; all wires that were put stay in memory.
 #![tactic(auto)]
 
 mod alone;

@@ -1,15 +1,16 @@
-//! Lists, played by the machine of `event_machine`: of events, and of entries, which nodes wrote down of their events.
+//! Functions that play a whole list on the machine of `event_machine`: `run` plays a list of events, and `replay` a
+//! list of the entries that nodes wrote.
 //!
-//! `run` accepts a list of events, or says at which event, and why, it isn't one that can happen.
+//! `run` accepts a list of events, or names the first event that isn't possible, and says why.
 //!
-//! `replay` takes entries, each with the vertex of its node, in the order of the events. It accepts exactly what the
-//! events of some list write down, and else names the first entry that can't be one, and why. So nothing is taken on
-//! trust: each pulse and each wire of an entry is compared with that of its event. `replay_whole` takes stamped entries
-//! of a whole run, and returns the state with its stamps (`StampedState`). `play_answers` calls both for the entries
-//! of a transcript.
+//! `replay` takes entries, each with the vertex of its node, in the order of the events. It accepts exactly the lists
+//! of entries that some list of events writes. Otherwise it names the first entry that no event can write here, and
+//! says why. Nothing is taken on trust: each pulse and each wire of an entry is compared with the pulse or wire of its
+//! event. `replay_whole` takes stamped entries of a whole run, and returns the state with its stamps (`StampedState`).
+//! `play_answers` calls both for the entries of a transcript.
 //!
-//! `specs/Runs.antt` has what `run` returns, `specs/Replays.antt` and `specs/Whole.antt` where entries stop. What an
-//! event writes down, and what a replay is, is in `event_rule`.
+//! `specs/Runs.antt` says what `run` returns, and `specs/Replays.antt` and `specs/Whole.antt` say at which entry a
+//! replay stops. `event_rule` defines the entry that an event writes, and a replay.
 //!
 //! ```text
 //! let entries = [

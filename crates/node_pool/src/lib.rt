@@ -1,7 +1,8 @@
-//! Asynchronous nodes of a network on worker threads: `run_workers` makes links and nodes, runs them, and gathers them.
+//! The function `run_workers`, a whole run on worker threads from a network and options to an outcome, made of the
+//! parts in `node_runs` and `outcomes`.
 //!
-//! Whatever the threads did, what it returns is `IsOutcome` of `outcomes`: each node once, at a state of the
-//! synchronous run, with each link's lists. `plan_runs` makes channel plans of it.
+//! Whatever the threads did, `IsOutcome` of `outcomes` holds of the result: it has each node once, in a state of the
+//! synchronous run, with the lists of each link. `plan_runs` makes channel plans from outcomes.
 //!
 //! ```text
 //! let options = Options { workers: 4, capacity: 4, turns: 1_000_000, transcript: false };
@@ -9,10 +10,11 @@
 //! if outcome.is_whole() { .. outcome.actors() .. }
 //! ```
 //!
-//! `run` lets `node_runs` make the links and run the nodes, and `outcomes` gather what they leave.
+//! `run_workers` lets `node_runs` make the links and run the nodes, and then lets `outcomes` gather the nodes and
+//! links.
 //!
 //! Limits: `MAX_WORKERS` and `MAX_CAPACITY`. Without a transcript no turn can return out-of-memory. Nothing is promised
-//! of time, of fairness, that an outcome is whole, or that the call returns.
+//! about time, about fairness, that an outcome is whole, or that the call returns.
 #![tactic(auto)]
 
 mod run;

@@ -1,5 +1,6 @@
-//! Numbers as decimal text, appended to bytes. `channel_plan` and `plan_answers` write their texts of many rows with
-//! `push_row`, and `program_texts`, `transcripts` and the programs of nodes a number after words with `push_numbered`.
+//! Functions that append decimal numbers to a text: a row of numbers, or one number after words. `channel_plan` and
+//! `plan_answers` write their texts of many rows with `push_row`, and `program_texts`, `transcripts` and the programs
+//! of nodes a number after words with `push_numbered`.
 //!
 //! ```
 //! push_row(&mut text, &[0, 1, 2])?;          // appends "0 1 2" and a line feed

@@ -1,9 +1,10 @@
-//! What `forestplan` answers without worker threads, from the bytes of a DIMACS text to the bytes of an answer. It has
-//! the commands that start no thread, and the report of each fault of `forestplan`.
+//! The commands `forests`, `plain` and `check` of `forestplan`, which start no thread, as functions from input bytes to
+//! answer bytes, and the faults of `forestplan` with their reports. The input is a DIMACS text, which a plan follows
+//! for `check`.
 //!
 //! `plan_runs` has the commands that run worker threads. `plan_commands` calls `forest_bytes`, `plain_bytes` or
 //! `check_bytes` for a command, and `fault_report` if one fails. The faults of `forestplay` are in `play_inputs`, which
-//! calls `report_of_reading`, `report_of_network` and `report_of_pool` for those that both programs have.
+//! calls `report_of_reading`, `report_of_network` and `report_of_pool` for the faults that both programs have.
 //!
 //! ```
 //! let text = b"p edge 3 3\ne 1 2\ne 1 3\ne 2 3\n";

@@ -1,7 +1,8 @@
-//! What `forestplan` answers: each command's answer to the bytes of an input.
+//! The table of `forestplan`'s commands, which calls the function of `plan_answers` or `plan_runs` that answers a
+//! request.
 //!
-//! `forestplan` calls `serve_words` of `serving` with `ForestplanCommands`. The example at the head of `serving` has
-//! them as well, over an input and outputs of the caller's.
+//! `forestplan` calls `serve_words` of `serving` with `ForestplanCommands`. An example with an input and outputs of the
+//! caller is at the head of `serving`.
 //!
 //! Limits: those of `plan_answers` and `plan_runs`.
 #![tactic(auto)]

@@ -1,16 +1,18 @@
-//! What `forestplan` answers by runs of worker threads, from the bytes of a DIMACS text to the bytes of an answer. It
-//! also has that nodes of the colouring which have all halted have the colours of the network.
+//! The commands `plan` and `transcript` of `forestplan`, which run worker threads, as functions from input bytes to
+//! answer bytes, and laws that nodes of the colouring have the network's colours once all nodes have halted. The input
+//! is a DIMACS text.
 //!
-//! It names no stream, no command line and no system, so that a test or another program calls the same functions. The
-//! functions of all other commands are in `plan_answers`, which needs no thread.
+//! The crate names no stream, no command line and no system, so that a test or another program can call the same
+//! functions. The functions of all other commands are in `plan_answers`, which needs no thread.
 //!
-//! `plan_commands` calls `plan_bytes` or `transcript_bytes` for a command. For any program of nodes, `play_runs`
-//! calls `whole_run` and `run_transcript`, of which it makes what `forestplay run` prints.
+//! `plan_commands` calls `plan_bytes` or `transcript_bytes` for a command. For any program of nodes, `play_runs` calls
+//! `whole_run` and `run_transcript`, and makes from their results what `forestplay run` prints.
 //!
 //! `coloured_runs` has what the simulation says of two programs, the colouring and `Greatest`: every list of events
-//! simulates their synchronous run, and halted nodes are coloured, whatever ran them. So `plan_bytes` is `plain_bytes`
-//! (`laws`). That nodes halt is promised nowhere: every list of events can be continued until they have, but whoever
-//! picks the events needn't pick these.
+//! simulates their synchronous run, and if all nodes of the colouring have halted, each has its colour, however the
+//! nodes were run. So `plan_bytes` and `plain_bytes` return the same bytes if both return `Ok` (`laws`). No law
+//! promises that nodes halt: every list of events can be continued until all nodes have halted, but a scheduler needn't
+//! choose these events.
 //!
 //! ```
 //! let text = b"p edge 3 3\ne 1 2\ne 1 3\ne 2 3\n";

@@ -1,8 +1,8 @@
-//! What `forestplay` answers to a list of events or of entries that its user wrote, for any program of nodes. It has
-//! the answers of events and of a replay, from bytes to bytes, for any program that has a `ProgramText`.
+//! The commands `events` and `replay` of `forestplay`, which play a list of events or entries from the input, as
+//! functions from input bytes to answer bytes. They work for any program of nodes that has a `ProgramText`.
 //!
-//! `play_commands` calls `events_bytes` or `replay_bytes`. Their faults are those of `play_inputs`, which reports
-//! them. A first call of `forestplan` doesn't prove this crate, nor `event_texts` below it.
+//! `play_commands` calls `events_bytes` or `replay_bytes`. Their faults and reports are in `play_inputs`. A first call
+//! of `forestplan` doesn't prove this crate, nor `event_texts` below it.
 //!
 //! ```
 //! let text = b"p edge 2 1\ne 1 2\nput 1 0\n";

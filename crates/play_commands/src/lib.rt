@@ -1,4 +1,5 @@
-//! What `forestplay` answers: what nodes of any program that has a name do with the bytes of an input.
+//! The table of `forestplay`'s commands, which calls the function of `play_answers` or `play_runs` that answers a
+//! request, for the program of nodes that the request names.
 //!
 //! `forestplay` calls `serve_words` of `serving` with `ForestplayCommands`.
 //!
@@ -11,7 +12,7 @@
 //! // status 0, output "node 1 pulse 2 leader 2", "node 2 pulse 2 leader 2 elected", a line each
 //! ```
 //!
-//! Limits: those of `plan_answers`, and 256 passes of the recolouring, of which `command_line` takes 64.
+//! Limits: those of `plan_answers`, and 256 passes of the recolouring, of which `command_line` allows 64.
 #![tactic(auto)]
 
 mod answer;

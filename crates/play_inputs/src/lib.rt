@@ -1,9 +1,10 @@
-//! What the commands of `forestplay` set about a network before nodes see it, and why an input has no answer.
+//! The networks and the faults of `forestplay`: how a command makes a network from a text and a setting, such as a
+//! chosen root, and how a fault is reported.
 //!
-//! `network_of_text` reads the network that a DIMACS text describes, as a `Setting` says: with a vertex of one's choice
-//! as the root, or with more passes of a program that repeats itself. `play_answers` and `play_runs` call it, and
-//! have the answers. A `PlayFault` says why an input has none; `play_commands` calls `fault_report` for its line and
-//! status. The faults of the other program are in `plan_answers`, with the tables of those that both programs report.
+//! `network_of_text` reads the network that a DIMACS text describes, as a `Setting` says: with a chosen vertex as the
+//! root, or with more passes of a program that repeats itself. `play_answers` and `play_runs` call it, and compute the
+//! answers. A `PlayFault` says why an input has no answer; `play_commands` calls `fault_report` for its line and
+//! status. The faults of `forestplan` are in `plan_answers`, with the tables of the faults that both programs report.
 //!
 //! ```
 //! let text = b"p edge 2 1\ne 1 2\n";

@@ -1,7 +1,8 @@
-//! What `forestplay` answers by runs of nodes of any program: on worker threads, alone, or in rounds. It has the
-//! commands `run`, `alone`, `ends` and `rounds`, from the bytes of a DIMACS text to the bytes of an answer: what the
-//! nodes come to that worker threads run, or one thread without a common clock or in rounds, and what they send in
-//! rounds, pulse by pulse. It names no stream, no command line and no system. `play_commands` calls it.
+//! The commands `run`, `alone`, `ends` and `rounds` of `forestplay`, which run the nodes of any program, as functions
+//! from input bytes to answer bytes. The input is a DIMACS text. `run`, `alone` and `ends` give the last states of the
+//! nodes: `run` on worker threads, `alone` on one thread without a common clock, and `ends` in rounds. `rounds` gives
+//! what the nodes send, pulse by pulse. The crate names no stream, no command line and no system. `play_commands` calls
+//! it.
 //!
 //! ```
 //! let text = b"p edge 2 1\ne 1 2\n";

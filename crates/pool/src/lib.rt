@@ -1,23 +1,24 @@
-//! A pool: worker threads, each with a deque of tasks, which together make turns of all tasks of a run.
+//! A pool of worker threads, which make turns of any tasks, steal tasks from one another, and hand back each task
+//! exactly once at the end of a run.
 //!
-//! In a look a worker takes the first task of its own deque, or else steals one of another's, makes one turn of the
-//! task and puts it on its own deque, or, if nothing is left for the task to do, keeps it. Whatever the threads do, no
-//! task is lost and none is there twice, and `run_tasks` returns each task once: what was pushed to a deque is what was
-//! taken from it and what it holds (the rule of `deque_rule`), and the sum over all deques has each task once. What a
-//! turn leaves is a fact of the task's type, of which nothing is known here but its number; `node_runs` runs the nodes
-//! of `wired_nodes`.
+//! In a look a worker takes the first task of its own deque, or else steals a task from another worker's deque, makes
+//! one turn of the task and puts it on its own deque, or keeps it if nothing is left for the task to do. Whatever the
+//! threads do, no task is lost or doubled, and `run_tasks` returns each task once. This follows from the rule of
+//! `deque_rule` for each deque, and from a sum over all deques, which has each task once. What a turn leaves is a fact
+//! of the task's type. The pool only knows the number of a task; `node_runs` runs the nodes of `wired_nodes` as tasks.
 //!
-//! In reading order: `worker_state` is what a worker has, `looks` what it does, `signals` what workers see of one
-//! another. `deques` makes and fills the deques, `worker_states` makes what workers begin with, `threads` starts and
-//! joins the workers. `gathering` empties what is handed back, `order` and `place` put the tasks in order; `promise` is
-//! for threads that hand states back. `run` is all of a run, and `faults` which faults it has.
+//! In reading order: `worker_state` has what belongs to a worker, `looks` what a worker does, and `signals` what
+//! workers see of one another. `deques` makes and fills the deques, `worker_states` makes what workers begin with,
+//! `threads` starts and joins the workers. `gathering` collects the tasks that the workers hand back, and `order` and
+//! `place` put them in order; `promise` is for threads that hand states back. `run` has the whole run, and `faults`
+//! says which faults a run can have.
 //!
 //! ```text
 //! let tasks = run_tasks(&rt, alloc, |task, worker| .., tasks, options)?;   // ascending
 //! ```
 //!
-//! Limits: `MAX_WORKERS` of `run_options`. Nothing is promised of time, of fairness, of which worker has a task, or
-//! that a call returns.
+//! Limits: `MAX_WORKERS` of `run_options`. Nothing is promised about time, about fairness, about which worker has a
+//! task, or that a call returns.
 #![tactic(auto)]
 
 mod deques;

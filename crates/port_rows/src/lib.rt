@@ -1,7 +1,8 @@
-//! Rows of things by vertex and port: a row for each vertex, with a thing for each port.
+//! Tables with one value for each vertex and port, and a function that moves each value to the other end of its link. A
+//! table has a row for each vertex, and a row has a value for each port.
 //!
-//! `crossed` brings each thing to the other end of its link, and `pairs` puts two rows side by side. Nothing is known
-//! of the things; `outcomes` has the ends of links in such rows, and `node_runs` makes them so.
+//! `crossed` moves each value to the other end of its link, and `pairs` makes one row of pairs from two rows. The
+//! values may have any type. `outcomes` has the ends of links in such rows, and `node_runs` makes these rows.
 //!
 //! ```text
 //! let takes = crossed(alloc, &network, takes)?;

@@ -1,10 +1,11 @@
-//! What the texts of a run need of a program of nodes: its name, the words of its pulses and the result of a node.
+//! The traits for the texts of a program of nodes (the program's name, the words of a pulse, the result of a node), and
+//! the text of a wire.
 //!
-//! `round_texts`, `event_texts` and the byte functions are written for any program that has these, and are proved once.
-//! Payloads have a text of their own, `PayloadText` of `node_api` (`PayloadTexts` is what texts need of it), and so
-//! has a wire: `event_texts` writes the wires that a link holds by `push_wire`, and `transcripts` those of entries.
-//! `leader`, `layers` and `silent` say their name and what their nodes find, by `NamedText`; the rest is written here
-//! once, from these words.
+//! `round_texts`, `event_texts` and the byte functions are written for any program that implements these traits, and
+//! are proved once. Payloads have a text of their own, `PayloadText` of `node_api` (`PayloadTexts` is what texts need
+//! of it), and wires have a text, too: `event_texts` writes the wires that a link holds by `push_wire`, and
+//! `transcripts` writes the wires of entries by it. `leader`, `layers` and `silent` give their name and the results of
+//! their nodes by `NamedText`; all other texts of these programs are written here, from these words.
 //!
 //! ```text
 //! impl NamedText for Leader {

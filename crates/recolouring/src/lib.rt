@@ -1,13 +1,14 @@
-//! A colouring that no node can lower alone: after a first one its colour classes take turns, and choose again. The
-//! colours of `colour_program` take turns, the greatest first, and a node takes the least colour that isn't barred at
-//! it and that no neighbour which has chosen again has. This is the iterated greedy of J. C. Culberson, Iterated greedy
-//! graph coloring and the difficulty landscape, 1992, with the classes in reverse order, by messages.
+//! A program, run after the colouring, in which all nodes choose their colours again, so that no node can lower its own
+//! colour while the others keep theirs. The colour classes of `colour_program` take turns, the greatest colour first.
+//! In the turn of its class a node takes the least colour that isn't barred at it and isn't the new colour of a
+//! neighbour. This is the iterated greedy of J. C. Culberson, Iterated greedy graph coloring and the difficulty
+//! landscape, 1992, with the classes in reverse order, by messages.
 //!
-//! That is a pass. `Recolouring` makes one, and as many more as its network says (`Network::again`), each from the
-//! colours to which the last one led.
+//! All these turns together are a pass. `Recolouring` makes one pass, and as many more as its network says
+//! (`Network::again`), each from the colours of the pass before.
 //!
 //! The new colours are proper and not barred, at most the degree and the bars of each node, and no node can lower its
-//! own while the others keep theirs; no pass leads to more channels than it began with (`laws`).
+//! own while the others keep theirs; no pass ends with more channels than it began with (`laws`).
 //!
 //! ```text
 //! for node in &run_rounds::<Recolouring>(alloc, &net.repeating(63))? {

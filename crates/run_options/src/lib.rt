@@ -1,8 +1,8 @@
-//! How many workers run the nodes of a network, over what links and how long, and why such a run has no outcome. It
-//! also says in which form their transcript is written.
+//! The options of a run on worker threads, such as the number of workers and the capacity of a link, their ranges, and
+//! the faults of such a run. The crate also has the two forms in which a transcript of a run is written.
 //!
-//! `command_line` reads the options from words, and `node_pool` runs nodes by them. `node_pool` returns a `PoolFault`,
-//! and `plan_runs` a `RunFault`.
+//! `command_line` reads the options from words, and `node_pool` runs nodes with these options. `node_pool` returns a
+//! `PoolFault`, and `plan_runs` a `RunFault`.
 //!
 //! ```text
 //! let options = Options { workers: 4, capacity: 4, turns: 1_000_000_000, transcript: false };

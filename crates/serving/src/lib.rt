@@ -1,9 +1,9 @@
-//! One command of an executable, from its words and its input to what is written and the status. The input is a source,
-//! and two sinks are written, which are the caller's.
+//! The frame around every command: words are parsed, the input is read, the answer or the fault is written, and the
+//! exit status is returned. The caller gives the input as a source, and the output and the errors as two sinks.
 //!
-//! What the commands of an executable are is its `Commands`. Those of `forestplan` are in `plan_commands`, and those of
-//! `forestplay` in `play_commands`. Each program calls `serve_words` with the words and the streams that the system
-//! gives, and ends with the `Served` that it returns.
+//! An executable lists its commands in a `Commands`: `forestplan` in `plan_commands`, and `forestplay` in
+//! `play_commands`. Each program calls `serve_words` with the words and the streams that the system gives, and ends
+//! with the `Served` that it returns.
 //!
 //! ```
 //! let mut input: &[u8] = b"p edge 2 1\ne 1 2\n";
@@ -14,9 +14,9 @@
 //! // status 0, output "plan", "1 1", "2 2", a line each
 //! ```
 //!
-//! The contract of `serve` says what goes to the output, to the errors and into the status, for all words,
-//! every input and every stream, if the call returns. Of the texts of `clap`, help among them, it says only where they
-//! go. A `Vec` as an output doesn't know whether a write failed; so of the example the contract also allows the line
+//! The contract of `serve` says what goes to the output, to the errors and into the status, for all words, every input
+//! and every stream, if the call returns. About the texts of `clap`, such as help, it only says where they go. A `Vec`
+//! as an output doesn't know whether a write failed; so for the example the contract also allows the line
 //! `forestplan: stream` with status 4.
 #![tactic(auto)]
 

@@ -1,5 +1,5 @@
-//! Silent nodes: each ends as it began, and nothing is sent. `python3 build new-program` makes a program of your own
-//! from this crate, which has all that a program needs, and each law proved.
+//! A sample program in which no node sends a message and each node ends in its first state. `python3 build new-program`
+//! makes a program of your own from this crate, which has all that a program needs, with each law proved.
 //!
 //! ```text
 //! for node in &run_rounds::<Silent>(alloc, &net)? {

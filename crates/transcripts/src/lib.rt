@@ -1,14 +1,14 @@
-//! Transcripts: what each node of an execution did, event by event, as text that is written and read.
+//! Transcripts of runs as text: a writer and a reader of the entries that nodes wrote of their events, one line for
+//! each entry.
 //!
-//! What a node writes down of an event is an entry (`entries`). A transcript is a line `transcript 1 NODES`, and then a
-//! line for each entry. `transcript_text` writes it, and `read_transcript` reads what anybody wrote; what the first
-//! wrote, the second reads as the same entries. `push_row` writes one entry, for texts that have other lines too. A
-//! caller that has the entries node by node writes the same text by `push_first_line`, and by `push_entries` for each
-//! node.
+//! A transcript is a line `transcript 1 NODES`, and then a line for each entry (`entries`). `transcript_text` writes a
+//! transcript, and `read_transcript` reads a transcript from any source; it reads what `transcript_text` wrote as the
+//! same entries. `push_row` writes one entry, for texts that have other lines too. A caller that has the entries node
+//! by node writes the same text by `push_first_line`, and by `push_entries` for each node.
 //!
 //! In edition 2 the first line is `transcript 2 NODES`, and each entry has its stamp before the vertex. `stamped_text`
-//! writes it, `push_stamped_row` one entry of it, and `read_any` reads both editions. Edition 3 is the same of a
-//! program that is named: its first line, which `push_named_line` writes, is `transcript 3 NAME NODES`.
+//! writes it, `push_stamped_row` one entry of it, and `read_any` reads both editions. Edition 3 is edition 2 with the
+//! name of a program: its first line, which `push_named_line` writes, is `transcript 3 NAME NODES`.
 //!
 //! ```text
 //! let rows = [
@@ -20,16 +20,17 @@
 //! ```
 //!
 //! `push_merged` writes the entries that all nodes of a run wrote down as lines in one order: by their stamps, and then
-//! by the vertices of their nodes. The entries of the node of vertex v, its `LeftEntries`, are in place v - 1. To take
-//! the least entry takes time by the logarithm of the number of nodes (`merging`). `order` of `stamps` makes the same
-//! list for tests.
+//! by the vertices of their nodes. The entries of the node of vertex v, its `LeftEntries`, are in place v - 1. The time
+//! to find the least entry grows with the logarithm of the number of nodes (`merging`). `order` of `stamps` makes the
+//! same list for tests.
 //!
-//! `read_behind_network` reads a transcript behind a network text, with lines that count from the first one of the
-//! whole input, and `read_any_behind_network` one of any edition; `network_text` is what stands before it, and
-//! `program_in` the name in its first line. Whether that is the program that the caller means is for the caller to ask.
+//! `read_behind_network` reads a transcript that follows a network text in the same input, with lines that count from
+//! the first line of the whole input, and `read_any_behind_network` reads one of any edition. `network_text` is the
+//! text before the transcript, and `program_in` is the name in the transcript's first line. The caller has to ask
+//! whether that is the program that it means.
 //!
-//! Nodes, vertices and pulses that are read are below 2^32, stamps below 2^64, numbers of payloads below 2^128. Whether
-//! a vertex is there, and whether a stamp is right, is for `replay` to say.
+//! Nodes, vertices and pulses that are read are below 2^32, stamps below 2^64, numbers of payloads below 2^128.
+//! `replay` says whether a vertex exists and whether a stamp is right.
 #![tactic(auto)]
 
 mod behind;

@@ -1,5 +1,6 @@
-//! What a link carries: a wire, and a wire with its stamp. What is read off a list of wires is in `specs/Wires.antt`,
-//! and which lists are legal in `specs/Streams.antt`.
+//! The message types of a link: a wire (payload, acknowledgement, safe or close) and a wire with its stamp, with the
+//! definition of a legal list of wires. What is read off a list of wires is in `specs/Wires.antt`, and which lists are
+//! legal in `specs/Streams.antt`.
 //!
 //! `alpha_core` says how a node reacts to a wire, `entries` what it writes down of it, `stamps` how stamps rise, and
 //! `link_queue` takes and puts stamped wires.

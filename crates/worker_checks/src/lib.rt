@@ -1,6 +1,7 @@
-//! The tests of nodes on worker threads, of what they write, and of replays: what no contract says. They test the plan
-//! and the transcript that the nodes make, and stamped entries. Each run of workers ends by a count of looks, on every
-//! schedule. `surface` has each call that was asked for, with its types, to be compiled.
+//! Tests of whole runs of nodes on worker threads (`node_pool`), of the plans and transcripts that these runs write,
+//! and of replays, for what no contract says. They also test stamped entries. Each run of workers ends by a limit on
+//! the number of looks, on every schedule. `surface` has each function that was asked for, with its types, so that it
+//! is compiled.
 #![tactic(auto)]
 
 #[cfg(test)]
