@@ -1,7 +1,8 @@
-//! Tests of single crates, without `node_pool`, for what no contract says and the built programs can't show. `tests/`
-//! has the tests of what the built programs can show. Each module tests one crate and is named after it; its name ends
-//! in `_checks`, because a module may not have the name of a library. These tests are in one crate, because each crate
-//! of tests takes a minute of CI before its first function. `worker_checks` is apart, because it waits for `plan_runs`.
+//! Tests of single crates, one module for each, for what no contract says and the built programs can't show;
+//! `worker_checks` tests runs of `node_pool`. `tests/` has the tests of what the built programs can show. A module is
+//! named after the crate that it tests; its name ends in `_checks`, because a module may not have the name of a
+//! library. These tests are in one crate, because each crate of tests takes a minute of CI before its first function.
+//! `worker_checks` is apart, because it waits for `plan_runs`.
 #![tactic(auto)]
 
 #[cfg(test)]

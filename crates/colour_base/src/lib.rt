@@ -1,5 +1,5 @@
 //! Definitions that all steps of the colouring share: proper colourings of a rooted forest, the least number that
-//! passes a test, and sets of numbers as bits. `cole_vishkin`, `shift_down` and `forest_merge` use it.
+//! passes a test, and sets of numbers as bits. `cole_vishkin`, `shift_down` and `forest_merge` use these definitions.
 //!
 //! A set of numbers is stored as bits in words of 64 bits. `forest_merge` stores sets of colours in this way, and
 //! `node_api` the marks of an inbox. `has_bit` of `specs/Words.antt` says whether a bit is set, and `proofs/Words.antt`
@@ -9,7 +9,7 @@
 //! words[place / 64] |= 1 << (place % 64);      // `has_bit-set`: adds `place`, and no other
 //! ```
 //!
-//! It has definitions, lemmas and two laws, and nothing to run.
+//! The crate has definitions, lemmas and two laws, and nothing to run.
 #![tactic(auto)]
 
 ghost use Rattle.colour_base.specs.Forest.{IsProper};

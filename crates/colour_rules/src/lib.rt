@@ -15,8 +15,8 @@
 //! A pulse that is not refused returns a range of later pulses in which the node does nothing if nothing comes, so that
 //! a caller may leave these pulses out.
 //!
-//! The forests are from A. Panconesi and R. Rizzi, Some simple distributed algorithms for sparse networks, 2001.
-//! Merging them is this project's own.
+//! The forests are from A. Panconesi and R. Rizzi, Some simple distributed algorithms for sparse networks, 2001. The
+//! way to merge them is this project's own.
 //!
 //! Limits: degree 1,023, and so 1,023 forests; 1,024 barred channels of a node, and so colours 0 to 2,047. Only `make`
 //! gets an allocator.

@@ -18,9 +18,9 @@
 //! ```
 //!
 //! The commands are listed in `specs/Line.antt` in clap's own words, the options of a run of workers in
-//! `specs/RunOptions.antt`, the programs of nodes in `specs/NodePrograms.antt`, and both calls are exact against them.
-//! The texts of `clap`, such as help, are only tested. There is no `--version` and no command `help`. Limits: those of
-//! `run_options`.
+//! `specs/RunOptions.antt`, the programs of nodes in `specs/NodePrograms.antt`, and both functions return exactly what
+//! these lists say. The texts of `clap`, such as help, are only tested. There is no `--version` and no command `help`.
+//! Limits: those of `run_options`.
 #![tactic(auto)]
 
 mod command_options;

@@ -1,5 +1,5 @@
-//! Executions as lists of events: the definitions of a state, an event, a run and a replay, and laws of every run, such
-//! as that no run deadlocks and that its length is bounded.
+//! Executions as lists of events: the definitions of a state, an event, a run and a replay, and laws of every run, for
+//! example that no run deadlocks and that the length of every run is bounded.
 //!
 //! `specs/State.antt` has the state of a network under synchroniser alpha (Awerbuch 1985). `specs/Step.antt` has the
 //! events of the network as functions, and `specs/Events.antt` has events and runs as relations. `specs/Rows.antt` has

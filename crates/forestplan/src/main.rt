@@ -1,6 +1,6 @@
 //! The executable `forestplan`, which computes and checks channel plans: `main` hands the words and the standard
-//! streams to `serving`. It reads an interference graph from standard input, and writes a plan, the transcript of a run
-//! that finds a plan, the forests, or the check of a plan to standard output.
+//! streams to `serving`. The program reads an interference graph from standard input, and writes a plan, the transcript
+//! of a run that finds a plan, the forests, or the check of a plan to standard output.
 //!
 //! ```sh
 //! printf 'p edge 3 3\ne 1 2\ne 1 3\ne 2 3\n' | forestplan plain

@@ -7,10 +7,10 @@
 //! f has no cycle. Forests count from 0 to one less than U, the greatest number of higher
 //! neighbours of any vertex.
 //!
-//! `colour_rules` numbers the ports of one node by `number_up`, and colours its forests all at once;
-//! `plan_answers` prints what `decompose` gives of the whole network. A contract says
-//! `parent net f v` for the parent of v in forest f, and `number net v w` for the forest of an edge.
-//! `laws` has what holds of the forests of every network.
+//! `colour_rules` numbers the ports of one node by `number_up`, and colours all forests at the same
+//! time; `plan_answers` prints what `decompose` returns for the whole network. A contract says
+//! `parent net f v` for the parent of v in forest f, and `number net v w` for the forest of an
+//! edge. `laws` says what holds of the forests of every network.
 //!
 //! ```text
 //! let mut roles = [Role::Unknown; 3];

@@ -1,5 +1,5 @@
 //! The interference network as a data type: each vertex has a unique identifier, numbered ports to its neighbours, and
-//! barred colours.
+//! a set of barred colours.
 //!
 //! Vertices count from 1 and ports from 0; the ports of a vertex ascend by the neighbour's number. `forests`,
 //! `node_api` and `channel_plan` use it. Contracts see a network as the record `Net` of `specs/Net.antt`: the list of

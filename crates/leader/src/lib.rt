@@ -2,8 +2,8 @@
 //!
 //! At pulse 0 a node sends its identifier to all neighbours, and later the greatest identifier that it knows, at the
 //! pulses at which it heard a greater one. The last pulse is n, the number of nodes, and nothing is sent at it: every
-//! vertex of a component is reached within fewer links. This is `OptFloodMax` of N. A. Lynch, Distributed Algorithms,
-//! 1996, section 4.1, with n instead of the diameter.
+//! vertex of a component is reached over fewer than n links. This is `OptFloodMax` of N. A. Lynch, Distributed
+//! Algorithms, 1996, section 4.1, with n instead of the diameter.
 //!
 //! `laws` proves that the nodes end with the greatest identifier. A refusal names one of the `rules`.
 //!

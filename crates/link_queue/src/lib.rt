@@ -13,7 +13,7 @@
 //! synchronous run of the program `P`. So the wires that are taken are a prefix of one, too. When the ends meet, the
 //! list of wires put is the list of wires taken, followed by the wires that the link still holds. This rests on the
 //! promise of `crossbeam_queue`'s ruled array queue, and holds if no queue is pushed more than 2^62 times: a link is
-//! pushed at most 3·R + 1 times, R being the last pulse (`legal_lists_are_short` of `alpha_laws`). `put`, `take` and
+//! pushed at most 3·R + 1 times, where R is the last pulse (`legal_lists_are_short` of `alpha_laws`). `put`, `take` and
 //! `meet` may spin, and are not promised to return.
 #![tactic(auto)]
 

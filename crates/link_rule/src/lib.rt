@@ -1,5 +1,5 @@
-//! The order of wires in one direction of a link: its definition, a check that a list has this order, and laws such as
-//! that a prefix of a legal list is legal.
+//! The order of wires in one direction of a link: its definition, a check that a list has this order, and laws, for
+//! example that a prefix of a legal list is legal.
 //!
 //! ```text
 //! let mut check = StreamCheck::new(last);

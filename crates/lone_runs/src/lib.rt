@@ -1,5 +1,5 @@
 //! An engine that runs all nodes of a network without a clock on one thread, in a fair order, until no event is
-//! possible; and laws of every fair order.
+//! possible, with laws of every fair order.
 //!
 //! The nodes are the same as in a run of worker threads: all that a node knows of its neighbours is their wires.
 //! `run_alone` always returns, and each node is then in the last state that `one_end` of `event_rule` gives it.

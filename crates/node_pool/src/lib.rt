@@ -1,5 +1,5 @@
-//! The function `run_workers`, a whole run on worker threads from a network and options to an outcome, made of the
-//! parts in `node_runs` and `outcomes`.
+//! The function `run_workers`, which makes a whole run on worker threads: it takes a network and options, uses
+//! `node_runs` and `outcomes`, and returns the outcome.
 //!
 //! Whatever the threads did, `IsOutcome` of `outcomes` holds of the result: it has each node once, in a state of the
 //! synchronous run, with the lists of each link. `plan_runs` makes channel plans from outcomes.

@@ -1,5 +1,5 @@
-//! The table of `forestplan`'s commands, which calls the function of `plan_answers` or `plan_runs` that answers a
-//! request.
+//! The table of `forestplan`'s commands: for each command the function of `plan_answers` or `plan_runs` that computes
+//! the answer.
 //!
 //! `forestplan` calls `serve_words` of `serving` with `ForestplanCommands`. An example with an input and outputs of the
 //! caller is at the head of `serving`.

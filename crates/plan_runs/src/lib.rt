@@ -19,8 +19,8 @@
 //! let plan = plan_bytes(rt, alloc, text, options, &OpenGate)?; // "plan", "1 2", "2 3", "3 1", a line each
 //! ```
 //!
-//! A text has at most 20,000 vertices and 400,000 edges, and a vertex at most 1,023 neighbours; more is
-//! a fault. Vertex v has the identifier of its line `i`, and without one v.
+//! A text has at most 20,000 vertices and 400,000 edges, and a vertex at most 1,023 neighbours; more is a fault. Vertex
+//! v has the identifier of its line `i`, or v if there is no such line.
 #![tactic(auto)]
 
 pub mod coloured_runs;

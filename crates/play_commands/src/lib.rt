@@ -1,5 +1,5 @@
-//! The table of `forestplay`'s commands, which calls the function of `play_answers` or `play_runs` that answers a
-//! request, for the program of nodes that the request names.
+//! The table of `forestplay`'s commands: for each command and each program of nodes the function of `play_answers` or
+//! `play_runs` that computes the answer.
 //!
 //! `forestplay` calls `serve_words` of `serving` with `ForestplayCommands`.
 //!

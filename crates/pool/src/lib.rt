@@ -1,5 +1,5 @@
-//! A pool of worker threads, which make turns of any tasks, steal tasks from one another, and hand back each task
-//! exactly once at the end of a run.
+//! A pool of worker threads for tasks of any kind: the workers make turns of tasks, steal tasks from one another, and
+//! hand back each task exactly once at the end of a run.
 //!
 //! In a look a worker takes the first task of its own deque, or else steals a task from another worker's deque, makes
 //! one turn of the task and puts it on its own deque, or keeps it if nothing is left for the task to do. Whatever the

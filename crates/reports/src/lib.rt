@@ -1,4 +1,4 @@
-//! The form in which both programs report a fault: the line on standard error, and the exit status.
+//! The form in which `forestplan` and `forestplay` report a fault: the line on standard error, and the exit status.
 //!
 //! `plan_answers` and `play_inputs` call `refusal`, `stopped_report` or `memory_report` for a fault, and `serving`
 //! writes the `FaultReport`.

@@ -7,7 +7,7 @@
 //! to choose from and at most two to avoid: `drop_class(5, 5, 0, Some(1))` is 2. [`laws`] says what
 //! both steps do to the colours of a whole forest.
 //!
-//! It takes no memory and has no loop.
+//! Both steps take no memory and have no loop.
 #![tactic(auto)]
 
 pub mod laws;

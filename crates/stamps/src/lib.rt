@@ -1,9 +1,9 @@
 //! The rule of stamps, which are Lamport's logical clocks on entries and wires, and the list of all nodes' entries in
 //! the order of their stamps.
 //!
-//! Each node has a counter (`Counter` of `alpha_core`). A pulse or a put adds one to it; a take makes it one more than
-//! the greater of itself and the wire's stamp. The stamp of an entry is the counter after its event, and a wire has the
-//! stamp of its put. So a take has a greater stamp than the put of its wire.
+//! Each node has a counter (`Counter` of `alpha_core`). A pulse or a put adds one to it; a take sets it to one more
+//! than the maximum of the counter and the wire's stamp. The stamp of an entry is the counter after its event, and a
+//! wire has the stamp of its put. So a take has a greater stamp than the put of its wire.
 //!
 //! `specs/Stamps.antt` says which stamps the entries of one node have, and `specs/Merged.antt` says it of the entries
 //! of all nodes in one list. `order` makes that list, and only tests use it: the programs merge entries in

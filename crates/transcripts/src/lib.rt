@@ -19,10 +19,10 @@
 //! let (nodes, rows) = read_transcript::<Best>(alloc, text.as_slice())?;
 //! ```
 //!
-//! `push_merged` writes the entries that all nodes of a run wrote down as lines in one order: by their stamps, and then
-//! by the vertices of their nodes. The entries of the node of vertex v, its `LeftEntries`, are in place v - 1. The time
-//! to find the least entry grows with the logarithm of the number of nodes (`merging`). `order` of `stamps` makes the
-//! same list for tests.
+//! `push_merged` writes the entries of all nodes of a run as lines in one order: by their stamps, and then by the
+//! vertices of their nodes. The entries of the node of vertex v, its `LeftEntries`, are in place v - 1. The time to
+//! find the least entry grows with the logarithm of the number of nodes (`merging`). `order` of `stamps` makes the same
+//! list for tests.
 //!
 //! `read_behind_network` reads a transcript that follows a network text in the same input, with lines that count from
 //! the first line of the whole input, and `read_any_behind_network` reads one of any edition. `network_text` is the

@@ -1,9 +1,9 @@
 //! The message types of a link: a wire (payload, acknowledgement, safe or close) and a wire with its stamp, with the
-//! definition of a legal list of wires. What is read off a list of wires is in `specs/Wires.antt`, and which lists are
-//! legal in `specs/Streams.antt`.
+//! definition of a legal list of wires. `specs/Wires.antt` has functions of a list of wires, such as its payloads, and
+//! `specs/Streams.antt` says which lists are legal.
 //!
-//! `alpha_core` says how a node reacts to a wire, `entries` what it writes down of it, `stamps` how stamps rise, and
-//! `link_queue` takes and puts stamped wires.
+//! `alpha_core` says how a node reacts to a wire, `entries` what a node writes down of a wire, `stamps` how stamps
+//! rise, and `link_queue` takes and puts stamped wires.
 //!
 //! ```text
 //! let item = Stamped { stamp: 1, wire: Wire::Payload(0, payload) };
