@@ -1,8 +1,8 @@
 //! The commands `run`, `alone`, `ends` and `rounds` of `forestplay`, which run the nodes of any program, as functions
 //! from input bytes to answer bytes. The input is a DIMACS text. `run`, `alone` and `ends` give the last states of the
 //! nodes: `run` on worker threads, `alone` on one thread without a common clock, and `ends` in rounds. `rounds` gives
-//! what the nodes send, pulse by pulse. The crate names no stream, no command line and no system. `play_commands` calls
-//! it.
+//! what the nodes send, pulse by pulse. For `run` and `alone` the crate can write a transcript, too. The crate names no
+//! stream, no command line and no system. `play_commands` calls it.
 //!
 //! ```
 //! let text = b"p edge 2 1\ne 1 2\n";
