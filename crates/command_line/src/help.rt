@@ -104,8 +104,8 @@ prints
 };
 
 pub const PLAN: Help = Help {
-    about: "Prints the plan of plain, found by threads without a common clock",
-    long_about: "Prints the plan of plain, found by threads without a common clock.
+    about: "Prints the same plan as plain, found by threads without a common clock",
+    long_about: "Prints the same plan as plain, found by threads without a common clock.
 
 It is the plan that `forestplan plain` prints, whatever the options are and
 whichever thread is faster. On large graphs it takes hundreds of times as long as
