@@ -62,8 +62,8 @@ class LessonSteps:
 
 CHANNELS = LessonSteps(
     "Channels that do not clash",
-    "Each of ten transmitters knows only its own number, its own links and four counts. Can they agree on channels, so "
-    "that no two neighbours have the same?",
+    "Each of ten transmitters knows only its own number, its number of neighbours and four counts. Can they agree on "
+    "channels, so that no two neighbours have the same?",
     [
         TableStep(
             "example=petersen&tab=draw",
@@ -716,45 +716,47 @@ LECTURE = (
         "0 to 4",
         "ten transmitters",
         "example=petersen&tab=draw",
-        "who chooses first? Click two joined nodes to part them, click two others to join them, and "
+        "ask who chooses first. Click two joined nodes to part them, click two others to join them, and "
         "drag a node.",
     ),
     LecturePlace(
         "4 to 6",
         "check",
         "example=petersen&tab=check&plan=1_2_1_2",
-        "the class finishes the plan; the verdict names the node or the edge.",
+        "let the class finish the plan. If the plan is wrong, the verdict names a node or an edge.",
     ),
     LecturePlace(
         "6 to 8",
         "forests",
         "example=four_cycle&tab=rounds&at=1",
-        "why do the arrows never close a ring?",
+        "ask why the arrows never close a ring.",
     ),
     LecturePlace(
         "8 to 12",
         "from identifiers to colours",
         "example=petersen&tab=rounds&at=2&node=6",
-        "step on to pulse 6. Which digit decides? Open *bit by bit*. Then leave out the rule `digit`: what goes wrong?",
+        "step on to pulse 6, and ask which digit decides. Open *bit by bit*. Then leave out the rule `digit`, and ask "
+        "what goes wrong.",
     ),
     LecturePlace(
         "12 to 14",
         "merge",
         "example=petersen&tab=rounds&at=13",
-        "which nodes choose now, and why? Play to the end (*fast*) and click node 6: which messages decided its "
-        "channel?",
+        "ask which nodes choose now, and why. Play to the end (*fast*), click node 6, and ask which messages decided "
+        "its channel.",
     ),
     LecturePlace(
         "14 to 17",
         "no clock",
         "example=chain6&tab=run&slow=2-3&seed=7&beside=1",
-        "how far apart can the pulses of neighbours be? Then *another order beside*: other orders, the same payloads.",
+        "ask how far apart the pulses of neighbours can be. Then tick *another order beside*: the orders of the two "
+        "runs differ, and their payloads are the same.",
     ),
     LecturePlace(
         "17 to 20",
         "you are the network",
         "example=path&tab=adversary",
-        "a student chooses what comes. Then leave out `safes`.",
+        "let a student choose which event comes next. Then leave out the rule `safes`, and ask what goes wrong.",
     ),
 )
 
