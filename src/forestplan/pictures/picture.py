@@ -292,7 +292,7 @@ KINDS = {
         of_programs=True,
     ),
     "schedules": PictureKind(
-        "Every order of events of a tiny network: its states as a lattice, one column an event.",
+        "Every order of events of a tiny network: its states as a lattice, a column for each number of events.",
         "At most 200,000 states. Of long ones the first columns, or others with --columns.\n"
         "With a rule left out, up to the first event that goes wrong, which is red.",
         "forestlab picture schedules examples/triangle.col --columns 0..24 > triangle-schedules.svg\n"
