@@ -3,7 +3,7 @@ than this process may use processors: next to other work, more are slower."""
 import os
 from unittest import mock
 
-from forestplan import processors
+from forestplan import processors, proved_programs
 from forestplan.definitions.nodes import COLOURING
 from forestplan.definitions.programs import PROGRAMS
 from forestplan.network import Network
@@ -24,7 +24,7 @@ class Tests(Case):
             for usable, wanted in USABLE:
                 with (
                     mock.patch("os.sched_getaffinity", return_value=range(usable)),
-                    mock.patch.object(picture.proved_programs, "output_of") as called,
+                    mock.patch.object(proved_programs, "output_of") as called,
                 ):
                     picture.run_text("run", EDGE, b"p edge 2 1\ne 1 2\n", program)
                 arguments = called.call_args.args[1]
