@@ -2,7 +2,7 @@
 nothing, and no place is above the limits that the linter doesn't have.
 
 - `black`, `flake8` and `mypy` have their settings in pyproject.toml and .flake8.
-- A function has at most 12 ways through it: one, and one more for each branch, loop, condition,
+- A function has a complexity of at most 12: one, and one more for each branch, loop, condition,
   handler and further operand of `and` and `or`. A condition has at most four parts.
 - No conditional expression is inside another one or inside an f-string, no comprehension has three
   loops, no text is multiplied by a truth, and nothing is changed inside a comprehension.
@@ -80,7 +80,7 @@ def files():
 
 
 def ways(function):
-    """How many ways lead through a function's own body; functions inside of it count alone."""
+    """The cyclomatic complexity of a function's own body; functions inside of it count alone."""
     count, todo = 1, list(function.body)
     while todo:
         node = todo.pop()
@@ -134,7 +134,7 @@ def is_change(node):
 def wrong_at(node):
     """What is above a limit at a place."""
     if isinstance(node, FUNCTIONS) and ways(node) > MOST_WAYS:
-        yield f"{ways(node)} ways through {node.name}"
+        yield f"complexity {ways(node)} of {node.name}"
     if isinstance(node, ast.BoolOp) and parts(node) > MOST_PARTS:
         yield f"a condition of {parts(node)} parts"
     if isinstance(node, (ast.IfExp, ast.FormattedValue)) and has_inside(node, ast.IfExp):

@@ -723,7 +723,8 @@ LECTURE = (
         "4 to 6",
         "check",
         "example=petersen&tab=check&plan=1_2_1_2",
-        "let the class finish the plan. If the plan is wrong, the verdict names a node or an edge.",
+        "let the class finish the plan. If the plan is wrong, the verdict names a node or an edge at which it is "
+        "wrong.",
     ),
     LecturePlace(
         "6 to 8",
@@ -749,8 +750,8 @@ LECTURE = (
         "14 to 17",
         "no clock",
         "example=chain6&tab=run&slow=2-3&seed=7&beside=1",
-        "ask how far apart the pulses of neighbours can be. Then tick *another order beside*: the orders of the two "
-        "runs differ, and their payloads are the same.",
+        "ask how far apart the pulses of neighbours can be. Then tick the box *another order beside*, and a second run "
+        "appears. Its events come in another order, but its payloads (the messages of the algorithm) are the same.",
     ),
     LecturePlace(
         "17 to 20",
