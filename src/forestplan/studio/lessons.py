@@ -723,8 +723,8 @@ LECTURE = (
         "4 to 6",
         "check",
         "example=petersen&tab=check&plan=1_2_1_2",
-        "let the class finish the plan. If the plan is wrong, the verdict names a node or an edge at which it is "
-        "wrong.",
+        "let the class finish the plan. If the plan is wrong, the verdict names a node or an edge at which the "
+        "plan is wrong.",
     ),
     LecturePlace(
         "6 to 8",
