@@ -51,7 +51,8 @@ def plan(
 
 def check(G: Graph, plan: Mapping[Any, int], bars: Bars = None, licence: Channels = None) -> int:
     """Has the proved program judge a `plan` of a graph G, yours or ours, and returns its greatest channel, counted from
-    1. `bars` and `licence` are as `forestplan.plan` has them.
+    1. With a licence it returns the highest place in the licence that the plan uses, also counted from 1. `bars` and
+    `licence` are as `forestplan.plan` has them.
 
     >>> check({"Ulm": ["Aue"], "Aue": []}, {"Ulm": 2, "Aue": 1})
     2
